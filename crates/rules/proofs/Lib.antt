@@ -1,0 +1,7 @@
+-- What is proved of the rules.
+pub mod Table
+pub mod Listed
+pub mod Computing
+pub mod Bench
+pub mod Tests
+pub mod Effects

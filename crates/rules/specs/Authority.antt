@@ -1,0 +1,89 @@
+-- Who may change entries, read off a list of calls: the highest id, what each stream holds, and the live primary
+-- (document 01, "Looking back"). Assumes nothing.
+use mathlib.Core.Path.{_≡_}
+use mathlib.Core.Bool.{Bool, true, _&&_}
+use mathlib.Core.List.{List, [], _∷_}
+use Prim.Native.Nat.{ℕ, _<_, max}
+use lib.Dec.{eqb}
+use Rattle.rules.specs.Bytes.{if_then_else_, between}
+use Rattle.rules.specs.Frame.{Head, Query, Command, cramped, malformed, OPEN, CLOSE, ARBITRATE, CONFIGURE, WRITE, READ}
+use Rattle.rules.specs.Streams.{Stream, closed, unbound, bound}
+use Rattle.rules.specs.Call.{State, refusal, accepted, fresh, next, run, reply}
+use Rattle.rules.specs.LookBack.{Past, nothing, shows, note, lookBack}
+
+-- A call of the list, and the reason under which the rules refuse it after the calls before it (0: they accept it).
+pub record Event : Type 0 where
+  pub command : Command
+  pub reason : ℕ
+
+unfoldable pub history : Past → List Command → List Event
+history p [] = []
+history p (c ∷ cs) = record { command = c; reason = refusal (shows p) c } ∷ history (note p c) cs
+
+-- ---- the highest id
+
+-- the id that an ARBITRATE for the role gives; 0: unset, or no such call
+abbrev pub idFor : ℕ → Command → ℕ
+idFor role cramped = 0
+idFor role malformed = 0
+idFor role (OPEN n) = 0
+idFor role (CLOSE n) = 0
+idFor role (ARBITRATE n h) = if eqb (h .role) role then h .id else 0
+idFor role (CONFIGURE h rows) = 0
+idFor role (WRITE h atomicity us) = 0
+idFor role (READ q) = 0
+
+-- the highest id in any accepted ARBITRATE for the role, or 0
+unfoldable pub highest : ℕ → List Event → ℕ
+highest role [] = 0
+highest role (e ∷ es) = max (if eqb (e .reason) 0 then idFor role (e .command) else 0) (highest role es)
+
+-- ---- what a stream holds
+
+-- what a call that got reason r leaves of stream s, which was x; an ARBITRATE refused under 5 to 9 closes its stream
+abbrev pub leaves : ℕ → Command → ℕ → Stream → Stream
+leaves s cramped r x = x
+leaves s malformed r x = x
+leaves s (OPEN n) r x = if eqb r 0 && eqb s n then unbound else x
+leaves s (CLOSE n) r x = if eqb r 0 && eqb s n then closed else x
+leaves s (ARBITRATE n h) r x =
+    if eqb r 0 && eqb s n then bound (h .role) (h .id) else if between 5 9 r && eqb s n then closed else x
+leaves s (CONFIGURE h rows) r x = x
+leaves s (WRITE h atomicity us) r x = x
+leaves s (READ q) r x = x
+
+-- A stream *holds* the id of its latest accepted ARBITRATE since it was last opened, while it stays open.
+unfoldable pub holding : ℕ → Stream → List Event → Stream
+holding s x [] = x
+holding s x (e ∷ es) = holding s (leaves s (e .command) (e .reason) x) es
+
+-- ---- the live primary
+
+-- After these events the id is the highest accepted until then for the role, and exactly one open stream of the role holds it:
+-- the *live primary*.
+pub record Held (role id : ℕ) (events : List Event) : Type 0 where
+  pub set : 0 < id
+  pub top : id ≡ highest role events
+  pub stream : ℕ
+  pub holds : holding stream closed events ≡ bound role id
+  pub only : (s : ℕ) → holding s closed events ≡ bound role id → s ≡ stream
+
+-- the role and the id that a CONFIGURE or a WRITE gives
+abbrev pub Gives : ℕ → ℕ → Command → Type 0
+Gives role id cramped = ⊥
+Gives role id malformed = ⊥
+Gives role id (OPEN n) = ⊥
+Gives role id (CLOSE n) = ⊥
+Gives role id (ARBITRATE n h) = ⊥
+Gives role id (CONFIGURE h rows) = (h .role ≡ role) × (h .id ≡ id)
+Gives role id (WRITE h atomicity us) = (h .role ≡ role) × (h .id ≡ id)
+Gives role id (READ q) = ⊥
+
+-- Of a call c after the calls `before`, from a fresh agent:
+pub record Authority (device : ℕ) (before : List Command) (c : Command) : Type 0 where
+  -- an accepted CONFIGURE, and an accepted WRITE, as every update that takes effect is in, gave the live primary's id
+  pub given : (role id : ℕ) → Gives role id c → accepted (shows (lookBack (nothing device) before)) c ≡ true
+      → Held role id (history (nothing device) before)
+  -- a call that does not give it changes no entry: every READ has the same answer before it and after it
+  pub unchanged : ((role id : ℕ) → Gives role id c → Held role id (history (nothing device) before) → ⊥)
+      → (q : Query) → reply (run (fresh device) before) (READ q) ≡ reply (next (run (fresh device) before) c) (READ q)

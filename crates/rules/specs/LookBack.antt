@@ -1,0 +1,163 @@
+-- Looking back over a list of calls (document 01, "Looking back"): which entries are present after it, and what each call
+-- answers, told from what took effect and not from what an agent stores.
+-- Shared with the rules: the orders of refusals, what calls make of streams, marks and rows, and `judge` of one update. Defined
+-- here, from the effects alone: the entries present, a batch, the pairs of a WRITE, the records of a READ. Assumes nothing.
+use mathlib.Core.Bool.{Bool, true, false, _&&_, _||_, not}
+use mathlib.Core.List.{List, [], _∷_, _++_, map}
+use Prim.Native.Nat.{ℕ}
+use lib.Dec.{eqb, leb, ltb}
+use Rattle.rules.specs.Bytes.{if_then_else_, keep, some-of, same}
+use Rattle.rules.specs.Frame.{Head, Update, Query, Command, cramped, malformed, OPEN, CLOSE, ARBITRATE, CONFIGURE, WRITE, READ}
+use Rattle.rules.specs.Streams.{openStream, closeStream, arbitrate}
+use Rattle.rules.specs.Row.{Row, mayWrite}
+use Rattle.rules.specs.Key.{tableOf, shortKey, keyOf}
+use Rattle.rules.specs.Entry.{shortEntry}
+use Rattle.rules.specs.Update.{Tables, judge}
+use Rattle.rules.specs.Answer.{Answer, Reply, replyOf}
+use Rattle.rules.specs.Call.{Control, State, fresh, refusal, accepted, nextControl, heard, plain, pairOf}
+
+-- ---- effects
+
+-- What *took effect*: an INSERT or a MODIFY of an entry, a DELETE of a key, an accepted CONFIGURE. Shortest forms.
+pub data Effect : Type 0 where
+  inserted : List ℕ → Effect
+  modified : List ℕ → Effect
+  deleted : List ℕ → Effect
+  cleared : Effect
+
+-- whether an effect takes an entry away
+unfoldable pub removes : Effect → List ℕ → Bool
+removes (inserted x) e = false
+removes (modified x) e = false
+removes (deleted k) e = same k (keyOf e)
+removes cleared e = true
+
+-- what an effect makes of an entry that it leaves
+unfoldable pub revise : Effect → List ℕ → List ℕ
+revise (inserted x) e = e
+revise (modified x) e = if same (keyOf x) (keyOf e) then x else e
+revise (deleted k) e = e
+revise cleared e = e
+
+-- an entry as later effects left it, and whether one of them took it away
+unfoldable pub latest : List ℕ → List Effect → List ℕ
+latest e [] = e
+latest e (f ∷ later) = latest (revise f e) later
+
+unfoldable pub gone : List ℕ → List Effect → Bool
+gone e [] = false
+gone e (f ∷ later) = removes f e || gone (revise f e) later
+
+-- The entries *present* after effects, oldest first: those inserted and not taken away later, as they were left, in the order of
+-- their INSERTs. (specs/Presence.antt says the same in document 01's sentences.)
+unfoldable pub present : List Effect → List (List ℕ)
+present [] = []
+present (inserted e ∷ later) = if gone e later then present later else latest e later ∷ present later
+present (modified e ∷ later) = present later
+present (deleted k ∷ later) = present later
+present (cleared ∷ later) = present later
+
+-- ---- the past
+
+-- What a list of calls comes to: streams, marks and rows as the rules make them, and what took effect, oldest first.
+pub record Past : Type 0 where
+  pub control : Control
+  pub effects : List Effect
+
+unfoldable pub nothing : ℕ → Past
+nothing device = record { control = fresh device .control; effects = [] }
+
+-- the agent as looking back shows it: refusals and 20 to 24 are judged by this
+unfoldable pub shows : Past → State
+shows p = record { control = p .control; tables = record { entries = present (p .effects) } }
+
+abbrev pub effectOf : Update → Effect
+effectOf u =
+    let e = shortEntry (u .entry) in
+    if eqb (u .type) 1 then inserted e else if eqb (u .type) 2 then modified e else deleted (keyOf e)
+
+-- an update's reason after the past p; it took effect where its pair is (0, 0)
+unfoldable pub reasonAt : Past → ℕ → Update → ℕ
+reasonAt p role u = judge (p .control .rows) role (shows p .tables) u
+
+unfoldable pub tookEffect : Past → ℕ → Update → Bool
+tookEffect p role u = eqb (reasonAt p role u) 0
+
+-- the past after one more update, and after several
+unfoldable pub noteUpdate : Past → ℕ → Update → Past
+noteUpdate p role u =
+    record { control = p .control; effects = if tookEffect p role u then p .effects ++ (effectOf u ∷ []) else p .effects }
+
+unfoldable pub noteUpdates : Past → ℕ → List Update → Past
+noteUpdates p role [] = p
+noteUpdates p role (u ∷ us) = noteUpdates (noteUpdate p role u) role us
+
+-- what an accepted call adds to the effects
+unfoldable pub noted : Past → Command → List Effect
+noted p cramped = p .effects
+noted p malformed = p .effects
+noted p (OPEN n) = p .effects
+noted p (CLOSE n) = p .effects
+noted p (ARBITRATE n h) = p .effects
+noted p (CONFIGURE h rows) = p .effects ++ (cleared ∷ [])
+noted p (WRITE h atomicity us) = noteUpdates p (h .role) us .effects
+noted p (READ q) = p .effects
+
+-- the past after one more call, and after a list of them, refused ones included
+unfoldable pub note : Past → Command → Past
+note p c = record {
+  control = nextControl (shows p) c;
+  effects = if accepted (shows p) c then noted p c else p .effects;
+}
+
+unfoldable pub lookBack : Past → List Command → Past
+lookBack p [] = p
+lookBack p (c ∷ cs) = lookBack (note p c) cs
+
+-- ---- what each call answers
+
+-- the pairs of a WRITE: each update after those before it in the batch
+unfoldable pub pairsSeen : Past → ℕ → List Update → List (List ℕ)
+pairsSeen p role [] = []
+pairsSeen p role (u ∷ us) = pairOf (reasonAt p role u) ∷ pairsSeen (noteUpdate p role u) role us
+
+-- an update of the batch failed
+unfoldable pub someFailed : Past → ℕ → List Update → Bool
+someFailed p role [] = false
+someFailed p role (u ∷ us) = not (tookEffect p role u) || someFailed (noteUpdate p role u) role us
+
+abbrev pub named : Query → Bool
+named q = not (eqb (q .table) 0)
+
+-- A READ asks for an entry of a row: the table is the one named, or the role may write it where none is named; with only 1 the
+-- key is the one given.
+abbrev pub asksFor : Query → Row → List ℕ → Bool
+asksFor q row e =
+    ((named q && eqb (row .table) (q .table)) || (not (named q) && mayWrite (q .role) row))
+    && eqb (tableOf e) (row .table)
+    && (not (eqb (q .only) 1) || same (keyOf e) (shortKey (q .key)))
+
+-- the records of a READ: the present entries it asks for, tables following the configuration rows
+unfoldable pub readSeen : List Row → Query → List (List ℕ) → List (List ℕ)
+readSeen [] q es = []
+readSeen (row ∷ rows) q es = keep (asksFor q row) es ++ readSeen rows q es
+
+-- what a call after the past p answers
+unfoldable pub answerSeen : Past → Command → Answer
+answerSeen p cramped = plain 2
+answerSeen p malformed = plain 1
+answerSeen p (OPEN n) = heard (openStream (p .control .streams) n)
+answerSeen p (CLOSE n) = heard (closeStream (p .control .streams) n)
+answerSeen p (ARBITRATE n h) = heard (arbitrate (p .control .device) (p .control .streams) n h)
+answerSeen p (CONFIGURE h rows) = plain (refusal (shows p) (CONFIGURE h rows))
+answerSeen p (WRITE h atomicity us) =
+    if accepted (shows p) (WRITE h atomicity us)
+    then record { reason = if someFailed p (h .role) us then 23 else 0; records = pairsSeen p (h .role) us }
+    else plain (refusal (shows p) (WRITE h atomicity us))
+answerSeen p (READ q) =
+    if accepted (shows p) (READ q)
+    then record { reason = 0; records = readSeen (p .control .rows) q (present (p .effects)) }
+    else plain (refusal (shows p) (READ q))
+
+unfoldable pub replySeen : Past → Command → Reply
+replySeen p c = replyOf (answerSeen p c)
