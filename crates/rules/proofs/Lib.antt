@@ -4,4 +4,6 @@ pub mod Listed
 pub mod Computing
 pub mod Bench
 pub mod Tests
+pub mod Orders
 pub mod Effects
+pub mod Agreement

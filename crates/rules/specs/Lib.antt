@@ -11,6 +11,7 @@ pub mod Update
 pub mod Answer
 pub mod Call
 pub mod LookBack
+pub mod Agreement
 pub mod Presence
 pub mod Authority
 pub mod Sound

@@ -1,0 +1,386 @@
+-- The rules and looking back agree: the entries stored are at each call the entries present, and so is every answer.
+-- Assumes nothing.
+use Prim.Native.Nat.{ℕ, suc, _+_, _*_}
+use mathlib.Core.Path.{_≡_, refl, sym, _∙_, ap, ap₂, fun-ext, subst}
+use mathlib.Core.Bool.{Bool, true, false, _&&_, _||_, not, and-true}
+use mathlib.Core.Logic.{_⊎_, inl, inr, ⊎-elim, _↔_}
+use mathlib.Core.List.{List, [], _∷_, _++_, map, append-assoc}
+use native.Mathlib.Omega.{arith}
+use lib.Dec.{eqb}
+use lib.ListN.{length, take, drop, length-append}
+use lib.Seq.{drop-at}
+use borrow.Author.Tests.{eqb-true, eqb-false, eq-eqb, ne-eqb}
+use Rattle.rules.specs.Bytes.{if_then_else_, keep, every, concat, same, bytesOf}
+use Rattle.rules.specs.Reason.{first, codeOf, pairs}
+use Rattle.rules.specs.Frame.{Head, Update, Query, Command, cramped, malformed, OPEN, CLOSE, ARBITRATE, CONFIGURE, WRITE, READ}
+use Rattle.rules.specs.Streams.{Stream, closed, unbound, bound, orderOf, streamAt, openStream, closeStream, arbitrateReason, arbitrate}
+use Rattle.rules.specs.Row.{Row, mayWrite}
+use Rattle.rules.specs.Key.{keyOf, hasKey, shortKey, tableOf}
+use Rattle.rules.specs.Entry.{shortEntry}
+use Rattle.rules.specs.Update.{Tables, noEntries, inTable, judge, perform, apply, batch}
+use Rattle.rules.specs.Answer.{Answer, Reply, answerBytes, replyOf}
+use Rattle.rules.specs.Call.{State, Call, fresh, configureReason, writeReason, readReason, refusal, accepted, nextControl, nextTables, next, plain, pairOf, headOf, asked, shown, answer, commandOf, reply, run}
+use Rattle.rules.specs.LookBack.{Effect, inserted, modified, deleted, cleared, revise, present, Past, nothing, shows, effectOf, reasonAt, tookEffect, noteUpdate, noteUpdates, noted, note, lookBack, pairsSeen, someFailed, named, asksFor, readSeen, answerSeen, replySeen}
+use Rattle.rules.specs.Agreement.{commandsOf, replyAfter, pastOf, pairAt, Agreement}
+use Rattle.rules.proofs.Tests.{same-sym}
+use Rattle.rules.proofs.Orders.{first-avoids}
+use Rattle.rules.proofs.Effects.{takeEffect, present-snoc}
+
+-- ---- updates
+
+-- an update does to the entries what its effect does
+effect-is : (u : Update) (t : Tables) → perform (u .type) (shortEntry (u .entry)) t .entries ≡ takeEffect (effectOf u) (t .entries)
+unfolding perform takeEffect revise
+effect-is u t = go (eqb (u .type) 1) (eqb (u .type) 2)
+  where
+    e : List ℕ
+    e = shortEntry (u .entry)
+
+    changed : map (λ (old : List ℕ). if hasKey (keyOf e) old then e else old) (t .entries) ≡ takeEffect (modified e) (t .entries)
+    changed = ap (λ f. map f (t .entries)) (fun-ext (λ (old : List ℕ). ap (λ (b : Bool). if b then e else old) (same-sym (keyOf old) (keyOf e))))
+
+    removed : keep (λ (old : List ℕ). not (hasKey (keyOf e) old)) (t .entries) ≡ takeEffect (deleted (keyOf e)) (t .entries)
+    removed = ap (λ f. keep f (t .entries)) (fun-ext (λ (old : List ℕ). ap not (same-sym (keyOf old) (keyOf e))))
+
+    go : (a b : Bool)
+        → (if a then t .entries ++ (e ∷ []) else
+        if b then map (λ (old : List ℕ). if hasKey (keyOf e) old then e else old) (t .entries) else
+        keep (λ (old : List ℕ). not (hasKey (keyOf e) old)) (t .entries))
+        ≡ takeEffect (if a then inserted e else if b then modified e else deleted (keyOf e)) (t .entries)
+    go true b = refl
+    go false true = changed
+    go false false = removed
+
+-- one update more, and a batch: what looking back notes is what the rules leave
+noted-update : (p : Past) (role : ℕ) (u : Update) → shows (noteUpdate p role u) .tables ≡ apply (reasonAt p role u) u (shows p .tables)
+unfolding shows noteUpdate apply tookEffect
+noted-update p role u = go (eqb (reasonAt p role u) 0)
+  where
+    t : Tables
+    t = record { entries = present (p .effects) }
+
+    go : (b : Bool)
+        → _≡_ {A = Tables} (record { entries = present (if b then p .effects ++ (effectOf u ∷ []) else p .effects) })
+        (if b then perform (u .type) (shortEntry (u .entry)) t else t)
+    go true = ap (λ es. record { entries = es }) (present-snoc (p .effects) (effectOf u) ∙ sym (effect-is u t))
+    go false = refl
+
+-- a batch over the entries that looking back shows
+module _ (role : ℕ) where
+  abbrev Batched : Past → List Update → Type 0
+  Batched p us =
+      (batch (p .control .rows) role (shows p .tables) us .tables ≡ shows (noteUpdates p role us) .tables)
+      × (map pairOf (batch (p .control .rows) role (shows p .tables) us .reasons) ≡ pairsSeen p role us)
+      × (every (eqb 0) (batch (p .control .rows) role (shows p .tables) us .reasons) ≡ not (someFailed p role us))
+
+  eqb-sym : (a b : ℕ) → eqb a b ≡ eqb b a
+  eqb-sym a b = go (eqb b a) refl
+    where
+      go : (t : Bool) → eqb b a ≡ t → eqb a b ≡ t
+      go true q = eq-eqb a b (sym (eqb-true b a q))
+      go false q = ne-eqb a b (λ e. eqb-false b a q (sym e))
+
+  and-or : (a b : Bool) → a && not b ≡ not (not a || b)
+  and-or true b = refl
+  and-or false b = refl
+
+  batched : (p : Past) (us : List Update) → Batched p us
+  unfolding batch noteUpdates pairsSeen someFailed reasonAt tookEffect noteUpdate
+  batched p [] = (refl, refl, refl)
+  batched p (u ∷ us) =
+      let r : ℕ = reasonAt p role u in
+      let h : Batched (noteUpdate p role u) us = batched (noteUpdate p role u) us in
+      let e : shows (noteUpdate p role u) .tables ≡ apply r u (shows p .tables) = noted-update p role u in
+      let g : Batched′ (apply r u (shows p .tables)) = subst Batched′ e h in
+      (g .0, ap (λ l. pairOf r ∷ l) (g .1), ap₂ _&&_ (eqb-sym 0 r) (g .2) ∙ and-or (eqb r 0) (someFailed (noteUpdate p role u) role us))
+    where
+      Batched′ : Tables → Type 0
+      Batched′ t =
+          (batch (p .control .rows) role t us .tables ≡ shows (noteUpdates (noteUpdate p role u) role us) .tables)
+          × (map pairOf (batch (p .control .rows) role t us .reasons) ≡ pairsSeen (noteUpdate p role u) role us)
+          × (every (eqb 0) (batch (p .control .rows) role t us .reasons) ≡ not (someFailed (noteUpdate p role u) role us))
+
+-- ---- READ
+
+keep-none : (es : List (List ℕ)) → keep (λ (e : List ℕ). false) es ≡ []
+keep-none [] = refl
+keep-none (e ∷ es) = keep-none es
+
+keep-keep : (p q : List ℕ → Bool) (es : List (List ℕ)) → keep (λ (e : List ℕ). p e && q e) es ≡ keep q (keep p es)
+keep-keep p q [] = refl
+keep-keep p q (e ∷ es) = go (p e) (keep-keep p q es)
+  where
+    go : (b : Bool) → keep (λ (e : List ℕ). p e && q e) es ≡ keep q (keep p es)
+        → (if b && q e then e ∷ keep (λ (e : List ℕ). p e && q e) es else keep (λ (e : List ℕ). p e && q e) es)
+        ≡ keep q (if b then e ∷ keep p es else keep p es)
+    go true h = ap (λ l. if q e then e ∷ l else l) h
+    go false h = h
+
+keep-append : (p : List ℕ → Bool) (xs ys : List (List ℕ)) → keep p (xs ++ ys) ≡ keep p xs ++ keep p ys
+keep-append p [] ys = refl
+keep-append p (x ∷ xs) ys = go (p x) (keep-append p xs ys)
+  where
+    go : (b : Bool) → keep p (xs ++ ys) ≡ keep p xs ++ keep p ys
+        → (if b then x ∷ keep p (xs ++ ys) else keep p (xs ++ ys)) ≡ (if b then x ∷ keep p xs else keep p xs) ++ keep p ys
+    go true h = ap (λ l. x ∷ l) h
+    go false h = h
+
+-- the two ways to say which rows a READ asks for
+same-rows : (q : Query) (row : Row) → (named q && eqb (row .table) (q .table)) || (not (named q) && mayWrite (q .role) row) ≡ asked q row
+same-rows q row = go (eqb (q .table) 0)
+  where
+    or-none : (b : Bool) → b || false ≡ b
+    or-none true = refl
+    or-none false = refl
+
+    go : (b : Bool) → (not b && eqb (row .table) (q .table)) || (not (not b) && mayWrite (q .role) row)
+        ≡ (if b then mayWrite (q .role) row else eqb (row .table) (q .table))
+    go true = refl
+    go false = or-none (eqb (row .table) (q .table))
+
+-- what a READ takes of a list of entries, where it asks for one key
+abbrev narrowed : Bool → List ℕ → List (List ℕ) → List (List ℕ)
+narrowed one k es = if one then keep (hasKey k) es else es
+
+narrowed-append : (one : Bool) (k : List ℕ) (xs ys : List (List ℕ)) → narrowed one k (xs ++ ys) ≡ narrowed one k xs ++ narrowed one k ys
+narrowed-append true k xs ys = keep-append (hasKey k) xs ys
+narrowed-append false k xs ys = refl
+
+narrowed-nil : (one : Bool) (k : List ℕ) → narrowed one k [] ≡ []
+narrowed-nil true k = refl
+narrowed-nil false k = refl
+
+-- of one row
+row-seen : (a one : Bool) (t : ℕ) (k : List ℕ) (es : List (List ℕ))
+    → keep (λ (e : List ℕ). a && eqb (tableOf e) t && (not one || same (keyOf e) k)) es
+    ≡ (if a then narrowed one k (keep (inTable t) es) else [])
+row-seen true true t k es = keep-keep (inTable t) (hasKey k) es
+row-seen true false t k es = ap (λ f. keep f es) (fun-ext (λ (e : List ℕ). and-true (inTable t e)))
+row-seen false one t k es = keep-none es
+
+-- of every row
+abbrev gathered : Query → List Row → List (List ℕ) → List (List ℕ)
+gathered q rows es = concat (map (λ (row : Row). keep (inTable (row .table)) es) (keep (asked q) rows))
+
+rows-seen : (q : Query) (rows : List Row) (es : List (List ℕ)) → narrowed (eqb (q .only) 1) (shortKey (q .key)) (gathered q rows es) ≡ readSeen rows q es
+unfolding readSeen
+rows-seen q [] es = narrowed-nil (eqb (q .only) 1) (shortKey (q .key))
+rows-seen q (row ∷ rows) es = go (asked q row) refl (rows-seen q rows es)
+  where
+    one : Bool
+    one = eqb (q .only) 1
+
+    k : List ℕ
+    k = shortKey (q .key)
+
+    mine : List (List ℕ)
+    mine = keep (inTable (row .table)) es
+
+    seen : keep (asksFor q row) es ≡ (if asked q row then narrowed one k mine else [])
+    seen =
+        ap (λ (a : Bool). keep (λ (e : List ℕ). a && eqb (tableOf e) (row .table) && (not one || same (keyOf e) k)) es) (same-rows q row)
+        ∙ row-seen (asked q row) one (row .table) k es
+
+    go : (b : Bool) → asked q row ≡ b → narrowed one k (gathered q rows es) ≡ readSeen rows q es
+        → narrowed one k (concat (map (λ (r : Row). keep (inTable (r .table)) es) (if b then row ∷ keep (asked q) rows else keep (asked q) rows)))
+        ≡ keep (asksFor q row) es ++ readSeen rows q es
+    go true h ih = narrowed-append one k mine (gathered q rows es) ∙ ap₂ _++_ (sym (seen ∙ ap (λ (b : Bool). if b then narrowed one k mine else []) h)) ih
+    go false h ih = ih ∙ ap (λ l. l ++ readSeen rows q es) (sym (seen ∙ ap (λ (b : Bool). if b then narrowed one k mine else []) h))
+
+-- ---- a call
+
+answers-agree : (p : Past) (c : Command) → answer (shows p) c ≡ answerSeen p c
+unfolding answer answerSeen shows shown
+answers-agree p cramped = refl
+answers-agree p malformed = refl
+answers-agree p (OPEN n) = refl
+answers-agree p (CLOSE n) = refl
+answers-agree p (ARBITRATE n h) = refl
+answers-agree p (CONFIGURE h rows) = refl
+answers-agree p (WRITE h atomicity us) = rw (b .1, b .2) (go (someFailed p (h .role) us))
+  where
+    b : Batched (h .role) p us
+    b = batched (h .role) p us
+
+    told : ℕ → Answer
+    told reason =
+        if accepted (shows p) (WRITE h atomicity us) then record { reason = reason; records = pairsSeen p (h .role) us } else
+        plain (refusal (shows p) (WRITE h atomicity us))
+
+    go : (t : Bool) → told (if not t then 0 else 23) ≡ told (if t then 23 else 0)
+    go true = refl
+    go false = refl
+answers-agree p (READ q) = rw (rows-seen q (p .control .rows) (present (p .effects)))
+
+-- what is left of the entries, and of the whole agent
+unnoted : (b : Bool) (effects : List Effect) → present effects ≡ present (if b then effects else effects)
+unnoted true effects = refl
+unnoted false effects = refl
+
+tables-agree : (p : Past) (c : Command) → nextTables (shows p) c .entries ≡ present (if accepted (shows p) c then noted p c else p .effects)
+unfolding nextTables noted shows takeEffect
+tables-agree p cramped = unnoted (accepted (shows p) cramped) (p .effects)
+tables-agree p malformed = unnoted (accepted (shows p) malformed) (p .effects)
+tables-agree p (OPEN n) = unnoted (accepted (shows p) (OPEN n)) (p .effects)
+tables-agree p (CLOSE n) = unnoted (accepted (shows p) (CLOSE n)) (p .effects)
+tables-agree p (ARBITRATE n h) = unnoted (accepted (shows p) (ARBITRATE n h)) (p .effects)
+tables-agree p (CONFIGURE h rows) = go (accepted (shows p) (CONFIGURE h rows))
+  where
+    go : (b : Bool) → (if b then noEntries else shows p .tables) .entries ≡ present (if b then p .effects ++ (cleared ∷ []) else p .effects)
+    go true = sym (present-snoc (p .effects) cleared)
+    go false = refl
+tables-agree p (WRITE h atomicity us) = go (accepted (shows p) (WRITE h atomicity us))
+  where
+    go : (b : Bool) → (if b then batch (p .control .rows) (h .role) (shows p .tables) us .tables else shows p .tables) .entries
+        ≡ present (if b then noteUpdates p (h .role) us .effects else p .effects)
+    go true = ap (λ t. t .entries) (batched (h .role) p us .0)
+    go false = refl
+tables-agree p (READ q) = unnoted (accepted (shows p) (READ q)) (p .effects)
+
+pub next-shows : (p : Past) (c : Command) → next (shows p) c ≡ shows (note p c)
+unfolding next note shows
+next-shows p c = ap (λ es. record { control = nextControl (shows p) c; tables = record { entries = es } }) (tables-agree p c)
+
+pub run-shows : (p : Past) (cs : List Command) → run (shows p) cs ≡ shows (lookBack p cs)
+unfolding run lookBack
+run-shows p [] = refl
+run-shows p (c ∷ cs) = ap (λ s. run s cs) (next-shows p c) ∙ run-shows (note p c) cs
+
+-- after every list of calls the agent is as looking back shows it
+pub fresh-shows : (device : ℕ) (cs : List Command) → run (fresh device) cs ≡ shows (lookBack (nothing device) cs)
+unfolding fresh nothing shows present
+fresh-shows device cs = run-shows (nothing device) cs
+
+-- ---- what is returned
+
+-- 23 is no refusal
+not-23 : (s : State) (c : Command) → refusal s c ≡ 23 → ⊥
+unfolding refusal configureReason writeReason readReason arbitrateReason
+not-23 s cramped e = omega arith
+not-23 s malformed e = omega arith
+not-23 s (OPEN n) e = first-avoids 23 _ (omega arith) refl e
+not-23 s (CLOSE n) e = first-avoids 23 _ (omega arith) refl e
+not-23 s (ARBITRATE n h) e = by-state (streamAt (s .control .streams) n) e
+  where
+    by-state : (x : Stream) → first (orderOf (s .control .device) (s .control .streams) n h x) ≡ 23 → ⊥
+    by-state closed q = first-avoids 23 _ (omega arith) refl q
+    by-state unbound q = first-avoids 23 _ (omega arith) refl q
+    by-state (bound r i) q = first-avoids 23 _ (omega arith) refl q
+not-23 s (CONFIGURE h rows) e = first-avoids 23 _ (omega arith) refl e
+not-23 s (WRITE h atomicity us) e = first-avoids 23 _ (omega arith) refl e
+not-23 s (READ q) e = first-avoids 23 _ (omega arith) refl e
+
+-- a call that answers its own reason
+its-reason : (s : State) (c : Command) (r : ℕ) → r ≡ refusal s c → ((r ≡ 0) ⊎ (r ≡ 23)) ↔ (accepted s c ≡ true)
+its-reason s c r q = (
+  λ h. ⊎-elim (λ e. eq-eqb (refusal s c) 0 (sym q ∙ e)) (λ e. absurd (not-23 s c (sym q ∙ e))) h,
+  λ h. inl (q ∙ eqb-true (refusal s c) 0 h),
+)
+
+-- one that answers 0 or 23 where it is accepted, and its own reason else
+one-of-two : (s : State) (c : Command) (a : Answer) → (a .reason ≡ 0) ⊎ (a .reason ≡ 23)
+    → (b : Bool) → accepted s c ≡ b
+    → (((if b then a else plain (refusal s c)) .reason ≡ 0) ⊎ ((if b then a else plain (refusal s c)) .reason ≡ 23)) ↔ (accepted s c ≡ true)
+one-of-two s c a h true q = (λ w. q, λ w. h)
+one-of-two s c a h false q = its-reason s c (refusal s c) refl
+
+pub returned-accepted : (s : State) (c : Command) → ((reply s c .returned ≡ 0) ⊎ (reply s c .returned ≡ 23)) ↔ (accepted s c ≡ true)
+unfolding reply replyOf answer refusal openStream closeStream arbitrate
+returned-accepted s cramped = its-reason s cramped 2 refl
+returned-accepted s malformed = its-reason s malformed 1 refl
+returned-accepted s (OPEN n) = its-reason s (OPEN n) _ refl
+returned-accepted s (CLOSE n) = its-reason s (CLOSE n) _ refl
+returned-accepted s (ARBITRATE n h) = its-reason s (ARBITRATE n h) _ refl
+returned-accepted s (CONFIGURE h rows) = its-reason s (CONFIGURE h rows) _ refl
+returned-accepted s (WRITE h atomicity us) =
+    one-of-two s (WRITE h atomicity us) _ (head-reason (every (eqb 0) (batch (s .control .rows) (h .role) (s .tables) us .reasons)))
+    (accepted s (WRITE h atomicity us)) refl
+  where
+    head-reason : (b : Bool) → _≡_ {A = ℕ} (if b then 0 else 23) 0 ⊎ _≡_ {A = ℕ} (if b then 0 else 23) 23
+    head-reason true = inl refl
+    head-reason false = inr refl
+returned-accepted s (READ q) =
+    one-of-two s (READ q) (record { reason = 0; records = shown s q }) (inl refl) (accepted s (READ q)) refl
+
+-- ---- the pairs of a WRITE
+
+pairs-split : (p : Past) (role : ℕ) (earlier : List Update) (u : Update) (later : List Update)
+    → pairsSeen p role (earlier ++ u ∷ later)
+    ≡ pairsSeen p role earlier
+    ++ pairOf (reasonAt (noteUpdates p role earlier) role u) ∷ pairsSeen (noteUpdate (noteUpdates p role earlier) role u) role later
+unfolding pairsSeen noteUpdates
+pairs-split p role [] u later = refl
+pairs-split p role (v ∷ earlier) u later = ap (λ l. pairOf (reasonAt p role v) ∷ l) (pairs-split (noteUpdate p role v) role earlier u later)
+
+pairs-length : (p : Past) (role : ℕ) (us : List Update) → length (concat (pairsSeen p role us)) ≡ 2 * length us
+unfolding pairsSeen
+pairs-length p role [] = refl
+pairs-length p role (u ∷ us) = omega (arith, pairs-length (noteUpdate p role u) role us)
+
+concat-append : (xs ys : List (List ℕ)) → concat (xs ++ ys) ≡ concat xs ++ concat ys
+concat-append [] ys = refl
+concat-append (x ∷ xs) ys = ap (λ l. x ++ l) (concat-append xs ys) ∙ sym (append-assoc x (concat xs) (concat ys))
+
+-- the pair behind a head of four bytes and n pairs
+pair-there : (a b c d n r : ℕ) (before after : List (List ℕ)) → length (concat before) ≡ 2 * n
+    → pairAt n (a ∷ b ∷ c ∷ d ∷ concat (before ++ pairOf r ∷ after)) ≡ pairOf r
+unfolding pairAt
+pair-there a b c d n r before after e =
+    rw (concat-append before (pairOf r ∷ after), drop-at (a ∷ b ∷ c ∷ d ∷ concat before) (concat (pairOf r ∷ after)) (4 + 2 * n) (omega arith))
+
+pair-zero : (r : ℕ) → (pairOf r ≡ 0 ∷ 0 ∷ []) ↔ (r ≡ 0)
+unfolding codeOf pairs
+pair-zero r = (λ e. cc, λ e. rw e)
+
+-- the pair of an update in the bytes of an accepted WRITE
+update-pair : (p : Past) (h : Head) (atomicity : ℕ) (earlier : List Update) (u : Update) (later : List Update)
+    → accepted (shows p) (WRITE h atomicity (earlier ++ u ∷ later)) ≡ true
+    → pairAt (length earlier) (replySeen p (WRITE h atomicity (earlier ++ u ∷ later)) .written)
+    ≡ pairOf (reasonAt (noteUpdates p (h .role) earlier) (h .role) u)
+unfolding replySeen replyOf answerSeen answerBytes bytesOf
+update-pair p h atomicity earlier u later q = rw (q, pairs-split p (h .role) earlier u later) (go (someFailed p (h .role) (earlier ++ u ∷ later)))
+  where
+    r : ℕ
+    r = reasonAt (noteUpdates p (h .role) earlier) (h .role) u
+
+    before : List (List ℕ)
+    before = pairsSeen p (h .role) earlier
+
+    after : List (List ℕ)
+    after = pairsSeen (noteUpdate (noteUpdates p (h .role) earlier) (h .role) u) (h .role) later
+
+    go : (b : Bool) → pairAt (length earlier) (replyOf (record { reason = if b then 23 else 0; records = before ++ pairOf r ∷ after }) .written) ≡ pairOf r
+    go true = pair-there _ _ _ _ (length earlier) r before after (pairs-length p (h .role) earlier)
+    go false = pair-there _ _ _ _ (length earlier) r before after (pairs-length p (h .role) earlier)
+
+-- ---- the claim
+
+pub agreement : (room device : ℕ) (before : List Call) (c : Call) → Agreement room device before c
+unfolding replyAfter pastOf reply replySeen tookEffect
+agreement room device before c = record {
+  replies = replies;
+  acceptance = subst (λ s. ((reply s (commandOf room c) .returned ≡ 0) ⊎ (reply s (commandOf room c) .returned ≡ 23)) ↔ (accepted (shows p) (commandOf room c) ≡ true))
+      (sym shown-past) (returned-accepted (shows p) (commandOf room c));
+  updates = updates;
+}
+  where
+    p : Past
+    p = lookBack (nothing device) (commandsOf room before)
+
+    shown-past : run (fresh device) (commandsOf room before) ≡ shows p
+    shown-past = fresh-shows device (commandsOf room before)
+
+    replies : reply (run (fresh device) (commandsOf room before)) (commandOf room c) ≡ replySeen p (commandOf room c)
+    replies = ap (λ s. reply s (commandOf room c)) shown-past ∙ ap replyOf (answers-agree p (commandOf room c))
+
+    updates : (h : Head) (atomicity : ℕ) (earlier : List Update) (u : Update) (later : List Update)
+        → commandOf room c ≡ WRITE h atomicity (earlier ++ u ∷ later)
+        → accepted (shows p) (commandOf room c) ≡ true
+        → (pairAt (length earlier) (reply (run (fresh device) (commandsOf room before)) (commandOf room c) .written) ≡ 0 ∷ 0 ∷ [])
+        ↔ (eqb (reasonAt (noteUpdates p (h .role) earlier) (h .role) u) 0 ≡ true)
+    updates h atomicity earlier u later e q =
+        let r : ℕ = reasonAt (noteUpdates p (h .role) earlier) (h .role) u in
+        let w : pairAt (length earlier) (reply (run (fresh device) (commandsOf room before)) (commandOf room c) .written) ≡ pairOf r =
+        ap (λ a. pairAt (length earlier) (a .written)) (replies ∙ ap (replySeen p) e)
+        ∙ update-pair p h atomicity earlier u later (subst (λ x. accepted (shows p) x ≡ true) e q) in
+        (λ z. eq-eqb r 0 (pair-zero r .0 (sym w ∙ z)), λ z. w ∙ pair-zero r .1 (eqb-true r 0 z))

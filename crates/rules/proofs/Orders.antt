@@ -1,0 +1,49 @@
+-- Laws of an order of refusals: one serves where a call is accepted, the other where a reason cannot be given.
+-- Assumes nothing.
+use Prim.Native.Nat.{ℕ, _<_}
+use mathlib.Core.Path.{_≡_, refl}
+use mathlib.Core.Bool.{Bool, true, false, _&&_, not}
+use mathlib.Core.List.{List, [], _∷_}
+use native.Mathlib.Omega.{arith}
+use lib.Dec.{eqb, ltb}
+use borrow.Author.Tests.{eqb-false, ltb-true, not-true}
+use Rattle.rules.specs.Bytes.{if_then_else_}
+use Rattle.rules.specs.Reason.{first}
+use Rattle.rules.proofs.Tests.{and-true}
+
+-- every reason of the order is one
+abbrev pub positive : List (Bool × ℕ) → Bool
+positive [] = true
+positive (c ∷ cs) = ltb 0 (c .1) && positive cs
+
+-- no condition of the order holds
+abbrev pub Clear : List (Bool × ℕ) → Type 0
+Clear [] = Unit {0}
+Clear (c ∷ cs) = (c .0 ≡ false) × Clear cs
+
+pub first-clear : (cs : List (Bool × ℕ)) → positive cs ≡ true → first cs ≡ 0 → Clear cs
+unfolding first
+first-clear [] p e = tt
+first-clear (c ∷ cs) p e =
+    let q = and-true (ltb 0 (c .1)) (positive cs) p in
+    go (c .0) refl e (ltb-true 0 (c .1) (q .0)) (λ h. first-clear cs (q .1) h)
+  where
+    go : (b : Bool) → c .0 ≡ b → (if b then c .1 else first cs) ≡ 0 → 0 < c .1 → (first cs ≡ 0 → Clear cs) → (c .0 ≡ false) × Clear cs
+    go true q h pos ih = absurd (omega arith)
+    go false q h pos ih = (q, ih h)
+
+-- the reason r does not stand in the order
+abbrev pub avoids : ℕ → List (Bool × ℕ) → Bool
+avoids r [] = true
+avoids r (c ∷ cs) = not (eqb (c .1) r) && avoids r cs
+
+pub first-avoids : (r : ℕ) (cs : List (Bool × ℕ)) → 0 < r → avoids r cs ≡ true → first cs ≡ r → ⊥
+unfolding first
+first-avoids r [] pos a e = omega arith
+first-avoids r (c ∷ cs) pos a e =
+    let q = and-true (not (eqb (c .1) r)) (avoids r cs) a in
+    go (c .0) (eqb-false (c .1) r (not-true _ (q .0))) (λ h. first-avoids r cs pos (q .1) h) e
+  where
+    go : (b : Bool) → (c .1 ≡ r → ⊥) → (first cs ≡ r → ⊥) → (if b then c .1 else first cs) ≡ r → ⊥
+    go true n ih h = n h
+    go false n ih h = ih h

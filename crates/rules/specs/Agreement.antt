@@ -1,0 +1,40 @@
+-- What is claimed of looking back: after every list of calls, refused ones included, each call answers what looking back over
+-- the list yields (document 01, "Looking back"). Assumes nothing.
+use mathlib.Core.Path.{_≡_}
+use mathlib.Core.Bool.{true}
+use mathlib.Core.Logic.{_⊎_, _↔_}
+use mathlib.Core.List.{List, [], _∷_, _++_, map}
+use Prim.Native.Nat.{ℕ, _+_, _*_}
+use lib.ListN.{length, take, drop}
+use Rattle.rules.specs.Frame.{Head, Update, Command, WRITE}
+use Rattle.rules.specs.Answer.{Reply}
+use Rattle.rules.specs.Call.{Call, State, fresh, accepted, commandOf, reply, run}
+use Rattle.rules.specs.LookBack.{Past, nothing, shows, tookEffect, noteUpdates, lookBack, replySeen}
+
+-- the commands of calls, with a store of `room` bytes
+abbrev pub commandsOf : ℕ → List Call → List Command
+commandsOf room calls = map (commandOf room) calls
+
+-- what a call returns and writes under the rules, and by looking back, after the calls `before` from a fresh agent
+unfoldable pub replyAfter : ℕ → ℕ → List Call → Call → Reply
+replyAfter room device before c = reply (run (fresh device) (commandsOf room before)) (commandOf room c)
+
+unfoldable pub pastOf : ℕ → ℕ → List Call → Past
+pastOf room device before = lookBack (nothing device) (commandsOf room before)
+
+-- the pair of the i-th update in an answer, counted from 0
+unfoldable pub pairAt : ℕ → List ℕ → List ℕ
+pairAt i bytes = take 2 (drop (4 + 2 * i) bytes)
+
+pub record Agreement (room device : ℕ) (before : List Call) (c : Call) : Type 0 where
+  -- the rules and looking back agree on what is returned, and on every byte written
+  pub replies : replyAfter room device before c ≡ replySeen (pastOf room device before) (commandOf room c)
+  -- reason 0 or 23 is returned exactly when the call is accepted by looking back
+  pub acceptance : ((replyAfter room device before c .returned ≡ 0) ⊎ (replyAfter room device before c .returned ≡ 23))
+      ↔ (accepted (shows (pastOf room device before)) (commandOf room c) ≡ true)
+  -- an update of an accepted WRITE is answered (0, 0) exactly when it took effect by looking back
+  pub updates : (h : Head) (atomicity : ℕ) (earlier : List Update) (u : Update) (later : List Update)
+      → commandOf room c ≡ WRITE h atomicity (earlier ++ u ∷ later)
+      → accepted (shows (pastOf room device before)) (commandOf room c) ≡ true
+      → (pairAt (length earlier) (replyAfter room device before c .written) ≡ 0 ∷ 0 ∷ [])
+      ↔ (tookEffect (noteUpdates (pastOf room device before) (h .role) earlier) (h .role) u ≡ true)
