@@ -5,5 +5,9 @@ pub mod Computing
 pub mod Bench
 pub mod Tests
 pub mod Orders
+pub mod Formed
+pub mod Streams
+pub mod Shortest
 pub mod Effects
 pub mod Agreement
+pub mod Authority

@@ -8,8 +8,9 @@ use lib.Dec.{eqb}
 use Rattle.rules.specs.Bytes.{if_then_else_, between}
 use Rattle.rules.specs.Frame.{Head, Query, Command, cramped, malformed, OPEN, CLOSE, ARBITRATE, CONFIGURE, WRITE, READ}
 use Rattle.rules.specs.Streams.{Stream, closed, unbound, bound}
-use Rattle.rules.specs.Call.{State, refusal, accepted, fresh, next, run, reply}
-use Rattle.rules.specs.LookBack.{Past, nothing, shows, note, lookBack}
+use Rattle.rules.specs.Call.{State, Call, refusal, accepted, fresh, next, run, reply, commandOf}
+use Rattle.rules.specs.LookBack.{Past, nothing, shows, note}
+use Rattle.rules.specs.Agreement.{commandsOf, pastOf}
 
 -- A call of the list, and the reason under which the rules refuse it after the calls before it (0: they accept it).
 pub record Event : Type 0 where
@@ -19,6 +20,10 @@ pub record Event : Type 0 where
 unfoldable pub history : Past → List Command → List Event
 history p [] = []
 history p (c ∷ cs) = record { command = c; reason = refusal (shows p) c } ∷ history (note p c) cs
+
+-- the calls `before`, from a fresh agent
+unfoldable pub eventsOf : ℕ → ℕ → List Call → List Event
+eventsOf room device before = history (nothing device) (commandsOf room before)
 
 -- ---- the highest id
 
@@ -79,11 +84,14 @@ Gives role id (CONFIGURE h rows) = (h .role ≡ role) × (h .id ≡ id)
 Gives role id (WRITE h atomicity us) = (h .role ≡ role) × (h .id ≡ id)
 Gives role id (READ q) = ⊥
 
--- Of a call c after the calls `before`, from a fresh agent:
-pub record Authority (device : ℕ) (before : List Command) (c : Command) : Type 0 where
-  -- an accepted CONFIGURE, and an accepted WRITE, as every update that takes effect is in, gave the live primary's id
-  pub given : (role id : ℕ) → Gives role id c → accepted (shows (lookBack (nothing device) before)) c ≡ true
-      → Held role id (history (nothing device) before)
+-- Of a call c after the calls `before`, from a fresh agent and with a store of `room` bytes:
+pub record Authority (room device : ℕ) (before : List Call) (c : Call) : Type 0 where
+  -- an accepted CONFIGURE, and an accepted WRITE, which every update that takes effect stands in, gave the live primary's id
+  pub given : (role id : ℕ) → Gives role id (commandOf room c)
+      → accepted (shows (pastOf room device before)) (commandOf room c) ≡ true
+      → Held role id (eventsOf room device before)
   -- a call that does not give it changes no entry: every READ has the same answer before it and after it
-  pub unchanged : ((role id : ℕ) → Gives role id c → Held role id (history (nothing device) before) → ⊥)
-      → (q : Query) → reply (run (fresh device) before) (READ q) ≡ reply (next (run (fresh device) before) c) (READ q)
+  pub unchanged : ((role id : ℕ) → Gives role id (commandOf room c) → Held role id (eventsOf room device before) → ⊥)
+      → (q : Query)
+      → reply (run (fresh device) (commandsOf room before)) (READ q)
+      ≡ reply (next (run (fresh device) (commandsOf room before)) (commandOf room c)) (READ q)

@@ -1,0 +1,119 @@
+-- What a frame reads as has operands in range and parts of full length, since the reader tests length and counts.
+-- Assumes nothing.
+use Prim.Native.Nat.{ℕ, zero, suc, _+_, _-_, _*_, _≤_}
+use mathlib.Core.Path.{_≡_, refl, sym, _∙_}
+use mathlib.Core.Bool.{Bool, true, false, _&&_}
+use mathlib.Core.List.{List, [], _∷_, _++_, map}
+use native.Mathlib.Omega.{arith}
+use lib.Dec.{eqb, leb}
+use lib.ListN.{length, take, drop, length-take, length-drop, length-append, length-map}
+use borrow.Author.Tests.{eqb-true, leb-true}
+use Rattle.rules.specs.Bytes.{if_then_else_, byte, between, part, parts}
+use Rattle.rules.specs.Frame.{Head, Update, Query, Command, cramped, malformed, OPEN, CLOSE, ARBITRATE, CONFIGURE, WRITE, READ, updateOf, flagFits, streamFits, streamFormed, arbitrateFormed, configureFormed, writeFormed, readFormed, formed, configureOf, writeOf, byCommand, readFrame}
+use Rattle.rules.specs.Call.{Call, roomy, commandOf}
+use Rattle.rules.proofs.Tests.{and-true}
+
+-- every part has the length n
+abbrev pub EveryLength : ℕ → List (List ℕ) → Type 0
+EveryLength n [] = Unit {0}
+EveryLength n (x ∷ xs) = (length x ≡ n) × EveryLength n xs
+
+-- every update has an entry of 220 bytes
+abbrev pub Whole : List Update → Type 0
+Whole [] = Unit {0}
+Whole (u ∷ us) = (length (u .entry) ≡ 220) × Whole us
+
+-- what the reader tests
+abbrev pub Formed : Command → Type 0
+Formed cramped = Unit {0}
+Formed malformed = Unit {0}
+Formed (OPEN n) = n ≤ 31
+Formed (CLOSE n) = n ≤ 31
+Formed (ARBITRATE n h) = n ≤ 31
+Formed (CONFIGURE h rows) = EveryLength 53 rows
+Formed (WRITE h atomicity us) = (length us ≤ 64) × Whole us
+Formed (READ q) = length (q .key) ≡ 148
+
+abbrev pub EveryFormed : List Command → Type 0
+EveryFormed [] = Unit {0}
+EveryFormed (c ∷ cs) = Formed c × EveryFormed cs
+
+-- ---- parts
+
+pub parts-count : (n w : ℕ) (l : List ℕ) → length (parts n w l) ≡ n
+unfolding parts
+parts-count zero w l = refl
+parts-count (suc n) w l = omega (arith, parts-count n w (drop w l))
+
+pub parts-lengths : (n w : ℕ) (l : List ℕ) → n * w ≤ length l → EveryLength w (parts n w l)
+unfolding parts
+parts-lengths zero w l h = tt
+parts-lengths (suc n) w l h =
+    let d : length (drop w l) ≡ length l - w = length-drop w l in
+    (simp length-take (omega arith), parts-lengths n w (drop w l) (omega arith))
+
+whole-updates : (ls : List (List ℕ)) → EveryLength 221 ls → Whole (map updateOf ls)
+whole-updates [] h = tt
+whole-updates (l ∷ ls) h = (omega (arith, length-drop 1 l, h .0), whole-updates ls (h .1))
+
+-- ---- the reader
+
+module _ (P : Command → Type 0) where
+  choose : (b : Bool) (x y : Command) → (b ≡ true → P x) → P y → P (if b then x else y)
+  choose true x y h k = h refl
+  choose false x y h k = k
+
+stream-fits : (f : List ℕ) → streamFormed f ≡ true → byte 1 f ≤ 31
+unfolding streamFormed
+stream-fits f h = leb-true (byte 1 f) 31 (and-true (eqb (length f) 2) (streamFits f) h .1)
+
+arbitrate-fits : (f : List ℕ) → arbitrateFormed f ≡ true → byte 1 f ≤ 31
+unfolding arbitrateFormed
+arbitrate-fits f h =
+    leb-true (byte 1 f) 31
+    (and-true (eqb (length f) 28) (streamFits f) (and-true (eqb (length f) 28 && streamFits f) (flagFits 2 f) h .0) .1)
+
+rows-fit : (t : ℕ) (f : List ℕ) → configureFormed t f ≡ true → Formed (configureOf t f)
+unfolding configureFormed configureOf
+rows-fit t f h =
+    let e : length f ≡ 28 + 53 * t = eqb-true _ _ (and-true _ _ (and-true _ _ h .0) .0) in
+    parts-lengths t 53 (drop 28 f) (omega (arith, length-drop 28 f))
+
+updates-fit : (n : ℕ) (f : List ℕ) → writeFormed n f ≡ true → Formed (writeOf n f)
+unfolding writeFormed writeOf
+updates-fit n f h =
+    let a = and-true _ _ (and-true _ _ h .0) in
+    let b = and-true _ _ (a .0) in
+    let e : length f ≡ 29 + 221 * n = eqb-true _ _ (b .0) in
+    let small : n ≤ 64 = leb-true n 64 (b .1) in (
+      omega (arith, length-map (parts n 221 (drop 29 f)) updateOf, parts-count n 221 (drop 29 f)),
+      whole-updates (parts n 221 (drop 29 f)) (parts-lengths n 221 (drop 29 f) (omega (arith, length-drop 29 f))),
+    )
+
+key-fits : (f : List ℕ) → readFormed f ≡ true → length (part 10 4 f ++ part 15 144 f) ≡ 148
+unfolding readFormed
+key-fits f h =
+    let e : length f ≡ 159 = eqb-true _ _ (and-true _ _ h .0) in
+    simp (length-append, length-take, length-drop) (omega arith)
+
+by-command : (c : ℕ) (f : List ℕ) → Formed (byCommand c f)
+by-command c f =
+    choose Formed (eqb c 0x01) _ _ (λ h. choose Formed (streamFormed f) _ _ (stream-fits f) tt)
+    (choose Formed (eqb c 0x02) _ _ (λ h. choose Formed (streamFormed f) _ _ (stream-fits f) tt)
+    (choose Formed (eqb c 0x03) _ _ (λ h. choose Formed (arbitrateFormed f) _ _ (arbitrate-fits f) tt)
+    (choose Formed (eqb c 0x04) _ _ (λ h. choose Formed (configureFormed (byte 27 f) f) _ _ (rows-fit (byte 27 f) f) tt)
+    (choose Formed (eqb c 0x05) _ _ (λ h. choose Formed (writeFormed (byte 28 f) f) _ _ (updates-fit (byte 28 f) f) tt)
+    (choose Formed (eqb c 0x06) _ _ (λ h. choose Formed (readFormed f) _ _ (key-fits f) tt) tt)))))
+
+pub frame-formed : (f : List ℕ) → Formed (readFrame f)
+unfolding readFrame
+frame-formed [] = tt
+frame-formed (c ∷ operands) = by-command c (c ∷ operands)
+
+pub call-formed : (room : ℕ) (c : Call) → Formed (commandOf room c)
+unfolding commandOf
+call-formed room c = choose Formed (roomy room (c .buffer)) _ _ (λ h. frame-formed (c .frame)) tt
+
+pub calls-formed : (room : ℕ) (cs : List Call) → EveryFormed (map (commandOf room) cs)
+calls-formed room [] = tt
+calls-formed room (c ∷ cs) = (call-formed room c, calls-formed room cs)
