@@ -8,6 +8,11 @@ pub mod Orders
 pub mod Formed
 pub mod Streams
 pub mod Shortest
+pub mod Numbers
+pub mod Tables
+pub mod Sound
+pub mod Refused
+pub mod Sizes
 pub mod Effects
 pub mod Agreement
 pub mod Authority

@@ -15,5 +15,6 @@ pub mod Agreement
 pub mod Presence
 pub mod Authority
 pub mod Sound
+pub mod Refused
 pub mod Sample
 pub mod Bench

@@ -1,0 +1,49 @@
+-- A refused call leaves the agent alone: every change but the closing of a stream is made only where the reason is 0.
+-- Assumes nothing.
+use Prim.Native.Nat.{ℕ}
+use mathlib.Core.Path.{_≡_, refl, ap, _∙_}
+use mathlib.Core.Bool.{Bool, true, false}
+use Rattle.rules.specs.Bytes.{if_then_else_, between}
+use Rattle.rules.specs.Frame.{Command, cramped, malformed, OPEN, CLOSE, ARBITRATE, CONFIGURE, WRITE, READ}
+use Rattle.rules.specs.Streams.{Streams, become, closed, openStream, closeStream, arbitrate}
+use Rattle.rules.specs.Call.{State, refusal, accepted, withStreams, nextControl, nextTables, next}
+use Rattle.rules.specs.Refused.{streamsLeft, LeftAlone}
+
+marks-left : (e : Streams) (c : Command) (r : ℕ) → streamsLeft e c r .marks ≡ e .marks
+marks-left e cramped r = refl
+marks-left e malformed r = refl
+marks-left e (OPEN n) r = refl
+marks-left e (CLOSE n) r = refl
+marks-left e (ARBITRATE n h) r = go (between 5 9 r)
+  where
+    go : (b : Bool) → (if b then become e n closed else e) .marks ≡ e .marks
+    go true = refl
+    go false = refl
+marks-left e (CONFIGURE h rows) r = refl
+marks-left e (WRITE h atomicity us) r = refl
+marks-left e (READ q) r = refl
+
+left-alone : (s : State) (c : Command) → nextTables s c ≡ s .tables
+    → nextControl s c ≡ withStreams (s .control) (streamsLeft (s .control .streams) c (refusal s c)) → LeftAlone s c
+unfolding next
+left-alone s c t k = record {
+  tables = t;
+  rows = ap (λ x. x .rows) k;
+  device = ap (λ x. x .device) k;
+  marks = ap (λ x. x .streams .marks) k ∙ marks-left (s .control .streams) c (refusal s c);
+  streams = ap (λ x. x .streams) k;
+}
+
+not-taken : {A : Type 0} (b : Bool) (x y : A) → b ≡ false → (if b then x else y) ≡ y
+not-taken b x y h = rw h
+
+pub refused : (s : State) (c : Command) → accepted s c ≡ false → LeftAlone s c
+unfolding nextControl nextTables refusal openStream closeStream arbitrate
+refused s cramped q = left-alone s cramped refl refl
+refused s malformed q = left-alone s malformed refl refl
+refused s (OPEN n) q = left-alone s (OPEN n) refl (ap (withStreams (s .control)) (not-taken (accepted s (OPEN n)) _ _ q))
+refused s (CLOSE n) q = left-alone s (CLOSE n) refl (ap (withStreams (s .control)) (not-taken (accepted s (CLOSE n)) _ _ q))
+refused s (ARBITRATE n h) q = left-alone s (ARBITRATE n h) refl (ap (withStreams (s .control)) (not-taken (accepted s (ARBITRATE n h)) _ _ q))
+refused s (CONFIGURE h rows) q = left-alone s (CONFIGURE h rows) (not-taken (accepted s (CONFIGURE h rows)) _ _ q) (not-taken (accepted s (CONFIGURE h rows)) _ _ q)
+refused s (WRITE h atomicity us) q = left-alone s (WRITE h atomicity us) (not-taken (accepted s (WRITE h atomicity us)) _ _ q) refl
+refused s (READ x) q = left-alone s (READ x) refl refl

@@ -1,0 +1,209 @@
+-- An answer is at most 56,324 bytes: at most 32 notifications of 20, at most 64 pairs, or at most 256 entries of 220, since the
+-- tables that a READ shows hold at most their sizes, which add to 256. Assumes nothing.
+use Prim.Native.Nat.{ℕ, zero, suc, _+_, _*_, _/_, _%_, _≤_}
+use mathlib.Core.Path.{_≡_, refl, _∙_}
+use mathlib.Core.Bool.{Bool, true, false}
+use mathlib.Core.List.{List, [], _∷_, _++_, map}
+use native.Mathlib.Nat.{le-trans, le-of-eq, mul-le-mul-left}
+use native.Mathlib.Omega.{arith}
+use lib.Dec.{eqb}
+use lib.ListN.{length, getD, length-append, length-map, length-set}
+use Rattle.rules.specs.Bytes.{if_then_else_, keep, concat, sum, between, bytesOf}
+use Rattle.rules.specs.Frame.{Head, Update, Query, Command, cramped, malformed, OPEN, CLOSE, ARBITRATE, CONFIGURE, WRITE, READ}
+use Rattle.rules.specs.Streams.{Stream, closed, unbound, bound, Streams, numbers, inRole, members, notification, notifyAll, is, primary, become, streamAt, leaving, closeReason, openStream, closeRecords, closeStream, arbitrateReason, binds, samePair, bindRecords, arbitrate}
+use Rattle.rules.specs.Row.{Row}
+use Rattle.rules.specs.Key.{hasKey, shortKey}
+use Rattle.rules.specs.Update.{Tables, inTable, held, judge, apply, batch}
+use Rattle.rules.specs.Answer.{Answer, answerBytes, replyOf}
+use Rattle.rules.specs.Call.{State, Call, fresh, refusal, accepted, plain, pairOf, headOf, batchOf, asked, shown, answer, commandOf, reply, run}
+use Rattle.rules.specs.Agreement.{commandsOf, replyAfter}
+use Rattle.rules.specs.Sound.{EveryStored, Within, Sound}
+use Rattle.rules.proofs.Formed.{EveryLength, Formed, call-formed}
+use Rattle.rules.proofs.Tables.{keep-fewer}
+use Rattle.rules.proofs.Sound.{sizes-fit, sound}
+
+-- ---- lists of records of one length
+
+concat-length : (n : ℕ) (xs : List (List ℕ)) → EveryLength n xs → length (concat xs) ≡ n * length xs
+concat-length n [] h = omega arith
+concat-length n (x ∷ xs) h = omega (arith, length-append x (concat xs), concat-length n xs (h .1), h .0)
+
+map-lengths : {A : Type 0} (n : ℕ) (f : A → List ℕ) → ((x : A) → length (f x) ≡ n) → (xs : List A) → EveryLength n (map f xs)
+map-lengths n f h [] = tt
+map-lengths n f h (x ∷ xs) = (h x, map-lengths n f h xs)
+
+append-lengths : (n : ℕ) (xs ys : List (List ℕ)) → EveryLength n xs → EveryLength n ys → EveryLength n (xs ++ ys)
+append-lengths n [] ys h k = k
+append-lengths n (x ∷ xs) ys h k = (h .0, append-lengths n xs ys (h .1) k)
+
+keep-lengths : (n : ℕ) (p : List ℕ → Bool) (xs : List (List ℕ)) → EveryLength n xs → EveryLength n (keep p xs)
+keep-lengths n p [] h = tt
+keep-lengths n p (x ∷ xs) h = go (p x) (keep-lengths n p xs (h .1))
+  where
+    go : (b : Bool) → EveryLength n (keep p xs) → EveryLength n (if b then x ∷ keep p xs else keep p xs)
+    go true r = (h .0, r)
+    go false r = r
+
+-- the bytes of an answer, where its records have few
+abbrev Small : List (List ℕ) → Type 0
+Small records = length (concat records) ≤ 56_320
+
+few-small : (n count : ℕ) (xs : List (List ℕ)) → EveryLength n xs → length xs ≤ count → n * count ≤ 56_320 → Small xs
+few-small n count xs h c b = le-trans (le-of-eq (concat-length n xs h)) (le-trans (mul-le-mul-left n c) b)
+
+choose : (b : Bool) (xs ys : List (List ℕ)) → Small xs → Small ys → Small (if b then xs else ys)
+choose true xs ys h k = h
+choose false xs ys h k = k
+
+none-small : Small []
+none-small = omega arith
+
+-- ---- notifications
+
+bytes-length : (n x : ℕ) → length (bytesOf n x) ≡ n
+unfolding bytesOf
+bytes-length zero x = refl
+bytes-length (suc n) x = omega (arith, length-append (bytesOf n (x / 256)) (x % 256 ∷ []), bytes-length n (x / 256))
+
+notification-length : (e : Streams) (r s : ℕ) → length (notification e r s) ≡ 20
+unfolding notification
+notification-length e r s = omega (arith, bytes-length 16 (getD (e .marks) r 0))
+
+numbers-few : (p : Stream → Bool) (k : ℕ) (l : List Stream) → length (numbers p k l) ≤ length l
+numbers-few p k [] = omega arith
+numbers-few p k (x ∷ l) = go (p x) (numbers-few p (suc k) l)
+  where
+    go : (b : Bool) → length (numbers p (suc k) l) ≤ length l → length (if b then k ∷ numbers p (suc k) l else numbers p (suc k) l) ≤ suc (length l)
+    go true h = omega arith
+    go false h = omega arith
+
+all-small : (e : Streams) (r : ℕ) → length (e .streams) ≡ 32 → Small (notifyAll e r)
+unfolding notifyAll
+all-small e r l =
+    few-small 20 32 (map (notification e r) (members e r)) (map-lengths 20 (notification e r) (notification-length e r) (members e r))
+    (omega (arith, length-map (members e r) (notification e r), numbers-few (inRole r) 0 (e .streams))) (omega arith)
+
+close-small : (e : Streams) (s : ℕ) → length (e .streams) ≡ 32 → Small (closeRecords e s)
+unfolding closeRecords
+close-small e s l = go (streamAt e s)
+  where
+    go : (x : Stream) → Small (leaving e s x)
+    go closed = none-small
+    go unbound = none-small
+    go (bound r i) = choose (is s (primary e r)) _ _ (all-small (become e s closed) r (length-set (e .streams) s closed ∙ l)) none-small
+
+bind-small : (e : Streams) (s : ℕ) (h : Head) → length (e .streams) ≡ 32 → Small (bindRecords e (binds e s h) s (h .role))
+unfolding bindRecords binds
+bind-small e s h l =
+    choose (samePair e (binds e s h) (h .role)) _ _
+    (few-small 20 1 (notification (binds e s h) (h .role) s ∷ []) (notification-length (binds e s h) (h .role) s, tt) (omega arith) (omega arith))
+    (all-small (binds e s h) (h .role) (length-set (e .streams) s (bound (h .role) (h .id)) ∙ l))
+
+-- ---- pairs
+
+reasons-count : (rows : List Row) (role : ℕ) (t : Tables) (us : List Update) → length (batch rows role t us .reasons) ≡ length us
+unfolding batch
+reasons-count rows role t [] = refl
+reasons-count rows role t (u ∷ us) = omega (arith, reasons-count rows role (apply (judge rows role t u) u t) us)
+
+pairs-small : (s : State) (h : Head) (us : List Update) → length us ≤ 64 → Small (map pairOf (batchOf s h us .reasons))
+pairs-small s h us few =
+    let rs = batchOf s h us .reasons in
+    few-small 2 64 (map pairOf rs) (map-lengths 2 pairOf (λ (r : ℕ). refl) rs)
+    (omega (arith, length-map rs pairOf, reasons-count (s .control .rows) (h .role) (s .tables) us)) (omega arith)
+
+-- ---- entries
+
+stored-lengths : (es : List (List ℕ)) → EveryStored es → EveryLength 220 es
+stored-lengths [] h = tt
+stored-lengths (e ∷ es) h = (h .0 .size, stored-lengths es (h .1))
+
+-- what rows of a READ show of the entries
+abbrev gathered : (Row → Bool) → List Row → List (List ℕ) → List (List ℕ)
+gathered p rows es = concat (map (λ (row : Row). keep (inTable (row .table)) es) (keep p rows))
+
+gathered-lengths : (p : Row → Bool) (rows : List Row) (es : List (List ℕ)) → EveryLength 220 es → EveryLength 220 (gathered p rows es)
+gathered-lengths p [] es h = tt
+gathered-lengths p (r ∷ rows) es h = go (p r) (gathered-lengths p rows es h)
+  where
+    go : (b : Bool) → EveryLength 220 (gathered p rows es)
+        → EveryLength 220 (concat (map (λ (row : Row). keep (inTable (row .table)) es) (if b then r ∷ keep p rows else keep p rows)))
+    go true k = append-lengths 220 (keep (inTable (r .table)) es) (gathered p rows es) (keep-lengths 220 (inTable (r .table)) es h) k
+    go false k = k
+
+gathered-few : (p : Row → Bool) (rows : List Row) (t : Tables) → Within rows t
+    → length (gathered p rows (t .entries)) ≤ sum (map (λ (r : Row). r .size) rows)
+unfolding held
+gathered-few p [] t w = omega arith
+gathered-few p (r ∷ rows) t w = go (p r) (gathered-few p rows t (w .1))
+  where
+    mine : List (List ℕ)
+    mine = keep (inTable (r .table)) (t .entries)
+
+    go : (b : Bool) → length (gathered p rows (t .entries)) ≤ sum (map (λ (r : Row). r .size) rows)
+        → length (concat (map (λ (row : Row). keep (inTable (row .table)) (t .entries)) (if b then r ∷ keep p rows else keep p rows)))
+        ≤ r .size + sum (map (λ (r : Row). r .size) rows)
+    go true h = omega (arith, length-append mine (gathered p rows (t .entries)), w .0)
+    go false h = omega arith
+
+read-small : (s : State) (q : Query) → Sound s → Small (shown s q)
+unfolding shown
+read-small s q ok = choose (eqb (q .only) 1) _ _ (whole (keep (hasKey (shortKey (q .key))) all) kept fewer) (whole all lengths count)
+  where
+    all : List (List ℕ)
+    all = gathered (asked q) (s .control .rows) (s .tables .entries)
+
+    lengths : EveryLength 220 all
+    lengths = gathered-lengths (asked q) (s .control .rows) (s .tables .entries) (stored-lengths (s .tables .entries) (ok .tables .shortest))
+
+    count : length all ≤ 256
+    count = omega (arith, gathered-few (asked q) (s .control .rows) (s .tables) (ok .tables .within), sizes-fit (s .control .rows) (ok .rows))
+
+    kept : EveryLength 220 (keep (hasKey (shortKey (q .key))) all)
+    kept = keep-lengths 220 (hasKey (shortKey (q .key))) all lengths
+
+    fewer : length (keep (hasKey (shortKey (q .key))) all) ≤ 256
+    fewer = omega (arith, keep-fewer (hasKey (shortKey (q .key))) all, count)
+
+    whole : (xs : List (List ℕ)) → EveryLength 220 xs → length xs ≤ 256 → Small xs
+    whole xs h c = few-small 220 256 xs h c (omega arith)
+
+-- ---- answers
+
+answer-small : (s : State) (c : Command) → Formed c → Sound s → Small (answer s c .records)
+unfolding answer openStream closeStream arbitrate
+answer-small s cramped f ok = none-small
+answer-small s malformed f ok = none-small
+answer-small s (OPEN n) f ok = none-small
+answer-small s (CLOSE n) f ok =
+    choose (eqb (closeReason (s .control .streams) n) 0) _ _ (close-small (s .control .streams) n (ok .streams .thirty-two)) none-small
+answer-small s (ARBITRATE n h) f ok =
+    let r = arbitrateReason (s .control .device) (s .control .streams) n h in
+    choose (eqb r 0) _ _ (bind-small (s .control .streams) n h (ok .streams .thirty-two))
+    (choose (between 5 9 r) _ _ (close-small (s .control .streams) n (ok .streams .thirty-two)) none-small)
+answer-small s (CONFIGURE h rows) f ok = none-small
+answer-small s (WRITE h atomicity us) f ok = go (accepted s (WRITE h atomicity us))
+  where
+    go : (b : Bool) → Small ((if b then record { reason = headOf (batchOf s h us .reasons); records = map pairOf (batchOf s h us .reasons) } else
+        plain (refusal s (WRITE h atomicity us))) .records)
+    go true = pairs-small s h us (f .0)
+    go false = none-small
+answer-small s (READ q) f ok = go (accepted s (READ q))
+  where
+    go : (b : Bool) → Small ((if b then record { reason = 0; records = shown s q } else plain (refusal s (READ q))) .records)
+    go true = read-small s q ok
+    go false = none-small
+
+pub reply-fits : (s : State) (c : Command) → Formed c → Sound s → length (reply s c .written) ≤ 56_324
+unfolding reply replyOf answerBytes bytesOf
+reply-fits s c f ok = go (eqb (answer s c .reason) 2)
+  where
+    go : (b : Bool) → length (if b then [] else answerBytes (answer s c)) ≤ 56_324
+    go true = omega arith
+    go false = omega (arith, answer-small s c f ok)
+
+-- after every list of calls
+pub answer-fits : (room device : ℕ) (before : List Call) (c : Call) → length (replyAfter room device before c .written) ≤ 56_324
+unfolding replyAfter
+answer-fits room device before c =
+    reply-fits (run (fresh device) (commandsOf room before)) (commandOf room c) (call-formed room c) (sound room device before)

@@ -1,0 +1,99 @@
+-- Every list of calls leaves a sound agent: a fresh one is sound, and no call breaks it. Assumes nothing.
+use Prim.Native.Nat.{ℕ, _≤_}
+use mathlib.Core.Path.{_≡_, refl}
+use mathlib.Core.Bool.{Bool, true, false, _&&_}
+use mathlib.Core.List.{List, [], _∷_, map}
+use native.Mathlib.Omega.{arith}
+use lib.Dec.{eqb, leb}
+use borrow.Author.Tests.{eqb-true, leb-true, not-false}
+use Rattle.rules.specs.Bytes.{if_then_else_, every, sum, distinct}
+use Rattle.rules.specs.Frame.{Head, Update, Command, cramped, malformed, OPEN, CLOSE, ARBITRATE, CONFIGURE, WRITE, READ}
+use Rattle.rules.specs.Streams.{markOf}
+use Rattle.rules.specs.Row.{Row, rowOf, rowAllowed, rowsAllowed, configurationAllowed, unusedZero}
+use Rattle.rules.specs.Update.{noEntries}
+use Rattle.rules.specs.Call.{Control, State, Call, fresh, configureReason, refusal, accepted, withRows, nextControl, batchOf, nextTables, next, commandOf, run}
+use Rattle.rules.specs.Agreement.{commandsOf}
+use Rattle.rules.specs.Sound.{SoundTables, Sound}
+use Rattle.rules.proofs.Tests.{and-true}
+use Rattle.rules.proofs.Orders.{first-clear}
+use Rattle.rules.proofs.Formed.{Whole, Formed, EveryFormed, calls-formed}
+use Rattle.rules.proofs.Streams.{fresh-sound}
+use Rattle.rules.proofs.Tables.{batch-sound, none-sound}
+use Rattle.rules.proofs.Authority.{next-streams, next-mark}
+
+-- ---- rows that 14 allows
+
+abbrev ids : List Row → List ℕ
+ids rows = map (λ (r : Row). r .table) rows
+
+pub ids-distinct : (rows : List Row) → rowsAllowed rows ≡ true → distinct (ids rows) ≡ true
+unfolding rowsAllowed
+ids-distinct rows h = and-true (every rowAllowed rows) (distinct (ids rows)) (and-true (every rowAllowed rows && distinct (ids rows)) _ h .0) .1
+
+pub sizes-fit : (rows : List Row) → rowsAllowed rows ≡ true → sum (map (λ (r : Row). r .size) rows) ≤ 256
+unfolding rowsAllowed
+sizes-fit rows h = leb-true _ 256 (and-true (every rowAllowed rows && distinct (ids rows)) _ h .1)
+
+-- an accepted CONFIGURE passed 14
+passed-14 : (s : State) (h : Head) (rows : List (List ℕ)) → accepted s (CONFIGURE h rows) ≡ true → rowsAllowed (map rowOf rows) ≡ true
+unfolding refusal configureReason configurationAllowed
+passed-14 s h rows a =
+    let c = first-clear _ refl (eqb-true _ _ a) in
+    and-true (rowsAllowed (map rowOf rows)) (every unusedZero rows) (not-false _ (c .1 .1 .1 .1 .0)) .0
+
+-- ---- a call
+
+configure-sound : (s : State) (h : Head) (rows : List (List ℕ)) → Sound s
+    → (rowsAllowed (nextControl s (CONFIGURE h rows) .rows) ≡ true)
+    × SoundTables (nextControl s (CONFIGURE h rows) .rows) (nextTables s (CONFIGURE h rows))
+unfolding nextControl nextTables
+configure-sound s h rows ok = go (accepted s (CONFIGURE h rows)) refl
+  where
+    go : (b : Bool) → accepted s (CONFIGURE h rows) ≡ b
+        → (rowsAllowed ((if b then withRows (s .control) (map rowOf rows) else s .control) .rows) ≡ true)
+        × SoundTables ((if b then withRows (s .control) (map rowOf rows) else s .control) .rows) (if b then noEntries else s .tables)
+    go true q = (passed-14 s h rows q, none-sound (map rowOf rows))
+    go false q = (ok .rows, ok .tables)
+
+write-sound : (s : State) (h : Head) (atomicity : ℕ) (us : List Update) → Whole us → Sound s
+    → SoundTables (s .control .rows) (nextTables s (WRITE h atomicity us))
+unfolding nextTables
+write-sound s h atomicity us w ok = go (accepted s (WRITE h atomicity us))
+  where
+    go : (b : Bool) → SoundTables (s .control .rows) (if b then batchOf s h us .tables else s .tables)
+    go true = batch-sound (s .control .rows) (ids-distinct (s .control .rows) (ok .rows)) (h .role) (s .tables) us w (ok .tables)
+    go false = ok .tables
+
+pub next-sound : (s : State) (c : Command) → Formed c → Sound s → Sound (next s c)
+unfolding next nextControl nextTables
+next-sound s cramped f ok = ok
+next-sound s malformed f ok = ok
+next-sound s (OPEN n) f ok = record { streams = next-streams s (OPEN n) (ok .streams); rows = ok .rows; tables = ok .tables }
+next-sound s (CLOSE n) f ok = record { streams = next-streams s (CLOSE n) (ok .streams); rows = ok .rows; tables = ok .tables }
+next-sound s (ARBITRATE n h) f ok = record { streams = next-streams s (ARBITRATE n h) (ok .streams); rows = ok .rows; tables = ok .tables }
+next-sound s (CONFIGURE h rows) f ok =
+    let w = configure-sound s h rows ok in
+    record { streams = next-streams s (CONFIGURE h rows) (ok .streams); rows = w .0; tables = w .1 }
+next-sound s (WRITE h atomicity us) f ok = record { streams = ok .streams; rows = ok .rows; tables = write-sound s h atomicity us (f .1) ok }
+next-sound s (READ q) f ok = ok
+
+-- ---- lists of calls
+
+pub run-sound : (s : State) (cs : List Command) → EveryFormed cs → Sound s → Sound (run s cs)
+unfolding run
+run-sound s [] f ok = ok
+run-sound s (c ∷ cs) f ok = run-sound (next s c) cs (f .1) (next-sound s c (f .0) ok)
+
+pub fresh-agent : (device : ℕ) → Sound (fresh device)
+unfolding fresh rowsAllowed
+fresh-agent device = record { streams = fresh-sound; rows = refl; tables = none-sound [] }
+
+-- after every list of calls from a fresh agent
+pub sound : (room device : ℕ) (calls : List Call) → Sound (run (fresh device) (commandsOf room calls))
+sound room device calls = run-sound (fresh device) (commandsOf room calls) (calls-formed room calls) (fresh-agent device)
+
+-- a mark never falls
+pub mark-stays : (s : State) (c : Command) (role : ℕ) → Sound s
+    → markOf (s .control .streams) role ≤ markOf (next s c .control .streams) role
+unfolding next
+mark-stays s c role ok = omega (arith, next-mark s c role (ok .streams))
