@@ -1,13 +1,13 @@
 -- The rules and looking back agree: the entries stored are at each call the entries present, and so is every answer.
 -- Assumes nothing.
-use Prim.Native.Nat.{ℕ, suc, _+_, _*_}
+use Prim.Native.Nat.{ℕ, _+_, _*_}
 use mathlib.Core.Path.{_≡_, refl, sym, _∙_, ap, ap₂, fun-ext, subst}
 use mathlib.Core.Bool.{Bool, true, false, _&&_, _||_, not, and-true}
 use mathlib.Core.Logic.{_⊎_, inl, inr, ⊎-elim, _↔_}
 use mathlib.Core.List.{List, [], _∷_, _++_, map, append-assoc}
 use native.Mathlib.Omega.{arith}
 use lib.Dec.{eqb}
-use lib.ListN.{length, take, drop, length-append}
+use lib.ListN.{length}
 use lib.Seq.{drop-at}
 use borrow.Author.Tests.{eqb-true, eqb-false, eq-eqb, ne-eqb}
 use Rattle.rules.specs.Bytes.{if_then_else_, keep, every, concat, same, bytesOf}
@@ -17,9 +17,9 @@ use Rattle.rules.specs.Streams.{Stream, closed, unbound, bound, orderOf,
 use Rattle.rules.specs.Row.{Row, mayWrite}
 use Rattle.rules.specs.Key.{keyOf, hasKey, shortKey, tableOf}
 use Rattle.rules.specs.Entry.{shortEntry}
-use Rattle.rules.specs.Update.{Tables, noEntries, inTable, judge, perform, apply, batch}
-use Rattle.rules.specs.Answer.{Answer, Reply, answerBytes, replyOf}
-use Rattle.rules.specs.Call.{State, Call, fresh, configureReason, writeReason, readReason, refusal, accepted, nextControl, nextTables, next, plain, pairOf, headOf, asked, shown, answer, commandOf, reply, run}
+use Rattle.rules.specs.Update.{Tables, noEntries, inTable, perform, apply, batch}
+use Rattle.rules.specs.Answer.{Answer, answerBytes, replyOf}
+use Rattle.rules.specs.Call.{State, Call, fresh, configureReason, writeReason, readReason, refusal, accepted, nextControl, nextTables, next, plain, pairOf, asked, shown, answer, commandOf, reply, run}
 use Rattle.rules.specs.LookBack.{Effect, inserted, modified, deleted, cleared, revise, present, Past, nothing, shows, effectOf, reasonAt, tookEffect, noteUpdate, noteUpdates, noted, note, lookBack, pairsSeen, someFailed, named, asksFor, readSeen, answerSeen, replySeen}
 use Rattle.rules.specs.Agreement.{commandsOf, replyAfter, pastOf, pairAt, Agreement}
 use Rattle.rules.proofs.Tests.{same-sym}

@@ -9,13 +9,13 @@ use lib.Dec.{eqb}
 use borrow.Author.Tests.{eqb-true, not-false}
 use Rattle.rules.specs.Bytes.{if_then_else_}
 use Rattle.rules.specs.Frame.{Head, Query, Command, cramped, malformed, OPEN, CLOSE, ARBITRATE, CONFIGURE, WRITE, READ}
-use Rattle.rules.specs.Streams.{closed, bound, Streams, noStreams, streamAt, markOf, byPrimary, openStream, closeStream, arbitrate}
+use Rattle.rules.specs.Streams.{closed, bound, Streams, streamAt, markOf, byPrimary}
 use Rattle.rules.specs.Row.{rowOf}
 use Rattle.rules.specs.Update.{noEntries}
-use Rattle.rules.specs.Call.{Control, State, Call, fresh, configureReason, writeReason, readReason, refusal, accepted, withStreams, withRows, nextControl, batchOf, nextTables, next, shown, answer, commandOf, reply, run}
+use Rattle.rules.specs.Call.{Control, State, Call, fresh, configureReason, writeReason, readReason, refusal, accepted, withRows, nextControl, batchOf, nextTables, next, shown, answer, commandOf, reply, run}
 use Rattle.rules.specs.LookBack.{Past, nothing, shows, note, lookBack}
 use Rattle.rules.specs.Agreement.{commandsOf, pastOf}
-use Rattle.rules.specs.Authority.{Event, history, eventsOf, idFor, highest, leaves, holding, Held, Gives, Authority}
+use Rattle.rules.specs.Authority.{history, eventsOf, idFor, highest, leaves, holding, Held, Gives, Authority}
 use Rattle.rules.specs.Sound.{SoundStreams}
 use Rattle.rules.proofs.Orders.{first-clear}
 use Rattle.rules.proofs.Formed.{Formed, EveryFormed, calls-formed}

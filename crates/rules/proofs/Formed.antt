@@ -1,15 +1,15 @@
 -- What a frame reads as has operands in range and parts of full length, since the reader tests length and counts.
 -- Assumes nothing.
 use Prim.Native.Nat.{ℕ, zero, suc, _+_, _-_, _*_, _≤_}
-use mathlib.Core.Path.{_≡_, refl, sym, _∙_}
+use mathlib.Core.Path.{_≡_, refl}
 use mathlib.Core.Bool.{Bool, true, false, _&&_}
 use mathlib.Core.List.{List, [], _∷_, _++_, map}
 use native.Mathlib.Omega.{arith}
-use lib.Dec.{eqb, leb}
-use lib.ListN.{length, take, drop, length-take, length-drop, length-append, length-map}
+use lib.Dec.{eqb}
+use lib.ListN.{length, drop, length-take, length-drop, length-append, length-map}
 use borrow.Author.Tests.{eqb-true, leb-true}
-use Rattle.rules.specs.Bytes.{if_then_else_, byte, between, part, parts}
-use Rattle.rules.specs.Frame.{Head, Update, Query, Command, cramped, malformed, OPEN, CLOSE, ARBITRATE, CONFIGURE, WRITE, READ, updateOf, flagFits, streamFits, streamFormed, arbitrateFormed, configureFormed, writeFormed, readFormed, formed, configureOf, writeOf, byCommand, readFrame}
+use Rattle.rules.specs.Bytes.{if_then_else_, byte, part, parts}
+use Rattle.rules.specs.Frame.{Update, Command, cramped, malformed, OPEN, CLOSE, ARBITRATE, CONFIGURE, WRITE, READ, updateOf, flagFits, streamFits, streamFormed, arbitrateFormed, configureFormed, writeFormed, readFormed, configureOf, writeOf, byCommand, readFrame}
 use Rattle.rules.specs.Call.{Call, roomy, commandOf}
 use Rattle.rules.proofs.Tests.{and-true}
 

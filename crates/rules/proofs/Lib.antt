@@ -16,3 +16,5 @@ pub mod Sizes
 pub mod Effects
 pub mod Agreement
 pub mod Authority
+pub mod Members
+pub mod Presence

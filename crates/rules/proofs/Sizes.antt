@@ -14,7 +14,7 @@ use Rattle.rules.specs.Streams.{Stream, closed, unbound, bound, Streams,
 use Rattle.rules.specs.Row.{Row}
 use Rattle.rules.specs.Key.{hasKey, shortKey}
 use Rattle.rules.specs.Update.{Tables, inTable, held, judge, apply, batch}
-use Rattle.rules.specs.Answer.{Answer, answerBytes, replyOf}
+use Rattle.rules.specs.Answer.{answerBytes, replyOf}
 use Rattle.rules.specs.Call.{State, Call, fresh, refusal, accepted, plain, pairOf, headOf, batchOf, asked, shown, answer, commandOf, reply, run}
 use Rattle.rules.specs.Agreement.{commandsOf, replyAfter}
 use Rattle.rules.specs.Sound.{EveryStored, Within, Sound}

@@ -4,14 +4,13 @@ use mathlib.Core.Path.{_≡_, refl}
 use mathlib.Core.Bool.{Bool, true, false, _&&_}
 use mathlib.Core.List.{List, [], _∷_, map}
 use native.Mathlib.Omega.{arith}
-use lib.Dec.{eqb, leb}
 use borrow.Author.Tests.{eqb-true, leb-true, not-false}
 use Rattle.rules.specs.Bytes.{if_then_else_, every, sum, distinct}
 use Rattle.rules.specs.Frame.{Head, Update, Command, cramped, malformed, OPEN, CLOSE, ARBITRATE, CONFIGURE, WRITE, READ}
 use Rattle.rules.specs.Streams.{markOf}
 use Rattle.rules.specs.Row.{Row, rowOf, rowAllowed, rowsAllowed, configurationAllowed, unusedZero}
 use Rattle.rules.specs.Update.{noEntries}
-use Rattle.rules.specs.Call.{Control, State, Call, fresh, configureReason, refusal, accepted, withRows, nextControl, batchOf, nextTables, next, commandOf, run}
+use Rattle.rules.specs.Call.{State, Call, fresh, configureReason, refusal, accepted, withRows, nextControl, batchOf, nextTables, next, run}
 use Rattle.rules.specs.Agreement.{commandsOf}
 use Rattle.rules.specs.Sound.{SoundTables, Sound}
 use Rattle.rules.proofs.Tests.{and-true}

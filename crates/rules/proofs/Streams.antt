@@ -2,13 +2,13 @@
 -- the mark rises with it. Assumes nothing.
 use Prim.Native.Nat.{ℕ, zero, suc, _+_, _≤_, _<_, max}
 use mathlib.Core.Path.{_≡_, refl, sym, ap, subst, _∙_}
-use mathlib.Core.Bool.{Bool, true, false, _&&_, _||_, not, false≢true}
+use mathlib.Core.Bool.{Bool, true, false, _&&_, not, false≢true}
 use mathlib.Core.List.{List, [], _∷_}
 use mathlib.Core.Logic.{_⊎_, inl, inr, ⊎-elim}
 use mathlib.Core.Option.{Option, none, some}
 use native.Mathlib.Nat.{add-zero, add-suc, suc-add}
 use native.Mathlib.Omega.{arith}
-use lib.Dec.{eqb, leb, ltb}
+use lib.Dec.{eqb}
 use lib.Seq.{getD-set-same, getD-set-other}
 use lib.ListN.{length, getD, set, length-set, replicate}
 use borrow.Author.Tests.{eqb-true, eqb-false, ltb-false, ne-eqb, eq-eqb, not-true, not-false}
@@ -17,7 +17,7 @@ use Rattle.rules.specs.Reason.{first}
 use Rattle.rules.specs.Frame.{Head}
 use Rattle.rules.specs.Streams.{Stream, closed, unbound, bound, Streams, noStreams, streamAt, markOf, holds, numbers, head, primary, isSome, byPrimary, become, openReason, openStream, closeReason, closeStream, heldElsewhere, orderOf, arbitrateReason, binds, arbitrate}
 use Rattle.rules.specs.Sound.{SoundStreams}
-use Rattle.rules.proofs.Tests.{and-true, and-false, or-false, clash}
+use Rattle.rules.proofs.Tests.{and-true, and-false, or-false}
 use Rattle.rules.proofs.Orders.{first-clear}
 
 -- ---- one place of a list

@@ -1,22 +1,21 @@
 -- No update breaks what is sound of the entries: an INSERT passes 15, 20, 22 and 24, a MODIFY keeps every key, a DELETE only
 -- takes away. Assumes nothing.
 use Prim.Native.Nat.{ℕ, suc, _+_, _≤_, _<_}
-use mathlib.Core.Path.{_≡_, refl, sym, _∙_, ap, subst}
-use mathlib.Core.Bool.{Bool, true, false, _&&_, _||_, not, false≢true}
-use mathlib.Core.Logic.{⊎-elim}
+use mathlib.Core.Path.{_≡_, refl, sym, _∙_, ap}
+use mathlib.Core.Bool.{Bool, true, false, _||_, not, false≢true}
 use mathlib.Core.List.{List, [], _∷_, _++_, map}
 use native.Mathlib.Omega.{arith}
 use lib.Dec.{eqb, leb}
 use lib.ListN.{length, length-append, length-map}
-use borrow.Author.Tests.{eqb-true, eqb-false, eq-eqb, ne-eqb, leb-false, not-true, not-false}
-use Rattle.rules.specs.Bytes.{if_then_else_, keep, every, some-of, distinct, same}
+use borrow.Author.Tests.{eqb-true, eqb-false, eq-eqb, ne-eqb, leb-false, not-false}
+use Rattle.rules.specs.Bytes.{if_then_else_, keep, every, some-of, distinct}
 use Rattle.rules.specs.Frame.{Update}
 use Rattle.rules.specs.Row.{Row, known, rowFor}
 use Rattle.rules.specs.Key.{tableOf, keyOf, hasKey, shortKey}
 use Rattle.rules.specs.Entry.{shortEntry}
 use Rattle.rules.specs.Update.{Tables, noEntries, inTable, stored, held, isInsert, isModify, judge, perform, apply, batch}
 use Rattle.rules.specs.Sound.{Stored, EveryStored, Distinct, Within, SoundTables}
-use Rattle.rules.proofs.Tests.{either, clash, or-false, and-true, and-false, same-true, ne-same, eq-same, same-sym}
+use Rattle.rules.proofs.Tests.{or-false, and-true, and-false, same-true, same-sym}
 use Rattle.rules.proofs.Orders.{first-clear}
 use Rattle.rules.proofs.Formed.{Whole}
 use Rattle.rules.proofs.Shortest.{entry-length, entry-again, key-of-short, table-of-short, table-of-key}

@@ -8,7 +8,7 @@ use Prim.Native.Nat.{ℕ, _+_, _*_}
 use lib.ListN.{length, take, drop}
 use Rattle.rules.specs.Frame.{Head, Update, Command, WRITE}
 use Rattle.rules.specs.Answer.{Reply}
-use Rattle.rules.specs.Call.{Call, State, fresh, accepted, commandOf, reply, run}
+use Rattle.rules.specs.Call.{Call, fresh, accepted, commandOf, reply, run}
 use Rattle.rules.specs.LookBack.{Past, nothing, shows, tookEffect, noteUpdates, lookBack, replySeen}
 
 -- the commands of calls, with a store of `room` bytes

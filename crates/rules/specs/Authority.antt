@@ -1,14 +1,14 @@
 -- Who may change entries, read off a list of calls: the highest id, what each stream holds, and the live primary
 -- (document 01, "Looking back"). Assumes nothing.
 use mathlib.Core.Path.{_≡_}
-use mathlib.Core.Bool.{Bool, true, _&&_}
+use mathlib.Core.Bool.{true, _&&_}
 use mathlib.Core.List.{List, [], _∷_}
 use Prim.Native.Nat.{ℕ, _<_, max}
 use lib.Dec.{eqb}
 use Rattle.rules.specs.Bytes.{if_then_else_, between}
-use Rattle.rules.specs.Frame.{Head, Query, Command, cramped, malformed, OPEN, CLOSE, ARBITRATE, CONFIGURE, WRITE, READ}
+use Rattle.rules.specs.Frame.{Query, Command, cramped, malformed, OPEN, CLOSE, ARBITRATE, CONFIGURE, WRITE, READ}
 use Rattle.rules.specs.Streams.{Stream, closed, unbound, bound}
-use Rattle.rules.specs.Call.{State, Call, refusal, accepted, fresh, next, run, reply, commandOf}
+use Rattle.rules.specs.Call.{Call, refusal, accepted, fresh, next, run, reply, commandOf}
 use Rattle.rules.specs.LookBack.{Past, nothing, shows, note}
 use Rattle.rules.specs.Agreement.{commandsOf, pastOf}
 

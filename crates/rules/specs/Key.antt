@@ -3,7 +3,7 @@
 use mathlib.Core.Bool.{Bool, true, false, _&&_, _||_, not}
 use mathlib.Core.List.{List, [], _∷_, _++_, map}
 use Prim.Native.Nat.{ℕ, zero, suc, _+_, _-_, _/_, _%_, _^_}
-use lib.Dec.{eqb, leb, ltb}
+use lib.Dec.{eqb, leb}
 use lib.ListN.{take, drop}
 use Rattle.rules.specs.Bytes.{if_then_else_, between, every, some-of, concat, part, parts, int, allZero, same, byte}
 use Rattle.rules.specs.Row.{Field, Row}

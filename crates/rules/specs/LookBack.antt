@@ -3,16 +3,16 @@
 -- Shared with the rules: the orders of refusals, what calls make of streams, marks and rows, and `judge` of one update. Defined
 -- here, from the effects alone: the entries present, a batch, the pairs of a WRITE, the records of a READ. Assumes nothing.
 use mathlib.Core.Bool.{Bool, true, false, _&&_, _||_, not}
-use mathlib.Core.List.{List, [], _∷_, _++_, map}
+use mathlib.Core.List.{List, [], _∷_, _++_}
 use Prim.Native.Nat.{ℕ}
-use lib.Dec.{eqb, leb, ltb}
-use Rattle.rules.specs.Bytes.{if_then_else_, keep, some-of, same}
-use Rattle.rules.specs.Frame.{Head, Update, Query, Command, cramped, malformed, OPEN, CLOSE, ARBITRATE, CONFIGURE, WRITE, READ}
+use lib.Dec.{eqb}
+use Rattle.rules.specs.Bytes.{if_then_else_, keep, same}
+use Rattle.rules.specs.Frame.{Update, Query, Command, cramped, malformed, OPEN, CLOSE, ARBITRATE, CONFIGURE, WRITE, READ}
 use Rattle.rules.specs.Streams.{openStream, closeStream, arbitrate}
 use Rattle.rules.specs.Row.{Row, mayWrite}
 use Rattle.rules.specs.Key.{tableOf, shortKey, keyOf}
 use Rattle.rules.specs.Entry.{shortEntry}
-use Rattle.rules.specs.Update.{Tables, judge}
+use Rattle.rules.specs.Update.{judge}
 use Rattle.rules.specs.Answer.{Answer, Reply, replyOf}
 use Rattle.rules.specs.Call.{Control, State, fresh, refusal, accepted, nextControl, heard, plain, pairOf}
 

@@ -1,17 +1,17 @@
 -- What every list of calls leaves: the invariants of streams, rows and entries that the layers above rest on.
 -- Assumes nothing.
 use mathlib.Core.Path.{_≡_}
-use mathlib.Core.Bool.{Bool, true, false}
+use mathlib.Core.Bool.{true, false}
 use mathlib.Core.List.{List, [], _∷_}
 use Prim.Native.Nat.{ℕ, _≤_, _<_}
 use lib.ListN.{length}
 use Rattle.rules.specs.Bytes.{every}
-use Rattle.rules.specs.Streams.{Stream, bound, Streams, streamAt, markOf}
+use Rattle.rules.specs.Streams.{bound, Streams, streamAt, markOf}
 use Rattle.rules.specs.Row.{Row, rowsAllowed, known}
 use Rattle.rules.specs.Key.{tableOf, keyOf}
 use Rattle.rules.specs.Entry.{shortEntry}
 use Rattle.rules.specs.Update.{Tables, stored, held}
-use Rattle.rules.specs.Call.{Control, State}
+use Rattle.rules.specs.Call.{State}
 
 -- of streams and marks
 pub record SoundStreams (e : Streams) : Type 0 where
