@@ -1,0 +1,3 @@
+-- Laws of byte slices.
+pub mod Splice
+pub mod Words
