@@ -10,7 +10,7 @@ use lib.Dec.{eqb}
 use lib.ListN.{length, getD, length-append, length-map, length-set}
 use Rattle.rules.specs.Bytes.{if_then_else_, keep, concat, sum, between, bytesOf}
 use Rattle.rules.specs.Frame.{Head, Update, Query, Command, cramped, malformed, OPEN, CLOSE, ARBITRATE, CONFIGURE, WRITE, READ}
-use Rattle.rules.specs.Streams.{Stream, closed, unbound, bound, Streams, numbers, inRole, members, notification, notifyAll, is, primary, become, streamAt, leaving, closeReason, openStream, closeRecords, closeStream, arbitrateReason, binds, samePair, bindRecords, arbitrate}
+use Rattle.rules.specs.Streams.{Stream, closed, unbound, bound, Streams, numbers, inRole, members, noticeOf, notification, notifyAll, is, primary, become, streamAt, leaving, closeReason, openStream, closeRecords, closeStream, arbitrateReason, binds, samePair, bindRecords, arbitrate}
 use Rattle.rules.specs.Row.{Row}
 use Rattle.rules.specs.Key.{hasKey, shortKey}
 use Rattle.rules.specs.Update.{Tables, inTable, held, judge, apply, batch}
@@ -66,7 +66,7 @@ bytes-length zero x = refl
 bytes-length (suc n) x = omega (arith, length-append (bytesOf n (x / 256)) (x % 256 ∷ []), bytes-length n (x / 256))
 
 notification-length : (e : Streams) (r s : ℕ) → length (notification e r s) ≡ 20
-unfolding notification
+unfolding noticeOf
 notification-length e r s = omega (arith, bytes-length 16 (getD (e .marks) r 0))
 
 numbers-few : (p : Stream → Bool) (k : ℕ) (l : List Stream) → length (numbers p k l) ≤ length l
