@@ -90,10 +90,12 @@ impl Stream {
         ensures { λ r. ⌜ bindingOf r ≡ streamOf self ⌝ }
     {
         let phase = self.phase;
+        let role = self.role;
+        let id = self.id;
         match phase {
             0 => Binding::Closed,
             1 => Binding::Open,
-            2 => Binding::Bound(self.role, self.id),
+            2 => Binding::Bound(role, id),
             3..=255 => Binding::Closed,
         }
     }

@@ -125,7 +125,7 @@ impl Number {
             if 16 <= i {
                 return whole;
             }
-            whole = shifted(whole, v[i + 1]);
+            whole = shifted(whole, v[1 + i]);
             i += 1;
         }
         whole
@@ -152,10 +152,10 @@ impl Number {
     pub fn below(self, other: Number) -> bool
         ensures { λ r. ⌜ r ≡ ltb (wholeOf self) (wholeOf other) ⌝ }
     {
-        if self.high == other.high {
-            return self.low < other.low;
+        if self.high != other.high {
+            return self.high < other.high;
         }
-        self.high < other.high
+        self.low < other.low
     }
 
     pub fn at_most(self, other: Number) -> bool

@@ -1,0 +1,5 @@
+-- Laws of numbers of up to 128 bits.
+pub mod Tests
+pub mod Bytes
+pub mod Halves
+pub mod Bits
