@@ -1,4 +1,4 @@
--- Shifts, remainders and masks of a number, by its halves. Assumes nothing.
+-- The bits of a number are those of its two halves, so remainders and masks go by halves. Assumes nothing.
 use Prim.Native.Nat.{ℕ, zero, suc, _+_, _*_, _-_, _^_, _≤_, _<_, _/_, _%_, min}
 use native.Mathlib.Nat.{one-mul, mod-eq-of-lt, mul-assoc, mul-add-mod-self-right, lt-of-le-of-lt, pow-suc}
 use native.Mathlib.Omega.{arith}

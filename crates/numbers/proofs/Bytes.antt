@@ -1,4 +1,4 @@
--- Big-endian numbers: bytes read one after another, and bytes written in two parts. Assumes nothing.
+-- A byte more moves what stands before it up by 256, so bytes read or written in parts are those of the whole. Assumes nothing.
 use Prim.Native.Nat.{ℕ, zero, suc, _+_, _*_, _/_, _%_, _^_, _<_, _≤_}
 use native.Mathlib.Nat.{add-zero, add-suc, pow-suc, mul-add-div-right, mul-add-mod-self-right, div-lt-iff-lt-mul}
 use native.Mathlib.Numerals.{add-one}

@@ -60,7 +60,7 @@ none-small = omega arith
 
 -- ---- notifications
 
-bytes-length : (n x : ℕ) → length (bytesOf n x) ≡ n
+pub bytes-length : (n x : ℕ) → length (bytesOf n x) ≡ n
 unfolding bytesOf
 bytes-length zero x = refl
 bytes-length (suc n) x = omega (arith, length-append (bytesOf n (x / 256)) (x % 256 ∷ []), bytes-length n (x / 256))
