@@ -1,11 +1,10 @@
 -- What the values of this crate mean in the rules' terms. Assumes nothing.
-use mathlib.Core.Path.{_≡_}
-use mathlib.Core.Bool.{Bool, true, _&&_}
+use mathlib.Core.Bool.{Bool, _&&_}
 use mathlib.Core.List.{List, map}
-use Prim.Native.Nat.{ℕ, _≤_}
+use Prim.Native.Nat.{ℕ, _*_}
 use lib.Dec.{leb}
-use lib.ListN.{take}
-use Rattle.rules.specs.Bytes.{every, byte, parts}
+use lib.ListN.{take, drop}
+use Rattle.rules.specs.Bytes.{between, every, distinct, parts, allZero}
 use Rattle.rules.specs.Row as rules
 use Rattle.rows.specs.declared.Field.{Field}
 use Rattle.rows.specs.declared.Action.{Action}
@@ -37,3 +36,36 @@ unfoldable pub countsFit : List ℕ → Bool
 countsFit b =
     leb (rules.fieldCount b) 4 && leb (rules.actionCount b) 4
     && every (λ (a : List ℕ). leb (rules.parameterCount a) 4) (parts (rules.actionCount b) 9 (rules.actionBytes b))
+
+-- ---- the parts of 14 that single functions decide, on the bytes of a row
+
+-- its fields
+unfoldable pub fieldsPass : List ℕ → Bool
+fieldsPass b =
+    between 1 4 (rules.fieldCount b)
+    && every rules.fieldAllowed (map rules.fieldOf (parts (rules.fieldCount b) 2 (rules.fieldBytes b)))
+    && allZero (drop (2 * rules.fieldCount b) (rules.fieldBytes b))
+
+-- one action
+unfoldable pub actionPasses : List ℕ → Bool
+actionPasses a = rules.actionAllowed (rules.actionOf a) && rules.unusedWidths a
+
+-- the ids of its first n actions
+unfoldable pub actionIds : ℕ → List ℕ → List ℕ
+actionIds n b = map (λ (a : List ℕ). rules.actionOf a .id) (parts n 9 (rules.actionBytes b))
+
+-- its actions
+unfoldable pub actionsPass : List ℕ → Bool
+actionsPass b =
+    between 1 4 (rules.actionCount b)
+    && every actionPasses (parts (rules.actionCount b) 9 (rules.actionBytes b))
+    && distinct (actionIds (rules.actionCount b) b)
+    && allZero (drop (9 * rules.actionCount b) (rules.actionBytes b))
+
+-- ---- of the rows in force
+
+unfoldable pub tablesOf : Rows → List ℕ
+tablesOf c = map (λ (r : rules.Row). r .table) (rowsOf c)
+
+unfoldable pub sizesOf : Rows → List ℕ
+sizesOf c = map (λ (r : rules.Row). r .size) (rowsOf c)

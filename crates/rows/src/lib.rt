@@ -1,13 +1,14 @@
 // Configuration rows: their type, reading them from 53 bytes each, and reason 14 (document 01, "Frames" and 14).
 ghost use mathlib.Core.Path.{_≡_};
 ghost use mathlib.Core.Bool.{true, _&&_};
-ghost use mathlib.Core.List.{map};
+ghost use mathlib.Core.List.{[], map};
 ghost use Prim.Native.Nat.{_+_, _*_, _≤_, _<_};
-ghost use lib.ListN.{length, take, drop};
-ghost use lib.Dec.{eqb, leb};
-ghost use Rattle.rules.specs.Bytes.{every, distinct, part, parts, sum};
+ghost use lib.ListN.{length, drop};
+ghost use lib.Dec.{eqb};
+ghost use Rattle.rules.specs.Bytes.{some-of, distinct, part, parts, sum};
+ghost use Rattle.rules.specs.Call.{unconfigured};
 ghost use Rattle.rules.specs.Row as rules;
-ghost use Rattle.rows.specs.Meaning.{fieldOf, actionOf, rowOf, rowsOf, countsFit};
+ghost use Rattle.rows.specs.Meaning.{fieldOf, actionOf, rowOf, rowsOf, tablesOf, sizesOf, countsFit, fieldsPass, actionPasses, actionIds, actionsPass};
 use numbers::integer;
 
 // A match field: a kind and a width in bits.
@@ -147,5 +148,246 @@ impl Row {
         ensures { λ r. ⌜ r ≡ rules.mayWrite role (rowOf self) ⌝ }
     {
         role == 0 || self.owner == role
+    }
+}
+
+// ---- reason 14, on the 53 bytes of a row
+
+// Kinds 1 to 5 and widths 1 to 128 of the fields, 1 to 4 of them, and nothing past their count.
+fn fields_allowed(b: &[u8]) -> bool
+    requires { ⌜ length (now b) ≡ 53 ⌝ }
+    ensures { λ r. ⌜ r ≡ fieldsPass (now (b .entry)) ⌝ }
+{
+    let n = b[7] as usize;
+    if n == 0 {
+        return false;
+    }
+    if 4 < n {
+        return false;
+    }
+    let mut i: usize = 0;
+    while i < n {
+        let f = Field::at(b, 8 + 2 * i);
+        if !f.allowed() {
+            return false;
+        }
+        i += 1;
+    }
+    let past = 8 + 2 * n;
+    buffers::all_zero(&b[past..16])
+}
+
+// An action of nine bytes: 01 in its id's top byte, at most four parameters, widths 1 to 128, and nothing past their count.
+fn action_allowed(a: &[u8]) -> bool
+    requires { ⌜ length (now a) ≡ 9 ⌝ }
+    ensures { λ r. ⌜ r ≡ actionPasses (now (a .entry)) ⌝ }
+{
+    if a[0] != 1 {
+        return false;
+    }
+    let n = a[4] as usize;
+    if 4 < n {
+        return false;
+    }
+    let mut i: usize = 0;
+    while i < n {
+        if !width_allowed(a[5 + i]) {
+            return false;
+        }
+        i += 1;
+    }
+    let past = 5 + n;
+    buffers::all_zero(&a[past..9])
+}
+
+// Whether one of the actions from `from` on, of n, has the id.
+fn action_repeated(b: &[u8], id: u64, from: usize, n: usize) -> bool
+    requires { ⌜ (length (now b) ≡ 53) × (n ≤ 4) ⌝ }
+    ensures { λ r. ⌜ r ≡ some-of (eqb id) (drop from (actionIds n (now (b .entry)))) ⌝ }
+{
+    let mut j = from;
+    while j < n {
+        if integer(b, 17 + 9 * j, 4) == id {
+            return true;
+        }
+        j += 1;
+    }
+    false
+}
+
+// The actions, 1 to 4 of them, no id repeated, and nothing past their count.
+fn actions_allowed(b: &[u8]) -> bool
+    requires { ⌜ length (now b) ≡ 53 ⌝ }
+    ensures { λ r. ⌜ r ≡ actionsPass (now (b .entry)) ⌝ }
+{
+    let n = b[16] as usize;
+    if n == 0 {
+        return false;
+    }
+    if 4 < n {
+        return false;
+    }
+    let mut i: usize = 0;
+    while i < n {
+        let at = 17 + 9 * i;
+        let end = at + 9;
+        if !action_allowed(&b[at..end]) {
+            return false;
+        }
+        if action_repeated(b, integer(b, at, 4), i + 1, n) {
+            return false;
+        }
+        i += 1;
+    }
+    let past = 17 + 9 * n;
+    buffers::all_zero(&b[past..53])
+}
+
+// A row by itself: 02 in its table id's top byte, owner 0 to 7, a size, its fields and its actions.
+fn row_allowed(b: &[u8]) -> bool
+    requires { ⌜ length (now b) ≡ 53 ⌝ }
+    ensures { λ r. ⌜ r ≡ (rules.rowAllowed (rules.rowOf (now (b .entry))) && rules.unusedZero (now (b .entry))) ⌝ }
+{
+    if b[0] != 2 {
+        return false;
+    }
+    if 7 < b[4] {
+        return false;
+    }
+    if integer(b, 5, 2) == 0 {
+        return false;
+    }
+    if !fields_allowed(b) {
+        return false;
+    }
+    actions_allowed(b)
+}
+
+impl Rows {
+    // No configuration.
+    pub fn fresh() -> Rows
+        ensures { λ r. ⌜ rowsOf r ≡ [] ⌝ }
+    {
+        Rows {
+            rows: [Row::NONE; 8],
+            count: 0,
+        }
+    }
+
+    // Whether there is no configuration.
+    pub fn is_empty(self) -> bool
+        ensures { λ r. ⌜ r ≡ unconfigured (rowsOf self) ⌝ }
+    {
+        self.count == 0
+    }
+
+    // Whether a row from `from` on has the table id.
+    fn table_repeated(self, table: u32, from: usize) -> bool
+        ensures { λ r. ⌜ r ≡ some-of (eqb table) (drop from (tablesOf self)) ⌝ }
+    {
+        let n = self.count as usize;
+        let mut j = from;
+        while j < n {
+            if 8 <= j {
+                return false;
+            }
+            let row = self.rows[j];
+            if row.table == table {
+                return true;
+            }
+            j += 1;
+        }
+        false
+    }
+
+    // No table id is repeated.
+    fn tables_distinct(self) -> bool
+        ensures { λ r. ⌜ r ≡ distinct (tablesOf self) ⌝ }
+    {
+        let n = self.count as usize;
+        let mut i: usize = 0;
+        while i < n {
+            if 8 <= i {
+                return true;
+            }
+            let row = self.rows[i];
+            if self.table_repeated(row.table, i + 1) {
+                return false;
+            }
+            i += 1;
+        }
+        true
+    }
+
+    // The sizes of all rows together.
+    fn sizes(self) -> u64
+        ensures { λ r. ⌜ r ≡ sum (sizesOf self) ⌝ }
+    {
+        let n = self.count as usize;
+        let mut total: u64 = 0;
+        let mut i: usize = 0;
+        while i < n {
+            if 8 <= i {
+                return total;
+            }
+            let row = self.rows[i];
+            total += row.size as u64;
+            i += 1;
+        }
+        total
+    }
+
+    // The t rows of 53 bytes each, and whether 14 allows them.
+    pub fn read(b: &[u8], t: usize) -> Reading
+        requires { ⌜ (t ≤ 8) × (length (now b) ≡ 53 * t) ⌝ }
+        ensures verdict { λ r. ⌜ r .allowed ≡ rules.configurationAllowed (parts t 53 (now (b .entry))) ⌝ }
+        ensures read { λ r. ⌜ (r .allowed ≡ true → rowsOf (r .rows) ≡ map rules.rowOf (parts t 53 (now (b .entry)))) ⌝ }
+    {
+        let mut rows = [Row::NONE; 8];
+        let mut i: usize = 0;
+        while i < t {
+            let at = 53 * i;
+            let end = at + 53;
+            if !row_allowed(&b[at..end]) {
+                return Reading {
+                    rows: Rows::fresh(),
+                    allowed: false,
+                };
+            }
+            rows[i] = Row::read(&b[at..end]);
+            i += 1;
+        }
+        let all = Rows {
+            rows,
+            count: t as u8,
+        };
+        let allowed = all.tables_distinct() && all.sizes() <= 256;
+        Reading { rows: all, allowed }
+    }
+
+    // The row of a table, if it is known.
+    pub fn find(self, table: u64) -> Found
+        ensures known { λ r. ⌜ r .known ≡ rules.known table (rowsOf self) ⌝ }
+        ensures row { λ r. ⌜ rowOf (r .row) ≡ rules.rowFor table (rowsOf self) ⌝ }
+    {
+        let n = self.count as usize;
+        let mut i: usize = 0;
+        while i < n {
+            if 8 <= i {
+                return Found {
+                    known: false,
+                    row: Row::NONE,
+                };
+            }
+            let row = self.rows[i];
+            if row.table as u64 == table {
+                return Found { known: true, row };
+            }
+            i += 1;
+        }
+        Found {
+            known: false,
+            row: Row::NONE,
+        }
     }
 }
