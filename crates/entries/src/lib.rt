@@ -1,0 +1,97 @@
+// The store of entries in shortest form: key search, counting, deletion, and gathering for READ.
+ghost use mathlib.Core.Path.{_≡_};
+ghost use Prim.Native.Nat.{suc, _+_, _*_, _-_, _≤_, _<_};
+ghost use lib.ListN.{length};
+ghost use Rattle.rules.specs.Bytes.{keep, concat};
+ghost use Rattle.rules.specs.Key.{hasKey};
+ghost use Rattle.rules.specs.Update.{inTable, held as heldIn};
+ghost use Rattle.buffers.specs.Splice.{splice};
+ghost use Rattle.entries.specs.Store.{entriesIn, tablesIn, place, placeOf, without, Left};
+use numbers::integer;
+
+// Where the entry of a key is.
+pub enum Found {
+    At(usize),
+    Absent,
+}
+
+// The place of the entry that has the key, 148 bytes in shortest form.
+pub fn find(store: &[u8], count: usize, key: &[u8]) -> Found
+    requires { ⌜ (220 * count ≤ length (now store)) × (length (now key) ≡ 148) ⌝ }
+    ensures { λ r. ⌜ placeOf r ≡ place (now (key .entry)) (entriesIn count (now (store .entry))) ⌝ }
+{
+    let mut i: usize = 0;
+    while i < count {
+        let at = 220 * i;
+        let end = at + 148;
+        if buffers::equal(&store[at..end], key) {
+            return Found::At(i);
+        }
+        i += 1;
+    }
+    Found::Absent
+}
+
+// The number of entries of a table.
+pub fn held(store: &[u8], count: usize, table: u64) -> usize
+    requires { ⌜ 220 * count ≤ length (now store) ⌝ }
+    ensures { λ r. ⌜ r ≡ heldIn table (tablesIn count (now (store .entry))) ⌝ }
+{
+    let mut n: usize = 0;
+    let mut i: usize = 0;
+    while i < count {
+        if integer(store, 220 * i, 4) == table {
+            n += 1;
+        }
+        i += 1;
+    }
+    n
+}
+
+// Removes entry i and closes the gap: the later entries move down.
+pub fn remove(store: &mut [u8], count: usize, i: usize)
+    requires { ⌜ (i < count) × (count ≤ 256) × (56320 ≤ length (now store)) ⌝ }
+    ensures { λ _. ⌜ Left (now (store .entry)) (now (store .exit)) (count - 1) (without i (entriesIn count (now (store .entry)))) ⌝ }
+{
+    let to = 220 * i;
+    let from = to + 220;
+    let end = 220 * count;
+    buffers::move_down(store, to, from, end - from);
+}
+
+// Copies an entry to the start of dst: a record of 220 bytes.
+pub fn write_entry(entry: &[u8], dst: &mut [u8])
+    requires { ⌜ (length (now entry) ≡ 220) × (220 ≤ length (now dst)) ⌝ }
+    ensures { λ _. ⌜ now (dst .exit) ≡ splice (now (dst .entry)) 0 (now (entry .entry)) ⌝ }
+{
+    let mut i: usize = 0;
+    while i < 220 {
+        dst[i] = entry[i];
+        i += 1;
+    }
+}
+
+// Writes the entries of a table to the start of the answer, in order of insertion, as far as it has room; their number.
+pub fn gather(store: &[u8], count: usize, table: u64, answer: &mut [u8]) -> usize
+    requires { ⌜ 220 * count ≤ length (now store) ⌝ }
+    ensures room { λ r. ⌜ 220 * r ≤ length (now (answer .entry)) ⌝ }
+    ensures count { λ r. ⌜ (220 * heldIn table (tablesIn count (now (store .entry))) ≤ length (now (answer .entry)) → r ≡ heldIn table (tablesIn count (now (store .entry)))) ⌝ }
+    ensures records { λ _. ⌜ (220 * heldIn table (tablesIn count (now (store .entry))) ≤ length (now (answer .entry)) → now (answer .exit) ≡ splice (now (answer .entry)) 0 (concat (keep (inTable table) (entriesIn count (now (store .entry)))))) ⌝ }
+{
+    let mut n: usize = 0;
+    let mut i: usize = 0;
+    while i < count {
+        let from = 220 * i;
+        if integer(store, from, 4) == table {
+            let at = 220 * n;
+            if answer.len() - at < 220 {
+                return n;
+            }
+            let end = from + 220;
+            write_entry(&store[from..end], &mut answer[at..]);
+            n += 1;
+        }
+        i += 1;
+    }
+    n
+}
