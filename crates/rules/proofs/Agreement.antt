@@ -19,7 +19,7 @@ use Rattle.rules.specs.Key.{keyOf, hasKey, shortKey, tableOf}
 use Rattle.rules.specs.Entry.{shortEntry}
 use Rattle.rules.specs.Update.{Tables, noEntries, inTable, perform, apply, batch}
 use Rattle.rules.specs.Answer.{Answer, answerBytes, replyOf}
-use Rattle.rules.specs.Call.{State, Call, fresh, configureReason, writeReason, readReason, refusal, accepted, nextControl, nextTables, next, plain, pairOf, asked, shown, answer, commandOf, reply, run}
+use Rattle.rules.specs.Call.{State, Call, fresh, configureReason, writeReason, readReason, refusal, accepted, nextControl, nextTables, next, plain, pairOf, asked, gathered, shown, answer, commandOf, reply, run}
 use Rattle.rules.specs.LookBack.{Effect, inserted, modified, deleted, cleared, revise, present, Past, nothing, shows, effectOf, reasonAt, tookEffect, noteUpdate, noteUpdates, noted, note, lookBack, pairsSeen, someFailed, named, asksFor, readSeen, answerSeen, replySeen}
 use Rattle.rules.specs.Agreement.{commandsOf, replyAfter, pastOf, pairAt, Agreement}
 use Rattle.rules.proofs.Tests.{same-sym}
@@ -126,7 +126,7 @@ keep-append p (x ∷ xs) ys = go (p x) (keep-append p xs ys)
     go false h = h
 
 -- the two ways to say which rows a READ asks for
-same-rows : (q : Query) (row : Row) → (named q && eqb (row .table) (q .table)) || (not (named q) && mayWrite (q .role) row) ≡ asked q row
+same-rows : (q : Query) (row : Row) → (named q && eqb (row .table) (q .table)) || (not (named q) && mayWrite (q .role) row) ≡ asked (q .role) (q .table) row
 same-rows q row = go (eqb (q .table) 0)
   where
     or-none : (b : Bool) → b || false ≡ b
@@ -159,13 +159,13 @@ row-seen true false t k es = ap (λ f. keep f es) (fun-ext (λ (e : List ℕ). a
 row-seen false one t k es = keep-none es
 
 -- of every row
-abbrev gathered : Query → List Row → List (List ℕ) → List (List ℕ)
-gathered q rows es = concat (map (λ (row : Row). keep (inTable (row .table)) es) (keep (asked q) rows))
+abbrev all : Query → List Row → List (List ℕ) → List (List ℕ)
+all q rows es = gathered (q .role) (q .table) rows (record { entries = es })
 
-rows-seen : (q : Query) (rows : List Row) (es : List (List ℕ)) → narrowed (eqb (q .only) 1) (shortKey (q .key)) (gathered q rows es) ≡ readSeen rows q es
+rows-seen : (q : Query) (rows : List Row) (es : List (List ℕ)) → narrowed (eqb (q .only) 1) (shortKey (q .key)) (all q rows es) ≡ readSeen rows q es
 unfolding readSeen
 rows-seen q [] es = narrowed-nil (eqb (q .only) 1) (shortKey (q .key))
-rows-seen q (row ∷ rows) es = go (asked q row) refl (rows-seen q rows es)
+rows-seen q (row ∷ rows) es = go (asked (q .role) (q .table) row) refl (rows-seen q rows es)
   where
     one : Bool
     one = eqb (q .only) 1
@@ -176,15 +176,15 @@ rows-seen q (row ∷ rows) es = go (asked q row) refl (rows-seen q rows es)
     mine : List (List ℕ)
     mine = keep (inTable (row .table)) es
 
-    seen : keep (asksFor q row) es ≡ (if asked q row then narrowed one k mine else [])
+    seen : keep (asksFor q row) es ≡ (if asked (q .role) (q .table) row then narrowed one k mine else [])
     seen =
         ap (λ (a : Bool). keep (λ (e : List ℕ). a && eqb (tableOf e) (row .table) && (not one || same (keyOf e) k)) es) (same-rows q row)
-        ∙ row-seen (asked q row) one (row .table) k es
+        ∙ row-seen (asked (q .role) (q .table) row) one (row .table) k es
 
-    go : (b : Bool) → asked q row ≡ b → narrowed one k (gathered q rows es) ≡ readSeen rows q es
-        → narrowed one k (concat (map (λ (r : Row). keep (inTable (r .table)) es) (if b then row ∷ keep (asked q) rows else keep (asked q) rows)))
+    go : (b : Bool) → asked (q .role) (q .table) row ≡ b → narrowed one k (all q rows es) ≡ readSeen rows q es
+        → narrowed one k (concat (map (λ (r : Row). keep (inTable (r .table)) es) (if b then row ∷ keep (asked (q .role) (q .table)) rows else keep (asked (q .role) (q .table)) rows)))
         ≡ keep (asksFor q row) es ++ readSeen rows q es
-    go true h ih = narrowed-append one k mine (gathered q rows es) ∙ ap₂ _++_ (sym (seen ∙ ap (λ (b : Bool). if b then narrowed one k mine else []) h)) ih
+    go true h ih = narrowed-append one k mine (all q rows es) ∙ ap₂ _++_ (sym (seen ∙ ap (λ (b : Bool). if b then narrowed one k mine else []) h)) ih
     go false h ih = ih ∙ ap (λ l. l ++ readSeen rows q es) (sym (seen ∙ ap (λ (b : Bool). if b then narrowed one k mine else []) h))
 
 -- ---- a call

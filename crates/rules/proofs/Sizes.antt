@@ -15,7 +15,7 @@ use Rattle.rules.specs.Row.{Row}
 use Rattle.rules.specs.Key.{hasKey, shortKey}
 use Rattle.rules.specs.Update.{Tables, inTable, held, judge, apply, batch}
 use Rattle.rules.specs.Answer.{answerBytes, replyOf}
-use Rattle.rules.specs.Call.{State, Call, fresh, refusal, accepted, plain, pairOf, headOf, batchOf, asked, shown, answer, commandOf, reply, run}
+use Rattle.rules.specs.Call.{State, Call, fresh, refusal, accepted, plain, pairOf, headOf, batchOf, asked, gathered, shown, answer, commandOf, reply, run}
 use Rattle.rules.specs.Agreement.{commandsOf, replyAfter}
 use Rattle.rules.specs.Sound.{EveryStored, Within, Sound}
 use Rattle.rules.proofs.Formed.{EveryLength, Formed, call-formed}
@@ -119,31 +119,31 @@ stored-lengths [] h = tt
 stored-lengths (e ∷ es) h = (h .0 .size, stored-lengths es (h .1))
 
 -- what rows of a READ show of the entries
-abbrev gathered : (Row → Bool) → List Row → List (List ℕ) → List (List ℕ)
-gathered p rows es = concat (map (λ (row : Row). keep (inTable (row .table)) es) (keep p rows))
+abbrev collected : (Row → Bool) → List Row → List (List ℕ) → List (List ℕ)
+collected p rows es = concat (map (λ (row : Row). keep (inTable (row .table)) es) (keep p rows))
 
-gathered-lengths : (p : Row → Bool) (rows : List Row) (es : List (List ℕ)) → EveryLength 220 es → EveryLength 220 (gathered p rows es)
-gathered-lengths p [] es h = tt
-gathered-lengths p (r ∷ rows) es h = go (p r) (gathered-lengths p rows es h)
+collected-lengths : (p : Row → Bool) (rows : List Row) (es : List (List ℕ)) → EveryLength 220 es → EveryLength 220 (collected p rows es)
+collected-lengths p [] es h = tt
+collected-lengths p (r ∷ rows) es h = go (p r) (collected-lengths p rows es h)
   where
-    go : (b : Bool) → EveryLength 220 (gathered p rows es)
+    go : (b : Bool) → EveryLength 220 (collected p rows es)
         → EveryLength 220 (concat (map (λ (row : Row). keep (inTable (row .table)) es) (if b then r ∷ keep p rows else keep p rows)))
-    go true k = append-lengths 220 (keep (inTable (r .table)) es) (gathered p rows es) (keep-lengths 220 (inTable (r .table)) es h) k
+    go true k = append-lengths 220 (keep (inTable (r .table)) es) (collected p rows es) (keep-lengths 220 (inTable (r .table)) es h) k
     go false k = k
 
-gathered-few : (p : Row → Bool) (rows : List Row) (t : Tables) → Within rows t
-    → length (gathered p rows (t .entries)) ≤ sum (map (λ (r : Row). r .size) rows)
+collected-few : (p : Row → Bool) (rows : List Row) (t : Tables) → Within rows t
+    → length (collected p rows (t .entries)) ≤ sum (map (λ (r : Row). r .size) rows)
 unfolding held
-gathered-few p [] t w = omega arith
-gathered-few p (r ∷ rows) t w = go (p r) (gathered-few p rows t (w .1))
+collected-few p [] t w = omega arith
+collected-few p (r ∷ rows) t w = go (p r) (collected-few p rows t (w .1))
   where
     mine : List (List ℕ)
     mine = keep (inTable (r .table)) (t .entries)
 
-    go : (b : Bool) → length (gathered p rows (t .entries)) ≤ sum (map (λ (r : Row). r .size) rows)
+    go : (b : Bool) → length (collected p rows (t .entries)) ≤ sum (map (λ (r : Row). r .size) rows)
         → length (concat (map (λ (row : Row). keep (inTable (row .table)) (t .entries)) (if b then r ∷ keep p rows else keep p rows)))
         ≤ r .size + sum (map (λ (r : Row). r .size) rows)
-    go true h = omega (arith, length-append mine (gathered p rows (t .entries)), w .0)
+    go true h = omega (arith, length-append mine (collected p rows (t .entries)), w .0)
     go false h = omega arith
 
 read-small : (s : State) (q : Query) → Sound s → Small (shown s q)
@@ -151,13 +151,13 @@ unfolding shown
 read-small s q ok = choose (eqb (q .only) 1) _ _ (whole (keep (hasKey (shortKey (q .key))) all) kept fewer) (whole all lengths count)
   where
     all : List (List ℕ)
-    all = gathered (asked q) (s .control .rows) (s .tables .entries)
+    all = gathered (q .role) (q .table) (s .control .rows) (s .tables)
 
     lengths : EveryLength 220 all
-    lengths = gathered-lengths (asked q) (s .control .rows) (s .tables .entries) (stored-lengths (s .tables .entries) (ok .tables .shortest))
+    lengths = collected-lengths (asked (q .role) (q .table)) (s .control .rows) (s .tables .entries) (stored-lengths (s .tables .entries) (ok .tables .shortest))
 
     count : length all ≤ 256
-    count = omega (arith, gathered-few (asked q) (s .control .rows) (s .tables) (ok .tables .within), sizes-fit (s .control .rows) (ok .rows))
+    count = omega (arith, collected-few (asked (q .role) (q .table)) (s .control .rows) (s .tables) (ok .tables .within), sizes-fit (s .control .rows) (ok .rows))
 
     kept : EveryLength 220 (keep (hasKey (shortKey (q .key))) all)
     kept = keep-lengths 220 (hasKey (shortKey (q .key))) all lengths
