@@ -1,8 +1,9 @@
--- What is proved of the rules.
-pub mod Table
-pub mod Listed
+-- What is proved of the rules: the worked cases first, so that a wrong definition meets a false case.
 pub mod Computing
 pub mod Bench
+pub mod Witness
+pub mod Table
+pub mod Listed
 pub mod Tests
 pub mod Orders
 pub mod Formed

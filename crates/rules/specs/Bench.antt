@@ -8,19 +8,15 @@ use Rattle.rules.specs.Bytes.{number}
 use Rattle.rules.specs.Streams.{primary, markOf}
 use Rattle.rules.specs.Key.{exact, lpm, range}
 use Rattle.rules.specs.Answer.{Reply}
-use Rattle.rules.specs.Sample.{by, open!, close!, arbitrate!, configure!, write!, readAll!, row, val1, val2, val3, val4, none17, key, entry, insert!, after, answerTo, bytes, told, done}
-
--- stream 1 has id 5, stream 2 id 3
-abbrev two : List (List ℕ)
-two = open! 1 ∷ open! 2 ∷ arbitrate! 1 (by 0 5) ∷ arbitrate! 2 (by 0 3) ∷ []
+use Rattle.rules.specs.Sample.{by, close!, arbitrate!, write!, readAll!, row, val1, val2, val3, val4, none17, key, entry, insert!, leading, two, configured, after, answerTo, bytes, told, done}
 
 -- a lone primary with 5 sends 4
 abbrev lowered : List (List ℕ)
-lowered = open! 1 ∷ arbitrate! 1 (by 0 5) ∷ arbitrate! 1 (by 0 4) ∷ []
+lowered = leading ++ (arbitrate! 1 (by 0 4) ∷ [])
 
 -- a primary with 5, and table 1 of size 4 with one field of a kind and a width
 abbrev ready : ℕ → ℕ → List (List ℕ)
-ready kind width = open! 1 ∷ arbitrate! 1 (by 0 5) ∷ configure! (by 0 5) (row 1 0 4 kind width ∷ []) ∷ []
+ready kind width = configured (row 1 0 4 kind width ∷ [])
 
 -- the answer to an INSERT of one slot into that table
 abbrev tried : ℕ → ℕ → ℕ → List ℕ → List ℕ → Reply

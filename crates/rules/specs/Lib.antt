@@ -18,3 +18,4 @@ pub mod Sound
 pub mod Refused
 pub mod Sample
 pub mod Bench
+pub mod Witness

@@ -1,11 +1,12 @@
 -- Frames to send and answers to expect, byte by byte: the words of the worked cases. Assumes nothing.
+use mathlib.Core.Path.{_≡_}
 use mathlib.Core.List.{List, [], _∷_, _++_, map}
 use Prim.Native.Nat.{ℕ}
-use lib.ListN.{replicate, length}
+use lib.ListN.{replicate, length, take}
 use Rattle.rules.specs.Bytes.{concat}
 use Rattle.rules.specs.Frame.{Command}
 use Rattle.rules.specs.Answer.{Reply}
-use Rattle.rules.specs.Call.{State, fresh, commandOf, reply, run}
+use Rattle.rules.specs.Call.{State, fresh, commandOf, reply, next, run}
 
 -- n, below 256, as 16 bytes
 abbrev pub id16 : ℕ → List ℕ
@@ -20,6 +21,10 @@ headBy d r flag n = replicate 7 0 ++ (d ∷ r ∷ flag ∷ id16 n)
 -- of device 1, with a set id
 abbrev pub by : ℕ → ℕ → List ℕ
 by r n = headBy 1 r 1 n
+
+-- and with none
+abbrev pub unset : ℕ → List ℕ
+unset r = headBy 1 r 0 0
 
 abbrev pub open! : ℕ → List ℕ
 open! s = 0x01 ∷ s ∷ []
@@ -36,7 +41,7 @@ configure! h rows = 0x04 ∷ h ++ (length rows ∷ concat rows)
 abbrev pub write! : List ℕ → ℕ → List (List ℕ) → List ℕ
 write! h atomicity us = 0x05 ∷ h ++ (atomicity ∷ length us ∷ concat us)
 
--- device d, role r, table 020000TT where tt is not 0 (else 0), only, and the 144 bytes of a key
+-- device d, role r, the 4 bytes of a table id, only, and the 144 bytes of a key
 abbrev pub read! : ℕ → ℕ → List ℕ → ℕ → List ℕ → List ℕ
 read! d r table only key = 0x06 ∷ replicate 7 0 ++ (d ∷ r ∷ table ++ (only ∷ key))
 
@@ -44,48 +49,77 @@ read! d r table only key = 0x06 ∷ replicate 7 0 ++ (d ∷ r ∷ table ++ (only
 abbrev pub readAll! : List ℕ
 readAll! = read! 1 0 (replicate 4 0) 0 (replicate 144 0)
 
--- ---- rows and entries
+-- ---- rows
 
--- table ids 020000n, action ids 010000n
+-- n bytes: these, and zeros after them
+abbrev pub filled : ℕ → List ℕ → List ℕ
+filled n bs = take n (bs ++ replicate n 0)
+
+-- table ids 0200000n, action ids 0100000n
 abbrev pub table# : ℕ → List ℕ
 table# n = 0x02 ∷ 0 ∷ 0 ∷ n ∷ []
 
 abbrev pub action# : ℕ → List ℕ
 action# n = 0x01 ∷ 0 ∷ 0 ∷ n ∷ []
 
--- table n of an owner, a size below 256, one field of a kind and a width, and action 1 with no parameter
+abbrev pub field : ℕ → ℕ → List ℕ
+field kind width = kind ∷ width ∷ []
+
+-- action n, with the widths of its parameters
+abbrev pub action : ℕ → List ℕ → List ℕ
+action n widths = action# n ++ (length widths ∷ filled 4 widths)
+
+-- table n of an owner, a size below 256, fields and actions
+abbrev pub rowWith : ℕ → ℕ → ℕ → List (List ℕ) → List (List ℕ) → List ℕ
+rowWith n owner size fields actions =
+    table# n ++ (owner ∷ 0 ∷ size ∷ length fields ∷ filled 8 (concat fields)) ++ (length actions ∷ filled 36 (concat actions))
+
+-- with one field, and action 1 without parameters
 abbrev pub row : ℕ → ℕ → ℕ → ℕ → ℕ → List ℕ
-row n owner size kind width =
-    table# n ++ (owner ∷ 0 ∷ size ∷ 1 ∷ kind ∷ width ∷ replicate 6 0) ++ (1 ∷ action# 1 ++ (0 ∷ replicate 31 0))
+row n owner size kind width = rowWith n owner size (field kind width ∷ []) (action 1 [] ∷ [])
+
+-- ---- entries and updates
 
 -- up to 16 bytes as a value of 17
-abbrev pub val : ℕ → List ℕ → List ℕ
-val zeros bs = length bs ∷ bs ++ replicate zeros 0
+abbrev pub val : List ℕ → List ℕ
+val bs = length bs ∷ filled 16 bs
 
 -- a value of 1, 2, 3 or 4 bytes
 abbrev pub val1 : ℕ → List ℕ
-val1 a = val 15 (a ∷ [])
+val1 a = val (a ∷ [])
 
 abbrev pub val2 : ℕ → ℕ → List ℕ
-val2 a b = val 14 (a ∷ b ∷ [])
+val2 a b = val (a ∷ b ∷ [])
 
 abbrev pub val3 : ℕ → ℕ → ℕ → List ℕ
-val3 a b c = val 13 (a ∷ b ∷ c ∷ [])
+val3 a b c = val (a ∷ b ∷ c ∷ [])
 
 abbrev pub val4 : ℕ → ℕ → ℕ → ℕ → List ℕ
-val4 a b c d = val 12 (a ∷ b ∷ c ∷ d ∷ [])
+val4 a b c d = val (a ∷ b ∷ c ∷ d ∷ [])
 
 -- no value: 17 zero bytes
 abbrev pub none17 : List ℕ
 none17 = replicate 17 0
 
--- the 144 bytes of a key: a priority below 256, one slot, and three unused ones
-abbrev pub key : ℕ → ℕ → List ℕ → List ℕ → List ℕ
-key priority kind a b = (0 ∷ 0 ∷ 0 ∷ priority ∷ kind ∷ a) ++ b ++ replicate 105 0
+-- 35 bytes: a kind and two values
+abbrev pub slot : ℕ → List ℕ → List ℕ → List ℕ
+slot kind a b = kind ∷ a ++ b
 
--- an entry of table n with such a key, and an action without parameters
+-- the 144 bytes of a key: a priority below 256 and its slots, the others unused
+abbrev pub keyWith : ℕ → List (List ℕ) → List ℕ
+keyWith priority slots = 0 ∷ 0 ∷ 0 ∷ priority ∷ filled 140 (concat slots)
+
+-- with one slot
+abbrev pub key : ℕ → ℕ → List ℕ → List ℕ → List ℕ
+key priority kind a b = keyWith priority (slot kind a b ∷ [])
+
+-- an entry of table n: its key, its action, and the values of the action's parameters
+abbrev pub entryWith : ℕ → List ℕ → ℕ → List (List ℕ) → List ℕ
+entryWith n k action values = table# n ++ k ++ action# action ++ filled 68 (concat values)
+
+-- with an action without parameters
 abbrev pub entry : ℕ → List ℕ → ℕ → List ℕ
-entry n k action = table# n ++ k ++ action# action ++ replicate 68 0
+entry n k action = entryWith n k action []
 
 abbrev pub insert! : List ℕ → List ℕ
 insert! e = 1 ∷ e
@@ -96,7 +130,21 @@ modify! e = 2 ∷ e
 abbrev pub delete! : List ℕ → List ℕ
 delete! e = 3 ∷ e
 
--- ---- runs and answers
+-- ---- agents to start from
+
+-- stream 1 is the primary of role 0 with id 5
+abbrev pub leading : List (List ℕ)
+leading = open! 1 ∷ arbitrate! 1 (by 0 5) ∷ []
+
+-- and stream 2 a backup with id 3
+abbrev pub two : List (List ℕ)
+two = leading ++ (open! 2 ∷ arbitrate! 2 (by 0 3) ∷ [])
+
+-- a primary with 5, and these rows
+abbrev pub configured : List (List ℕ) → List (List ℕ)
+configured rows = leading ++ (configure! (by 0 5) rows ∷ [])
+
+-- ---- runs
 
 -- a frame handed in with the shortest answer buffer and store that do
 abbrev pub commandIn : List ℕ → Command
@@ -110,10 +158,24 @@ after fs = run (fresh 1) (map commandIn fs)
 abbrev pub answerTo : List (List ℕ) → List ℕ → Reply
 answerTo fs f = reply (after fs) (commandIn f)
 
+-- the answers to frames that come one after another
+abbrev pub answers : State → List (List ℕ) → List Reply
+answers s [] = []
+answers s (f ∷ fs) = reply s (commandIn f) ∷ answers (next s (commandIn f)) fs
+
+-- ---- answers
+
 -- an answer: reason, code, a count below 256, and the bytes of its records
 abbrev pub bytes : ℕ → ℕ → ℕ → List (List ℕ) → Reply
 bytes reason code count records =
     record { returned = reason; written = reason ∷ code ∷ 0 ∷ count ∷ concat records }
+
+-- reason 0, code 0, no record
+abbrev pub ok : Reply
+ok = bytes 0 0 0 []
+
+abbrev pub refused : ℕ → ℕ → Reply
+refused reason code = bytes reason code 0 []
 
 -- the notification of a stream: role, status, and the mark as a set id
 abbrev pub told : ℕ → ℕ → ℕ → ℕ → List ℕ
@@ -122,3 +184,25 @@ told s role status mark = s ∷ role ∷ status ∷ 1 ∷ id16 mark
 -- the pair of an update that took effect
 abbrev pub done : List ℕ
 done = 0 ∷ 0 ∷ []
+
+-- ---- frames with their answers
+
+-- Each frame, sent by itself after the frames fs, gets the answer beside it.
+abbrev pub Each : List (List ℕ) → List (List ℕ × Reply) → Type 0
+Each fs cases = map (λ (c : List ℕ × Reply). answerTo fs (c .0)) cases ≡ map (λ (c : List ℕ × Reply). c .1) cases
+
+-- The frames, sent one after another after the frames fs, get the answers beside them.
+abbrev pub InTurn : List (List ℕ) → List (List ℕ × Reply) → Type 0
+InTurn fs cases = answers (after fs) (map (λ (c : List ℕ × Reply). c .0) cases) ≡ map (λ (c : List ℕ × Reply). c .1) cases
+
+-- A WRITE of updates and its answer, the pair of each update beside it.
+abbrev pub batch! : List ℕ → ℕ → ℕ → ℕ → List (List ℕ × List ℕ) → List ℕ × Reply
+batch! h reason code count cases = (
+  write! h 0 (map (λ (c : List ℕ × List ℕ). c .0) cases),
+  bytes reason code count (map (λ (c : List ℕ × List ℕ). c .1) cases),
+)
+
+-- one answer, or one pair, for all of them
+module _ {A : Type 0} where
+  abbrev pub all : A → List (List ℕ) → List (List ℕ × A)
+  all a fs = map (λ (f : List ℕ). (f, a)) fs
