@@ -1,10 +1,10 @@
 -- The bench cases hold because the definitions compute to them. Assumes nothing.
 use mathlib.Core.Path.{refl}
 use lib.Dec.{lit<}
-use Rattle.rules.specs.Bench.{Cases}
+use Rattle.rules.specs.Bench.{BenchCases}
 use Rattle.rules.proofs.Computing.{computing}
 
-pub bench : Cases
+pub bench : BenchCases
 unfolding computing
 bench = record {
   p1 = lit< tt;

@@ -1,7 +1,7 @@
 -- What is proved of the rules: the worked cases first, so that a wrong definition meets a false case.
 pub mod Computing
 pub mod Bench
-pub mod Witness
+pub mod Cases
 pub mod Table
 pub mod Listed
 pub mod Tests
@@ -15,7 +15,7 @@ pub mod Sound
 pub mod Refused
 pub mod Sizes
 pub mod Effects
-pub mod Agreement
-pub mod Authority
+pub mod LookBack
+pub mod Primary
 pub mod Members
 pub mod Presence

@@ -18,7 +18,7 @@ use Rattle.rules.proofs.Orders.{first-clear}
 use Rattle.rules.proofs.Formed.{Whole, Formed, EveryFormed, calls-formed}
 use Rattle.rules.proofs.Streams.{fresh-sound}
 use Rattle.rules.proofs.Tables.{batch-sound, none-sound}
-use Rattle.rules.proofs.Authority.{next-streams, next-mark}
+use Rattle.rules.proofs.Primary.{next-streams, next-mark}
 
 -- ---- rows that 14 allows
 

@@ -33,7 +33,7 @@ fails reason code = bytes 23 2 1 ((reason ∷ code ∷ []) ∷ [])
 abbrev seven : List ℕ
 seven = entry 1 (key 0 exact (val1 7) none17) 1
 
-pub record Cases : Type 0 where
+pub record BenchCases : Type 0 where
   -- id 1 followed by 64 zero bits exceeds 64 one bits
   pub p1 : number (replicate 8 0 ++ replicate 8 0xFF) < number (replicate 7 0 ++ (1 ∷ replicate 8 0))
   -- 1 closes: 2 hears status 5, id 5

@@ -18,4 +18,4 @@ pub mod Sound
 pub mod Refused
 pub mod Sample
 pub mod Bench
-pub mod Witness
+pub mod Cases

@@ -20,7 +20,7 @@ use Rattle.rules.specs.Sound.{SoundStreams}
 use Rattle.rules.proofs.Orders.{first-clear}
 use Rattle.rules.proofs.Formed.{Formed, EveryFormed, calls-formed}
 use Rattle.rules.proofs.Streams.{open-sound, close-sound, arbitrate-sound, fresh-sound, none-open, no-mark, open-mark, close-mark, arbitrate-mark, open-stream, close-stream, arbitrate-stream, by-primary}
-use Rattle.rules.proofs.Agreement.{fresh-shows}
+use Rattle.rules.proofs.LookBack.{fresh-shows}
 
 -- ---- one call
 

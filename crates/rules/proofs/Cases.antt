@@ -1,6 +1,6 @@
 -- The worked cases hold because the definitions compute to them. Assumes nothing.
 use mathlib.Core.Path.{refl}
-use Rattle.rules.specs.Witness.{Frames, Elections, Entries, Orders, Configurations, Updates, Witnesses}
+use Rattle.rules.specs.Cases.{Frames, Elections, Entries, Orders, Configurations, Updates, Witnesses}
 use Rattle.rules.proofs.Computing.{computing}
 
 frames : Frames
