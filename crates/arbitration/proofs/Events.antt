@@ -1,0 +1,145 @@
+-- One law for each way through an event: what stands in the stream record, and the tests taken, fix what the event leaves.
+-- Assumes nothing.
+use Prim.Native.Nat.{ℕ}
+use mathlib.Core.Path.{_≡_, refl}
+use mathlib.Core.Bool.{Bool, true, false, _&&_, _||_}
+use mathlib.Core.List.{List, [], _∷_}
+use mathlib.Core.Option.{Option}
+use lib.Dec.{eqb}
+use borrow.Author.Tests.{ne-eqb}
+use Rattle.rules.specs.Bytes.{if_then_else_, between}
+use Rattle.rules.specs.Reason.{first}
+use Rattle.rules.specs.Frame.{Head}
+use Rattle.rules.specs.Streams.{Stream, closed, unbound, bound, Streams, streamAt, markOf, isOpen, primary, notification, notifyAll, become, openStream, closeStream, is, leaving, closeRecords, orderOf, arbitrateReason, binds, sameOption, samePair, bindRecords, arbitrate}
+use Rattle.rules.proofs.Tests.{and-true}
+use Rattle.arbitration.specs.Meaning.{leftAs, closedUnder}
+
+-- ---- an order of refusals
+
+-- the order gives a reason: the first condition that holds, or 0
+pub data Gives : List (Bool × ℕ) → ℕ → Type 0 where
+  nothing : Gives [] 0
+  here : {c : Bool} {r : ℕ} {cs : List (Bool × ℕ)} → c ≡ true → Gives ((c, r) ∷ cs) r
+  past : {c : Bool} {r n : ℕ} {cs : List (Bool × ℕ)} → c ≡ false → Gives cs n → Gives ((c, r) ∷ cs) n
+
+gives-first : {cs : List (Bool × ℕ)} {n : ℕ} → Gives cs n → n ≡ first cs
+unfolding first
+gives-first nothing = refl
+gives-first (here p) = rw p
+gives-first (past p g) = rw p (gives-first g)
+
+-- the reasons of an order pass a test
+abbrev among : (ℕ → Bool) → List (Bool × ℕ) → Bool
+among p [] = true
+among p (c ∷ cs) = p (c .1) && among p cs
+
+first-among : (p : ℕ → Bool) (cs : List (Bool × ℕ)) → p 0 ≡ true → among p cs ≡ true → p (first cs) ≡ true
+unfolding first
+first-among p [] z h = z
+first-among p (c ∷ cs) z h =
+    let q = and-true (p (c .1)) (among p cs) h in
+    go (c .0) (q .0) (first-among p cs z (q .1))
+  where
+    go : (b : Bool) → p (c .1) ≡ true → p (first cs) ≡ true → p (if b then c .1 else first cs) ≡ true
+    go true x y = x
+    go false x y = y
+
+-- the reasons of an ARBITRATE
+abbrev known : ℕ → Bool
+known r = eqb r 0 || (eqb r 4 || between 5 9 r)
+
+module _ (e : Streams) (s : ℕ) where
+  -- ---- OPEN
+
+  pub open-closed : closed ≡ streamAt e s → leftAs (become e s unbound) 0 ≡ openStream e s
+  unfolding openStream first
+  open-closed h = rw (← h)
+
+  pub open-twice : {x : Stream} → x ≡ streamAt e s → isOpen x ≡ true → leftAs e 3 ≡ openStream e s
+  unfolding openStream first
+  open-twice h o = rw (← h, o)
+
+  -- ---- CLOSE
+
+  pub close-closed : closed ≡ streamAt e s → leftAs e 4 ≡ closeStream e s
+  unfolding closeStream first
+  close-closed h = rw (← h)
+
+  pub close-open : {x : Stream} → x ≡ streamAt e s → isOpen x ≡ true → closedUnder e s 0 ≡ closeStream e s
+  unfolding closeStream first
+  close-open h o = rw (← h, o)
+
+  -- e′ is the record without the stream
+  module _ {e′ : Streams} (d : e′ ≡ become e s closed) where
+    -- a stream that was bound to no role
+    pub leaves-quiet : {r : ℕ} {x : Stream} → x ≡ streamAt e s → leaving e s x ≡ [] → leftAs e′ r ≡ closedUnder e s r
+    unfolding closeRecords
+    leaves-quiet h n = rw (d, ← h, n)
+
+    -- one whose role's primary is another, or nobody
+    pub backup-leaves : {r q i : ℕ} {p : Option ℕ} → bound q i ≡ streamAt e s → p ≡ primary e q → is s p ≡ false
+        → leftAs e′ r ≡ closedUnder e s r
+    backup-leaves h m n = leaves-quiet h (rw (← m, n))
+
+    pub primary-leaves : {r q i : ℕ} {p : Option ℕ} → bound q i ≡ streamAt e s → p ≡ primary e q → is s p ≡ true
+        → record { after = e′; reason = r; records = notifyAll e′ q } ≡ closedUnder e s r
+    unfolding closeRecords
+    primary-leaves h m n = rw (d, ← h, ← m, n)
+
+  -- ---- ARBITRATE
+
+  module _ (device : ℕ) (h : Head) where
+    pub reason-is : {x : Stream} {n : ℕ} → x ≡ streamAt e s → Gives (orderOf device e s h x) n → n ≡ arbitrateReason device e s h
+    unfolding arbitrateReason
+    reason-is p g = rw (← p) (gives-first g)
+
+    reason-known : (x : Stream) → known (first (orderOf device e s h x)) ≡ true
+    reason-known closed = first-among known (orderOf device e s h closed) refl refl
+    reason-known unbound = first-among known (orderOf device e s h unbound) refl refl
+    reason-known (bound r i) = first-among known (orderOf device e s h (bound r i)) refl refl
+
+    -- one that is neither 0 nor 4 closes the stream
+    closing : (r : ℕ) → r ≡ arbitrateReason device e s h → (r ≡ 4 → ⊥) → (r ≡ 0 → ⊥) → between 5 9 r ≡ true
+    unfolding arbitrateReason
+    closing r p four zero =
+        let k : known r ≡ true = rw p (reason-known (streamAt e s)) in
+        rw (ne-eqb r 0 zero, ne-eqb r 4 four) at k
+
+    pub arbitrate-refused : 4 ≡ arbitrateReason device e s h → leftAs e 4 ≡ arbitrate device e s h
+    unfolding arbitrate
+    arbitrate-refused p = rw (← p)
+
+    pub arbitrate-closes : {r : ℕ} → r ≡ arbitrateReason device e s h → (r ≡ 4 → ⊥) → (r ≡ 0 → ⊥)
+        → closedUnder e s r ≡ arbitrate device e s h
+    unfolding arbitrate
+    arbitrate-closes {r} p four zero = rw (← p, ne-eqb r 0 zero, closing r p four zero)
+
+    -- e′ is the record with the stream bound
+    module _ {e′ : Streams} (d : e′ ≡ binds e s h) (p : 0 ≡ arbitrateReason device e s h) where
+      pub arbitrate-same : samePair e e′ (h .role) ≡ true
+          → record { after = e′; reason = 0; records = notification e′ (h .role) s ∷ [] } ≡ arbitrate device e s h
+      unfolding arbitrate bindRecords
+      arbitrate-same q = rw (← p, ← d, q)
+
+      pub arbitrate-changed : samePair e e′ (h .role) ≡ false
+          → record { after = e′; reason = 0; records = notifyAll e′ (h .role) } ≡ arbitrate device e s h
+      unfolding arbitrate bindRecords
+      arbitrate-changed q = rw (← p, ← d, q)
+
+-- ---- the pair of a role
+
+module _ (e e′ : Streams) (r : ℕ) where
+  pub pair-marks : eqb (markOf e r) (markOf e′ r) ≡ false → false ≡ samePair e e′ r
+  pair-marks m = rw m (go (sameOption (primary e r) (primary e′ r)))
+    where
+      go : (b : Bool) → false ≡ b && false
+      go true = refl
+      go false = refl
+
+  pub pair-primaries : {p q : Option ℕ} → p ≡ primary e r → q ≡ primary e′ r → eqb (markOf e r) (markOf e′ r) ≡ true
+      → sameOption p q ≡ samePair e e′ r
+  pair-primaries {p} {q} x y m = rw (m, ← x, ← y) (go (sameOption p q))
+    where
+      go : (b : Bool) → b ≡ b && true
+      go true = refl
+      go false = refl

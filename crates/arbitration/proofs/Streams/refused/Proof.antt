@@ -1,0 +1,11 @@
+use mathlib.Core.Path.{refl}
+use Rattle.arbitration.specs.Meaning.{recordsOf}
+use Rattle.arbitration.proofs.Streams.refused.Statement.{statement}
+use Rattle.arbitration.proofs.Streams.refused.Tie as tie
+
+returns : tie.Need-returns
+unfolding recordsOf
+returns c = refl
+
+pub refused-spec : {M : Type 1} → statement M
+refused-spec = tie.close (tie.spec returns)

@@ -1,0 +1,78 @@
+-- Right because each arm writes the records of its meaning: none, one, or those of a role. Assumes nothing.
+use Prim.Native.Nat.{ℕ}
+use mathlib.Core.Path.{refl, sym, ap, ap₂, _∙_}
+use mathlib.Core.List.{append-nil}
+use mathlib.Core.Option.{Option}
+use Rattle.rules.specs.Streams.{noticeOf, notification}
+use Rattle.buffers.specs.Splice.{splice}
+use Rattle.buffers.proofs.Splice.{splice-none}
+use Rattle.arbitration.specs.Meaning.{streamsOf, recordsOf}
+use borrow.Author.Needs.{needs}
+use Rattle.arbitration.proofs.Streams.write_notifications.Statement.{statement}
+use Rattle.arbitration.proofs.Streams.write_notifications.Tie as tie
+
+enum-told : tie.Need-enum-told
+enum-told c = search needs
+
+enum-known-notify : tie.Need-enum-known-notify
+enum-known-notify c = search needs
+
+primary-requires : tie.Need-primary-requires
+primary-requires c κs = search needs
+
+mark-requires : tie.Need-mark-requires
+mark-requires c κs = search needs
+
+write-notification-requires : tie.Need-write-notification-requires
+write-notification-requires c κs = search needs
+
+enum-known-notify-2 : tie.Need-enum-known-notify-2
+enum-known-notify-2 c = search needs
+
+write-role-requires : tie.Need-write-role-requires
+write-role-requires c κs = search needs
+
+returns : tie.Need-returns
+unfolding recordsOf
+returns c = rw (c .enum-told .given .1) (refl, splice-none (c .before .before .before .args .out .now) 0)
+
+same-length : tie.Need-same-length
+same-length c = search needs
+
+returns-2 : tie.Need-returns-2
+unfolding recordsOf
+returns-2 c =
+    let w = c .before .before in
+    let m = w .before .before in
+    let g = m .before .before .before .notify .given in
+    let a = m .before .before .before .before .before .before .args in
+    let e = streamsOf (a .self) in
+    let x = notification e (g .0 .0) (g .0 .1 .0) in
+    let z = ap₂ (λ (p : Option ℕ) (i : ℕ). noticeOf p i (g .0 .0) (g .0 .1 .0)) (m .before .primary .ensures) (m .mark .ensures) in
+    rw (g .1) (refl, w .write-notification .ensures ∙ ap (splice (a .out .now) 0) (z ∙ sym (append-nil x)))
+
+same-length-2 : tie.Need-same-length-2
+same-length-2 c = search needs
+
+returns-3 : tie.Need-returns-3
+unfolding recordsOf
+returns-3 c =
+    let w = c .before .before in
+    rw (w .before .before .before .notify2 .given .1) (w .write-role .ensures)
+
+pub write-notifications-spec : {M : Type 1} → statement M
+write-notifications-spec =
+    tie.close
+    (tie.spec
+    enum-told
+    enum-known-notify
+    primary-requires
+    mark-requires
+    write-notification-requires
+    enum-known-notify-2
+    write-role-requires
+    returns
+    same-length
+    returns-2
+    same-length-2
+    returns-3)
