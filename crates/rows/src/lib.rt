@@ -185,18 +185,18 @@ fn action_allowed(a: &[u8]) -> bool
     if a[0] != 1 {
         return false;
     }
-    let n = a[4] as usize;
-    if 4 < n {
+    let count = a[4] as usize;
+    if 4 < count {
         return false;
     }
     let mut i: usize = 0;
-    while i < n {
+    while i < count {
         if !width_allowed(a[5 + i]) {
             return false;
         }
         i += 1;
     }
-    let past = 5 + n;
+    let past = 5 + count;
     buffers::all_zero(&a[past..9])
 }
 

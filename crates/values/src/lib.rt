@@ -3,9 +3,9 @@
 ghost use mathlib.Core.Path.{_≡_};
 ghost use mathlib.Core.List.{map};
 ghost use Prim.Native.Nat.{_+_, _-_, _≤_, _<_};
-ghost use lib.ListN.{length, take, drop, getD};
+ghost use lib.ListN.{length, drop};
 ghost use Rattle.rules.specs.Bytes.{concat, part, parts};
-ghost use Rattle.rules.specs.Value.{isValue, fits as below, stripped, short};
+ghost use Rattle.rules.specs.Value.{isValue, fits as below, stripped, padded, short};
 ghost use Rattle.rules.specs.Key.{shortSlot, shortKey};
 ghost use Rattle.rules.specs.Entry.{shortEntry};
 ghost use Rattle.buffers.specs.Splice.{splice};
@@ -16,14 +16,14 @@ pub fn formed(v: &[u8]) -> bool
     requires { ⌜ length (now v) ≡ 17 ⌝ }
     ensures { λ r. ⌜ r ≡ isValue (now (v .entry)) ⌝ }
 {
-    let n = v[0] as usize;
-    if n == 0 {
+    let length = v[0] as usize;
+    if length == 0 {
         return false;
     }
-    if 16 < n {
+    if 16 < length {
         return false;
     }
-    let past = n + 1;
+    let past = length + 1;
     buffers::all_zero(&v[past..])
 }
 
@@ -51,6 +51,18 @@ fn significant(v: &[u8], n: usize) -> usize
     i
 }
 
+// Writes up to 16 digits as a value over the first 17 bytes of dst.
+fn pad(digits: &[u8], dst: &mut [u8])
+    requires { ⌜ (length (now digits) ≤ 16) × (17 ≤ length (now dst)) ⌝ }
+    ensures { λ _. ⌜ now (dst .exit) ≡ splice (now (dst .entry)) 0 (padded (now (digits .entry))) ⌝ }
+{
+    let n = digits.len();
+    let end = n + 1;
+    dst[0] = n as u8;
+    buffers::copy(digits, &mut dst[1..end]);
+    buffers::clear(&mut dst[end..17]);
+}
+
 // Writes the shortest form of a value over the first 17 bytes of dst. The zeros of an unused part stay.
 pub fn shorten(v: &[u8], dst: &mut [u8])
     requires { ⌜ (length (now v) ≡ 17) × (17 ≤ length (now dst)) ⌝ }
@@ -66,21 +78,25 @@ pub fn shorten(v: &[u8], dst: &mut [u8])
     }
     let first = significant(v, n);
     let past = n + 1;
-    let m = past - first;
-    let end = m + 1;
-    dst[0] = m as u8;
-    buffers::copy(&v[first..past], &mut dst[1..end]);
-    buffers::clear(&mut dst[end..17]);
+    pad(&v[first..past], dst);
 }
 
-// Writes a slot of 35 bytes in shortest form.
-fn shorten_slot(slot: &[u8], dst: &mut [u8])
-    requires { ⌜ (length (now slot) ≡ 35) × (35 ≤ length (now dst)) ⌝ }
-    ensures { λ _. ⌜ now (dst .exit) ≡ splice (now (dst .entry)) 0 (shortSlot (now (slot .entry))) ⌝ }
+// Writes the shortest form of a value at a place of dst.
+fn shorten_at(v: &[u8], dst: &mut [u8], at: usize)
+    requires { ⌜ (length (now v) ≡ 17) × (at + 17 ≤ length (now dst)) ⌝ }
+    ensures { λ _. ⌜ now (dst .exit) ≡ splice (now (dst .entry)) at (short (now (v .entry))) ⌝ }
 {
-    dst[0] = slot[0];
-    shorten(&slot[1..18], &mut dst[1..]);
-    shorten(&slot[18..35], &mut dst[18..]);
+    shorten(v, &mut dst[at..]);
+}
+
+// Writes a slot of 35 bytes in shortest form at a place of dst.
+fn slot_at(slot: &[u8], dst: &mut [u8], at: usize)
+    requires { ⌜ (length (now slot) ≡ 35) × (at + 35 ≤ length (now dst)) ⌝ }
+    ensures { λ _. ⌜ now (dst .exit) ≡ splice (now (dst .entry)) at (shortSlot (now (slot .entry))) ⌝ }
+{
+    dst[at] = slot[0];
+    shorten_at(&slot[1..18], dst, at + 1);
+    shorten_at(&slot[18..35], dst, at + 18);
 }
 
 // Writes four slots, 140 bytes, in shortest form.
@@ -92,7 +108,7 @@ pub fn shorten_slots(src: &[u8], dst: &mut [u8])
     while i < 4 {
         let at = 35 * i;
         let end = at + 35;
-        shorten_slot(&src[at..end], &mut dst[at..]);
+        slot_at(&src[at..end], dst, at);
         i += 1;
     }
 }
@@ -106,7 +122,7 @@ fn shorten_values(src: &[u8], dst: &mut [u8])
     while i < 4 {
         let at = 17 * i;
         let end = at + 17;
-        shorten(&src[at..end], &mut dst[at..]);
+        shorten_at(&src[at..end], dst, at);
         i += 1;
     }
 }

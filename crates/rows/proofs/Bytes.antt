@@ -1,0 +1,93 @@
+-- A part of a part is a part of the whole, so a byte or an integer of a record is read at its place in the whole, and a list of
+-- records is read one by one. Assumes nothing.
+use Prim.Native.Nat.{ℕ, zero, suc, _+_, _*_, _^_, _≤_, _<_}
+use native.Mathlib.Nat.{add-comm, mul-suc}
+use native.Mathlib.Numerals.{add-one}
+use native.Mathlib.Omega.{arith}
+use mathlib.Core.Path.{_≡_, refl, sym, ap, ap₂, _∙_}
+use mathlib.Core.List.{List, [], _∷_, map}
+use mathlib.Core.Bool.{Bool, true}
+use lib.ListN.{length, take, drop, getD}
+use lib.Seq.{getD-take, getD-drop, take-take, drop-drop}
+use Rattle.rules.specs.Bytes.{every, byte, part, parts, int}
+use Rattle.rules.proofs.Tests.{and-true, both-true}
+use Rattle.numbers.proofs.Bytes.{int-none, int-next, below-next}
+
+-- n bytes are below 256 ^ n
+pub int-below : (n a : ℕ) (l : List ℕ) → ((i : ℕ) → getD l i 0 < 256) → a + n ≤ length l → int a n l < 256 ^ n
+int-below zero a l b h = rw (int-none a l) (omega arith)
+int-below (suc n) a l b h =
+    let r : int a n l < 256 ^ n = int-below n a l b (omega arith) in
+    rw (← add-one n, int-next a n l (omega arith)) (below-next (int a n l) (getD l (a + n) 0) n r (b (a + n)))
+
+-- ---- parts of parts
+
+-- the first m after k of n, where there are as many
+part-front : (k m n : ℕ) (l : List ℕ) → k + m ≤ n → part k m (take n l) ≡ part k m l
+part-front zero m n l h = take-take m n l (omega arith)
+part-front (suc k) m zero l h = absurd (omega arith)
+part-front (suc k) m (suc n) [] h = refl
+part-front (suc k) m (suc n) (x ∷ l) h = part-front k m n l (omega arith)
+
+pub part-part : (at n k m : ℕ) (l : List ℕ) → k + m ≤ n → part k m (part at n l) ≡ part (at + k) m l
+part-part at n k m l h = part-front k m n (drop at l) h ∙ ap (take m) (drop-drop k at l)
+
+pub byte-part : (at n k : ℕ) (l : List ℕ) → k < n → byte k (part at n l) ≡ byte (at + k) l
+byte-part at n k l h = getD-take n (drop at l) k 0 h ∙ getD-drop at l k 0
+
+-- ---- records of w bytes each
+
+next-part : (w i : ℕ) (l : List ℕ) → part (w * suc i) w l ≡ part (w * i) w (drop w l)
+next-part w i l =
+    ap (λ (a : ℕ). part a w l) (mul-suc w i ∙ add-comm (w * i) w) ∙ ap (take w) (sym (drop-drop (w * i) w l))
+
+-- n records read one by one
+pub read-all : {A B : Type 0} (f : A → B) (g : List ℕ → B) (d : A) (w n : ℕ) (xs : List A) (l : List ℕ) → n ≤ length xs
+    → ((i : ℕ) → i < n → f (getD xs i d) ≡ g (part (w * i) w l)) → map f (take n xs) ≡ map g (parts n w l)
+unfolding parts
+read-all f g d w zero xs l h e = refl
+read-all f g d w (suc n) [] l h e = absurd (omega arith)
+read-all f g d w (suc n) (x ∷ xs) l h e =
+    let z : w * 0 ≡ 0 = omega arith in
+    let first : f x ≡ g (take w l) = e 0 (omega arith) ∙ ap (λ (a : ℕ). g (part a w l)) z in
+    ap₂ (λ (y : _) (ys : List _). y ∷ ys) first
+    (read-all f g d w n xs (drop w l) (omega arith) (λ i q. e (suc i) (omega arith) ∙ ap g (next-part w i l)))
+
+-- four of them from place `at`, as far as a count says
+pub read-four : {A B : Type 0} (f : A → B) (g : List ℕ → B) (w n at m : ℕ) (l : List ℕ) (x0 x1 x2 x3 : A) → n ≤ 4 → w * 4 ≤ m
+    → (0 < n → f x0 ≡ g (part (at + w * 0) w l)) → (1 < n → f x1 ≡ g (part (at + w * 1) w l))
+    → (2 < n → f x2 ≡ g (part (at + w * 2) w l)) → (3 < n → f x3 ≡ g (part (at + w * 3) w l))
+    → map f (take n (x0 ∷ x1 ∷ x2 ∷ x3 ∷ [])) ≡ map g (parts n w (part at m l))
+read-four {A} f g w n at m l x0 x1 x2 x3 few fits e0 e1 e2 e3 = read-all f g x0 w n xs (part at m l) few each
+  where
+    xs : List A
+    xs = x0 ∷ x1 ∷ x2 ∷ x3 ∷ []
+
+    each : (i : ℕ) → i < n → f (getD xs i x0) ≡ g (part (w * i) w (part at m l))
+    each zero h = e0 h ∙ ap g (sym (part-part at m (w * 0) w l (omega arith)))
+    each (suc zero) h = e1 h ∙ ap g (sym (part-part at m (w * 1) w l (omega arith)))
+    each (suc (suc zero)) h = e2 h ∙ ap g (sym (part-part at m (w * 2) w l (omega arith)))
+    each (suc (suc (suc zero))) h = e3 h ∙ ap g (sym (part-part at m (w * 3) w l (omega arith)))
+    each (suc (suc (suc (suc i)))) h = absurd (omega arith)
+
+-- a test that all of them pass is passed by each
+pub every-part : (p : List ℕ → Bool) (w n i : ℕ) (l : List ℕ) → every p (parts n w l) ≡ true → i < n
+    → p (part (w * i) w l) ≡ true
+unfolding parts
+every-part p w zero i l e h = absurd (omega arith)
+every-part p w (suc n) zero l e h =
+    let z : w * 0 ≡ 0 = omega arith in
+    rw z (and-true (p (take w l)) (every p (parts n w (drop w l))) e .0)
+every-part p w (suc n) (suc i) l e h =
+    let rest = and-true (p (take w l)) (every p (parts n w (drop w l))) e .1 in
+    rw (next-part w i l) (every-part p w n i (drop w l) rest (omega arith))
+
+-- and where each passes it, all do
+pub every-parts : (p : List ℕ → Bool) (w n : ℕ) (l : List ℕ) → ((i : ℕ) → i < n → p (part (w * i) w l) ≡ true)
+    → every p (parts n w l) ≡ true
+unfolding parts
+every-parts p w zero l h = refl
+every-parts p w (suc n) l h =
+    let z : w * 0 ≡ 0 = omega arith in
+    both-true (rw z at (h 0 (omega arith)))
+    (every-parts p w n (drop w l) (λ i q. rw (next-part w i l) at (h (suc i) (omega arith))))

@@ -1,0 +1,75 @@
+-- The rows in force, walked from the front: what is left begins with the row at the index, and is nothing past the count or
+-- the eighth. Assumes nothing.
+use Prim.Native.Nat.{ℕ, zero, suc, _+_, min, _≤_, _<_}
+use native.Mathlib.Numerals.{add-one}
+use native.Mathlib.Omega.{arith}
+use mathlib.Core.Path.{_≡_, refl, sym, ap, _∙_}
+use mathlib.Core.List.{List, [], _∷_, map}
+use lib.ListN.{length, take, drop, getD, length-map, length-take, drop-of-length-le, List·getD-map}
+use lib.Seq.{drop-cons, getD-take}
+use lib.Dec.{eqb, eqb·suc-zero}
+use Rattle.rules.specs.Call.{unconfigured}
+use Rattle.rules.specs.Row as rules
+use Rattle.rows.specs.declared.Row.{Row}
+use Rattle.rows.specs.declared.Rows.{Rows}
+use Rattle.rows.specs.Meaning.{rowOf, rowsOf}
+
+-- what is known of an array's length is said of its elements' images
+pub length-mapped : (X Y : Type 0) (f : X → Y) (l : List X) (n : ℕ) → length (map f l) ≡ n → length l ≡ n
+length-mapped X Y f l n e = sym (length-map l f) ∙ e
+
+-- there is none exactly where the count is 0
+pub none-within : (n : ℕ) (l : List Row) → 0 < length l → eqb n 0 ≡ unconfigured (map rowOf (take n l))
+none-within zero l h = refl
+none-within (suc n) [] h = absurd (omega arith)
+none-within (suc n) (r ∷ l) h = eqb·suc-zero n
+
+drop-map : {A B : Type 0} (f : A → B) (j : ℕ) (l : List A) → drop j (map f l) ≡ map f (drop j l)
+drop-map f zero l = refl
+drop-map f (suc j) [] = refl
+drop-map f (suc j) (x ∷ l) = drop-map f j l
+
+-- what the code reads where there is no row
+abbrev pub blank : Row
+blank = record { table = 0; size = 0; owner = 0; «field_count» = 0; fields = []; actions = []; «action_count» = 0 }
+
+-- the rows in force from j on: the one at j first
+pub rows-next : (c : Rows) (j : ℕ) → length (c .rows) ≡ 8 → j < c .count → j < 8
+    → drop j (rowsOf c) ≡ rowOf (getD (c .rows) j blank) ∷ drop (j + 1) (rowsOf c)
+unfolding rowsOf
+rows-next c j e h g =
+    rw add-one
+    (drop-cons (map rowOf few) j (rowOf blank) (rw (length-map, length-take) (omega arith))
+    ∙ ap (λ (x : rules.Row). x ∷ drop (suc j) (map rowOf few)) first)
+  where
+    few : List Row
+    few = take (c .count) (c .rows)
+
+    first : getD (map rowOf few) j (rowOf blank) ≡ rowOf (getD (c .rows) j blank)
+    first = List·getD-map rowOf few j blank ∙ ap rowOf (getD-take (c .count) (c .rows) j blank h)
+
+-- none
+pub rows-none : (c : Rows) (j : ℕ) → length (c .rows) ≡ 8 → min (c .count) 8 ≤ j → drop j (rowsOf c) ≡ []
+unfolding rowsOf
+rows-none c j e h = drop-of-length-le (map rowOf (take (c .count) (c .rows))) {i = j} (rw (length-map, length-take, e) h)
+
+-- ---- one number of each: their tables, or their sizes
+
+abbrev pub tableOf : rules.Row → ℕ
+tableOf r = r .table
+
+abbrev pub sizeOf : rules.Row → ℕ
+sizeOf r = r .size
+
+abbrev pub column : (rules.Row → ℕ) → Rows → ℕ → List ℕ
+column h c j = map h (drop j (rowsOf c))
+
+pub column-from : (h : rules.Row → ℕ) (c : Rows) (j : ℕ) → drop j (map h (rowsOf c)) ≡ column h c j
+column-from h c j = drop-map h j (rowsOf c)
+
+pub column-next : (h : rules.Row → ℕ) (c : Rows) (j : ℕ) → length (c .rows) ≡ 8 → j < c .count → j < 8
+    → column h c j ≡ h (rowOf (getD (c .rows) j blank)) ∷ column h c (j + 1)
+column-next h c j e g k = ap (map h) (rows-next c j e g k)
+
+pub column-none : (h : rules.Row → ℕ) (c : Rows) (j : ℕ) → length (c .rows) ≡ 8 → min (c .count) 8 ≤ j → column h c j ≡ []
+column-none h c j e g = ap (map h) (rows-none c j e g)
