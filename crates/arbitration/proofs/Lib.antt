@@ -1,5 +1,5 @@
 -- What is proved of streams, marks and notifications.
 pub mod Records
 pub mod Listing
-pub mod Written
+pub mod Notices
 pub mod Events

@@ -1,30 +1,54 @@
--- What a loop over the streams has still to list: at each stream its number or nothing, by the test, and nothing past the last.
+-- What a loop over the streams has still to list: at each stream its number or nothing, by the test, and past the last nothing.
 -- Assumes nothing.
 use Prim.Native.Nat.{ℕ, _+_, _<_, _≤_}
 use native.Mathlib.Numerals.{add-one}
-use mathlib.Core.Path.{_≡_, refl, ap, _∙_}
+use native.Mathlib.Omega.{arith}
+use mathlib.Core.Path.{_≡_, refl, sym, ap, _∙_}
 use mathlib.Core.Bool.{Bool, true, false}
 use mathlib.Core.List.{List, [], _∷_}
-use lib.ListN.{length, getD, drop, drop-of-length-le}
+use lib.ListN.{length, getD, drop, length-map, List·getD-map, drop-of-length-le}
 use lib.Seq.{drop-cons}
 use Rattle.rules.specs.Bytes.{if_then_else_, some-of}
-use Rattle.rules.specs.Streams.{Stream, closed, numbers}
+use Rattle.rules.specs.Streams as rules
+use Rattle.rules.specs.Streams.{closed, numbers, streamAt}
+use Rattle.arbitration.specs.Meaning.{streamOf, streamsOf}
+use Rattle.arbitration.specs.declared.Streams.{Streams}
+use Rattle.arbitration.proofs.Records.{noStream}
 
 -- the streams that pass the test, from stream k on
-abbrev pub left : (Stream → Bool) → List Stream → ℕ → List ℕ
-left p l k = numbers p k (drop k l)
+abbrev pub left : (rules.Stream → Bool) → rules.Streams → ℕ → List ℕ
+left p e k = numbers p k (drop k (e .streams))
 
-module _ (p : Stream → Bool) (l : List Stream) (k : ℕ) where
-  pub left-next : (b : Bool) → p (getD l k closed) ≡ b → k < length l → left p l k ≡ (if b then k ∷ left p l (k + 1) else left p l (k + 1))
-  left-next b e h = rw add-one (ap (numbers p k) (drop-cons l k closed h) ∙ rw e)
+module _ (s : Streams) (size : length (s .streams) ≡ 32) (p : rules.Stream → Bool) (k : ℕ) where
+  sized : length (streamsOf s .streams) ≡ 32
+  unfolding streamsOf
+  sized = rw length-map size
 
-  pub left-none : length l ≤ k → left p l k ≡ []
-  left-none h = ap (numbers p k) (drop-of-length-le l h)
+  step : k < 32 → (b : Bool) → p (streamAt (streamsOf s) k) ≡ b
+      → left p (streamsOf s) k ≡ (if b then k ∷ left p (streamsOf s) (k + 1) else left p (streamsOf s) (k + 1))
+  step h b e =
+      let n = sized in
+      rw add-one (ap (numbers p k) (drop-cons (streamsOf s .streams) k closed (omega arith)) ∙ rw e)
 
-  -- a number that a test refuses adds nothing to what the test finds
-  pub left-skip : (P : ℕ → Bool) → P k ≡ false → k < length l → some-of P (left p l k) ≡ some-of P (left p l (k + 1))
-  left-skip P e h = ap (some-of P) (left-next (p (getD l k closed)) refl h) ∙ go (p (getD l k closed))
+  -- where the stream at k was read as x, and the test of x said b
+  pub left-next : k < 32 → {x : rules.Stream} {t : Bool} → x ≡ streamOf (getD (s .streams) k noStream) → t ≡ p x
+      → (b : Bool) → t ≡ b
+      → left p (streamsOf s) k ≡ (if b then k ∷ left p (streamsOf s) (k + 1) else left p (streamsOf s) (k + 1))
+  unfolding streamsOf
+  left-next h e f b g = step h b (ap p (List·getD-map streamOf (s .streams) k noStream ∙ sym e) ∙ sym f ∙ g)
+
+  pub left-none : 32 ≤ k → left p (streamsOf s) k ≡ []
+  left-none h =
+      let n = sized in
+      let g : length (streamsOf s .streams) ≤ k = omega arith in
+      ap (numbers p k) (drop-of-length-le (streamsOf s .streams) g)
+
+  -- a number that another test refuses adds nothing to what that test finds
+  pub left-skip : k < 32 → (P : ℕ → Bool) → P k ≡ false
+      → some-of P (left p (streamsOf s) k) ≡ some-of P (left p (streamsOf s) (k + 1))
+  left-skip h P e = ap (some-of P) (step h (p (streamAt (streamsOf s) k)) refl) ∙ go (p (streamAt (streamsOf s) k))
     where
-      go : (b : Bool) → some-of P (if b then k ∷ left p l (k + 1) else left p l (k + 1)) ≡ some-of P (left p l (k + 1))
+      go : (b : Bool) → some-of P (if b then k ∷ left p (streamsOf s) (k + 1) else left p (streamsOf s) (k + 1))
+          ≡ some-of P (left p (streamsOf s) (k + 1))
       go true = rw e
       go false = refl

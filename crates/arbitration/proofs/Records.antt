@@ -3,14 +3,14 @@
 use Prim.Native.Nat.{ℕ, zero, suc, _≤_, max}
 use native.Mathlib.Omega.{arith}
 use mathlib.Core.Path.{_≡_, refl, sym, ap, _∙_}
-use mathlib.Core.Bool.{Bool, true, false}
-use lib.Dec.{ltb}
-use borrow.Author.Tests.{ltb-true, ltb-false}
+use mathlib.Core.Bool.{true, false}
 use mathlib.Core.List.{List, [], _∷_, map}
+use lib.Dec.{ltb}
 use lib.ListN.{length, getD, set, length-map, List·getD-map, List·getD-eq-default}
 use lib.Seq.{set-out, set-getD}
+use borrow.Author.Tests.{ltb-true, ltb-false}
 use Rattle.rules.specs.Streams as rules
-use Rattle.arbitration.specs.Meaning.{idOf, headOf, streamOf, streamsOf}
+use Rattle.arbitration.specs.Meaning.{idOf, headOf, streamsOf}
 use Rattle.arbitration.specs.declared.ElectionId.{ElectionId}
 use Rattle.arbitration.specs.declared.Head.{Head}
 use Rattle.arbitration.specs.declared.Stream.{Stream}
@@ -40,19 +40,6 @@ unset = record { number = record { high = 0; low = 0 } }
 
 abbrev pub noStream : Stream
 noStream = record { id = unset; phase = 0; role = 0 }
-
-module _ (s : Streams) where
-  pub streams-length : (n : ℕ) → length (s .streams) ≡ n → length (streamsOf s .streams) ≡ n
-  unfolding streamsOf
-  streams-length n e = rw length-map e
-
-  -- what a test said of the stream that was read at k
-  pub told : (k : ℕ) (p : rules.Stream → Bool) {x : rules.Stream} {t b : Bool} → x ≡ streamOf (getD (s .streams) k noStream) → t ≡ p x → t ≡ b
-      → p (rules.streamAt (streamsOf s) k) ≡ b
-  unfolding streamsOf
-  told k p e f g = ap p (List·getD-map streamOf (s .streams) k noStream ∙ sym e) ∙ sym f ∙ g
-
--- ---- marks
 
 -- the marks after an accepted ARBITRATE of role r with id i, where m are those before
 abbrev pub raised : List ℕ → ℕ → ℕ → List ℕ

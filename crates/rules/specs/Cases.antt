@@ -198,6 +198,10 @@ stocked =
 abbrev stock : Reply
 stock = bytes 0 0 4 (item 2 1 1 ∷ item 2 2 1 ∷ item 1 1 1 ∷ item 1 2 1 ∷ [])
 
+-- rows that break 14, by a size of 0
+abbrev sizeless : List (List ℕ)
+sizeless = row 1 0 0 exact 8 ∷ []
+
 -- each sees those before it and succeeds or fails alone; a DELETE's action is checked too
 abbrev mixed : List (List ℕ × List ℕ)
 mixed =
@@ -262,7 +266,7 @@ pub record Entries : Type 0 where
   pub no-updates : Each stocked ((send [], ok) ∷ [])
   -- CONFIGURE empties the tables, also with the rows in force; a refused one does not
   pub emptied : InTurn stocked ((configure! (by 0 5) tables, ok) ∷ (readAll!, ok) ∷ [])
-  pub kept : InTurn stocked ((configure! (by 0 5) (row 1 0 0 exact 8 ∷ []), refused 14 3) ∷ (readAll!, stock) ∷ [])
+  pub kept : InTurn stocked ((configure! (by 0 5) sizeless, refused 14 3) ∷ (readAll!, stock) ∷ [])
 
 -- ---- orders of refusals
 
@@ -286,9 +290,9 @@ low = key 1 range (val1 1) (val1 2)
 abbrev high : List ℕ
 high = key 1 range (val1 3) (val1 4)
 
--- an entry of table n with a key, an action and a parameter; and a parameter that breaks 18
-abbrev with : ℕ → List ℕ → ℕ → List ℕ → List ℕ
-with n k a v = entryWith n k a (v ∷ [])
+-- an entry of it with one parameter; and a parameter that breaks 18
+abbrev entry1 : ℕ → List ℕ → ℕ → List ℕ → List ℕ
+entry1 n k a v = entryWith n k a (v ∷ [])
 
 abbrev wide : List ℕ
 wide = val2 1 0
@@ -297,30 +301,30 @@ wide = val2 1 0
 abbrev owned : List (List ℕ)
 owned =
     configured (ranges 1 0 ∷ ranges 2 1 ∷ [])
-    ++ (open! 2 ∷ arbitrate! 2 (by 1 5) ∷ write! (by 1 5) 0 (insert! (with 2 low 1 (val1 7)) ∷ []) ∷ [])
+    ++ (open! 2 ∷ arbitrate! 2 (by 1 5) ∷ write! (by 1 5) 0 (insert! (entry1 2 low 1 (val1 7)) ∷ []) ∷ [])
 
 -- role 1's updates of a type, down to 19: action 9 is not the row's
 abbrev toNineteen : ℕ → List (List ℕ × List ℕ)
 toNineteen type =
-    (type ∷ with 9 key17 9 wide, 15 ∷ 5 ∷ [])
-    ∷ (type ∷ with 1 key17 9 wide, 16 ∷ 7 ∷ [])
-    ∷ (type ∷ with 2 key18 9 wide, 17 ∷ 3 ∷ [])
-    ∷ (type ∷ with 2 key17 1 wide, 17 ∷ 3 ∷ [])
-    ∷ (type ∷ with 2 key18 1 (val1 7), 18 ∷ 11 ∷ [])
-    ∷ (type ∷ with 2 key19 1 wide, 18 ∷ 11 ∷ [])
-    ∷ (type ∷ with 2 key19 1 (val1 7), 19 ∷ 3 ∷ [])
+    (type ∷ entry1 9 key17 9 wide, 15 ∷ 5 ∷ [])
+    ∷ (type ∷ entry1 1 key17 9 wide, 16 ∷ 7 ∷ [])
+    ∷ (type ∷ entry1 2 key18 9 wide, 17 ∷ 3 ∷ [])
+    ∷ (type ∷ entry1 2 key17 1 wide, 17 ∷ 3 ∷ [])
+    ∷ (type ∷ entry1 2 key18 1 (val1 7), 18 ∷ 11 ∷ [])
+    ∷ (type ∷ entry1 2 key19 1 wide, 18 ∷ 11 ∷ [])
+    ∷ (type ∷ entry1 2 key19 1 (val1 7), 19 ∷ 3 ∷ [])
     ∷ []
 
 -- and from there: the table is full, with the key `low`
 abbrev fromTwenty : List (List ℕ × List ℕ)
 fromTwenty =
-    (insert! (with 2 low 1 (val1 7)), 20 ∷ 6 ∷ [])
-    ∷ (insert! (with 2 high 1 (val1 7)), 22 ∷ 8 ∷ [])
-    ∷ (modify! (with 2 high 1 (val1 7)), 21 ∷ 5 ∷ [])
-    ∷ (delete! (with 2 high 1 (val1 7)), 21 ∷ 5 ∷ [])
-    ∷ (modify! (with 2 low 1 (val1 8)), done)
-    ∷ (delete! (with 2 low 1 (val1 7)), done)
-    ∷ (insert! (with 2 high 1 (val1 7)), done)
+    (insert! (entry1 2 low 1 (val1 7)), 20 ∷ 6 ∷ [])
+    ∷ (insert! (entry1 2 high 1 (val1 7)), 22 ∷ 8 ∷ [])
+    ∷ (modify! (entry1 2 high 1 (val1 7)), 21 ∷ 5 ∷ [])
+    ∷ (delete! (entry1 2 high 1 (val1 7)), 21 ∷ 5 ∷ [])
+    ∷ (modify! (entry1 2 low 1 (val1 8)), done)
+    ∷ (delete! (entry1 2 low 1 (val1 7)), done)
+    ∷ (insert! (entry1 2 high 1 (val1 7)), done)
     ∷ []
 
 -- what a call gets where the store and the answer buffer are of these lengths
@@ -361,12 +365,12 @@ pub record Orders : Type 0 where
       ∷ [])
   -- CONFIGURE 5, 6, 11, 10, 14. 6 does not meet 11, which is about roles 1 to 7.
   pub configure : Each leading
-      ((configure! (headBy 2 8 0 0) (row 1 0 0 exact 8 ∷ []), refused 5 5)
-      ∷ (configure! (headBy 2 1 0 0) (row 1 0 0 exact 8 ∷ []), refused 5 5)
-      ∷ (configure! (unset 8) (row 1 0 0 exact 8 ∷ []), refused 6 5)
-      ∷ (configure! (unset 1) (row 1 0 0 exact 8 ∷ []), refused 11 7)
-      ∷ (configure! (unset 0) (row 1 0 0 exact 8 ∷ []), refused 10 7)
-      ∷ (configure! (by 0 5) (row 1 0 0 exact 8 ∷ []), refused 14 3)
+      ((configure! (headBy 2 8 0 0) sizeless, refused 5 5)
+      ∷ (configure! (headBy 2 1 0 0) sizeless, refused 5 5)
+      ∷ (configure! (unset 8) sizeless, refused 6 5)
+      ∷ (configure! (unset 1) sizeless, refused 11 7)
+      ∷ (configure! (unset 0) sizeless, refused 10 7)
+      ∷ (configure! (by 0 5) sizeless, refused 14 3)
       ∷ [])
   -- WRITE 5, 6, 10 (id unset, under the mark, over it), 12, 13 (atomicity 1, 2)
   pub write : InTurn leading
@@ -380,7 +384,7 @@ pub record Orders : Type 0 where
       ∷ (write! (by 0 5) 1 [], refused 13 12)
       ∷ (write! (by 0 5) 2 [], refused 13 12)
       ∷ [])
-  -- READ 5, 6, 12, then for a named table 15 and 16 and, with only 1, 17 to 19 on its key
+  -- READ 5, 6, 12, then for a named table 15 and 16 and, with only 1 and not with only 0, 17 to 19 on its key
   pub read : InTurn leading
       ((read! 2 8 (table# 9) 1 key17, refused 5 5)
       ∷ (read! 1 8 (table# 9) 1 key17, refused 6 5)
@@ -392,12 +396,13 @@ pub record Orders : Type 0 where
       ∷ (read! 1 0 (table# 1) 1 key18, refused 18 11)
       ∷ (read! 1 0 (table# 1) 1 key19, refused 19 3)
       ∷ (read! 1 0 (table# 1) 1 low, ok)
+      ∷ (readFrom 0 (table# 1), ok)
       ∷ [])
   -- An update: 17 for its type, 15, 16, 17, 18, 19, 20 or 21, 22. 19 does not meet 20: a stored key passed it. 21 does not meet
   -- 20 or 22, which are about INSERT. No list of calls comes to 24: the sizes add to 256 at most, so 22 comes before it.
   pub update : Each owned
       (batch! (by 1 5) 23 2 30
-      (all (17 ∷ 3 ∷ []) ((0 ∷ with 9 key17 9 wide) ∷ (4 ∷ with 9 key17 9 wide) ∷ [])
+      (all (17 ∷ 3 ∷ []) ((0 ∷ entry1 9 key17 9 wide) ∷ (4 ∷ entry1 9 key17 9 wide) ∷ [])
       ++ toNineteen 1 ++ toNineteen 2 ++ toNineteen 3 ++ fromTwenty)
       ∷ [])
 
@@ -617,8 +622,8 @@ pub record Updates : Type 0 where
   -- 128 one bits fit a width of 128 and not one of 127
   pub widest : Each (configured (row 1 0 4 exact 128 ∷ row 2 0 4 exact 127 ∷ []))
       (batch! (by 0 5) 23 2 2
-      ((insert! (entry 1 (key 0 exact (val (replicate 16 0xFF)) none17) 1), done)
-      ∷ (insert! (entry 2 (key 0 exact (val (replicate 16 0xFF)) none17) 1), 18 ∷ 11 ∷ [])
+      ((insert! (entry 1 (key 0 exact (val ones128) none17) 1), done)
+      ∷ (insert! (entry 2 (key 0 exact (val ones128) none17) 1), 18 ∷ 11 ∷ [])
       ∷ [])
       ∷ [])
 

@@ -14,7 +14,7 @@ id16 n = replicate 15 0 ++ (n ∷ [])
 
 -- ---- frames
 
--- a head: device d and role r, both below 256; id n, or unset where it is 0
+-- a head: device d, role r, flag, and id n, each below 256
 abbrev pub headBy : ℕ → ℕ → ℕ → ℕ → List ℕ
 headBy d r flag n = replicate 7 0 ++ (d ∷ r ∷ flag ∷ id16 n)
 
@@ -51,7 +51,7 @@ readAll! = read! 1 0 (replicate 4 0) 0 (replicate 144 0)
 
 -- ---- rows
 
--- n bytes: these, and zeros after them
+-- n bytes: these, cut there or with zeros after them
 abbrev pub filled : ℕ → List ℕ → List ℕ
 filled n bs = take n (bs ++ replicate n 0)
 

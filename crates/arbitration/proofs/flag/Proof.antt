@@ -1,8 +1,9 @@
-use lib.Dec.{eqb}
-use Rattle.arbitration.specs.Meaning.{idOf}
+-- Right because the flag is the test of the id. Assumes nothing.
 use mathlib.Core.Path.{sym, _∙_}
+use lib.Dec.{eqb}
 use borrow.Author.Tests.{not-true, not-false}
 use borrow.Author.Needs.{needs}
+use Rattle.arbitration.specs.Meaning.{idOf}
 use Rattle.arbitration.proofs.flag.Statement.{statement}
 use Rattle.arbitration.proofs.flag.Tie as tie
 

@@ -1,4 +1,4 @@
--- Right because the four bytes and then the id's are those of the record. Assumes nothing.
+-- Right because the four bytes and then those of the id are the record. Assumes nothing.
 use Prim.Native.Nat.{ℕ, _-_}
 use native.Mathlib.Omega.{arith}
 use mathlib.Core.Path.{_≡_, refl, sym, ap, ap₂, _∙_}
@@ -6,13 +6,13 @@ use mathlib.Core.List.{List, [], _∷_}
 use lib.ListN.{length, length-set, length-take, length-drop}
 use lib.Seq.{sets, sets-eq, length-sets}
 use borrow.Rule.Slice.PartMut.{same-len-mid}
+use borrow.Author.Needs.{needs}
 use Rattle.rules.specs.Bytes.{bytesOf}
 use Rattle.rules.specs.Streams.{noticeOf}
 use Rattle.numbers.proofs.Bytes.{length-bytesOf}
 use Rattle.buffers.specs.Splice.{splice}
 use Rattle.buffers.proofs.Splice.{part-copied, splice-front, splice-next}
 use Rattle.arbitration.specs.Meaning.{idOf}
-use borrow.Author.Needs.{needs}
 use Rattle.arbitration.proofs.write_notification.Statement.{statement}
 use Rattle.arbitration.proofs.write_notification.Tie as tie
 

@@ -1,3 +1,4 @@
+-- Right because a stream that is bound holds the id where role and id are both equal. Assumes nothing.
 use borrow.Author.Tests.{eq-eqb, ne-eqb}
 use borrow.Author.Needs.{needs}
 use Rattle.arbitration.proofs.Binding.holds.Statement.{statement}

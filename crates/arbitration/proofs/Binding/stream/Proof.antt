@@ -1,3 +1,4 @@
+-- Right because each arm gives the phase that means it. Assumes nothing.
 use borrow.Author.Needs.{needs}
 use Rattle.arbitration.proofs.Binding.stream.Statement.{statement}
 use Rattle.arbitration.proofs.Binding.stream.Tie as tie

@@ -1,3 +1,4 @@
+-- Right because phase 1 is open, 2 is bound, and any other is closed. Assumes nothing.
 use borrow.Author.Tests.{ne-eqb}
 use Rattle.arbitration.proofs.Stream.binding.Statement.{statement}
 use Rattle.arbitration.proofs.Stream.binding.Tie as tie

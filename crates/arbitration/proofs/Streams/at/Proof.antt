@@ -1,10 +1,11 @@
+-- Right because a stream reads alike from the record and from what it means, and past the last all are closed. Assumes nothing.
 use native.Mathlib.Omega.{arith}
 use mathlib.Core.Path.{_≡_, sym, _∙_}
 use lib.ListN.{length, List·getD-map}
+use borrow.Author.Needs.{needs}
 use Rattle.rules.specs.Streams as rules
 use Rattle.arbitration.specs.Meaning.{streamOf, streamsOf}
 use Rattle.arbitration.proofs.Records.{length-mapped, past-read}
-use borrow.Author.Needs.{needs}
 use Rattle.arbitration.proofs.Streams.at.Statement.{statement}
 use Rattle.arbitration.proofs.Streams.at.Tie as tie
 

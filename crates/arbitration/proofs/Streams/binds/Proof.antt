@@ -1,9 +1,10 @@
+-- Right because the stream is bound first, and then the mark of its role is raised or kept. Assumes nothing.
 use native.Mathlib.Omega.{arith}
 use mathlib.Core.Path.{_≡_, sym, _∙_}
 use lib.ListN.{length}
+use borrow.Author.Needs.{needs}
 use Rattle.arbitration.specs.Meaning.{idOf}
 use Rattle.arbitration.proofs.Records.{length-mapped, past-set, raised-up, raised-kept, binds-in-steps}
-use borrow.Author.Needs.{needs}
 use Rattle.arbitration.proofs.Streams.binds.Statement.{statement}
 use Rattle.arbitration.proofs.Streams.binds.Tie as tie
 

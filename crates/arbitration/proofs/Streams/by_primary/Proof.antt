@@ -1,12 +1,12 @@
 -- Right because the three tests are those of the rules. Assumes nothing.
+use Prim.Native.Nat.{ℕ}
 use mathlib.Core.Path.{_≡_, refl, sym, ap, _∙_}
 use mathlib.Core.Bool.{Bool, true, false, _&&_, not}
 use lib.Dec.{eqb}
 use borrow.Author.Tests.{not-true, not-false}
-use Rattle.rules.specs.Streams.{Streams, markOf, primary, isSome, byPrimary}
-use Prim.Native.Nat.{ℕ}
-use Rattle.arbitration.specs.Meaning.{idOf, streamsOf}
 use borrow.Author.Needs.{needs}
+use Rattle.rules.specs.Streams.{Streams, markOf, primary, isSome, byPrimary}
+use Rattle.arbitration.specs.Meaning.{idOf, streamsOf}
 use Rattle.arbitration.proofs.Streams.by_primary.Statement.{statement}
 use Rattle.arbitration.proofs.Streams.by_primary.Tie as tie
 
@@ -14,7 +14,8 @@ set : (c : tie.Else1) → not (eqb (idOf (c .before .before .args .id)) 0) ≡ t
 set c = sym (c .before .is-set .ensures) ∙ not-false (c .before .is-set .result) (c .if1 .left)
 
 -- whether the id is the mark
-mark-test : (c : tie.After-equals) → let a = c .before .before .before .before .args in eqb (idOf (a .id)) (markOf (streamsOf (a .self)) (a .role)) ≡ c .equals .result
+mark-test : (c : tie.After-equals) → let a = c .before .before .before .before .args in
+    eqb (idOf (a .id)) (markOf (streamsOf (a .self)) (a .role)) ≡ c .equals .result
 mark-test c = sym (c .equals .ensures ∙ ap (eqb (idOf (c .before .before .before .before .args .id))) (c .before .mark .ensures))
 
 -- an id that is not the mark
@@ -32,7 +33,8 @@ is-set-requires c κs = search needs
 returns : tie.Need-returns
 unfolding byPrimary
 returns c =
-    let t : not (eqb (idOf (c .before .before .args .id)) 0) ≡ false = sym (c .before .is-set .ensures) ∙ not-true (c .before .is-set .result) (c .if1 .taken) in
+    let i = c .before .is-set in
+    let t : not (eqb (idOf (c .before .before .args .id)) 0) ≡ false = sym (i .ensures) ∙ not-true (i .result) (c .if1 .taken) in
     rw t
 
 mark-requires : tie.Need-mark-requires

@@ -9,20 +9,20 @@ use lib.ListN.{length}
 use borrow.Author.Needs.{needs}
 use Rattle.rules.specs.Streams.{inRole, members}
 use Rattle.arbitration.specs.Meaning.{streamsOf}
-use Rattle.arbitration.proofs.Records.{length-mapped, streams-length, told}
+use Rattle.arbitration.proofs.Records.{length-mapped}
 use Rattle.arbitration.proofs.Listing.{left, left-next, left-none}
 use Rattle.arbitration.proofs.Streams.count.Statement.{statement}
 use Rattle.arbitration.proofs.Streams.count.Tie as tie
 
 abbrev Inv-loop : tie.InvT-loop
 Inv-loop role self n₀ k₀ n k =
-    (k ≤ 32) × (n ≤ k) × (length (members (streamsOf self) role) ≡ n + length (left (inRole role) (streamsOf self .streams) k))
+    (k ≤ 32) × (n ≤ k) × (length (members (streamsOf self) role) ≡ n + length (left (inRole role) (streamsOf self) k))
 
 abbrev μ-loop : tie.MeasureT-loop
 μ-loop role self n₀ k₀ n k = 32 - k
 
-size : (c : tie.At-loop Inv-loop μ-loop) → length (streamsOf (c .before .args .t1) .streams) ≡ 32
-size c = streams-length (c .before .args .t1) 32 (search (needs, length-mapped))
+size : (c : tie.At-loop Inv-loop μ-loop) → length (c .before .args .t1 .streams) ≡ 32
+size c = search (needs, length-mapped)
 
 loop-holds : tie.Need-loop-holds Inv-loop μ-loop
 loop-holds c = (search needs, search needs, sym (zero-add _))
@@ -53,27 +53,22 @@ loop-again c =
     let d = c .before .before .before .before .before in
     let a = d .before .args in
     let k = d .loop .k in
-    let l = streamsOf (a .t1) .streams in
     let p = inRole (a .role) in
-    let n = size d in
+    let e = streamsOf (a .t1) in
+    let h = c .before .before .before .before .loop-test .taken in
+    let next = left-next (a .t1) (size d) p k h (c .before .before .binding .ensures) (c .before .in-role .ensures) in
     ⊎-elim
-    (λ w.
-    let t = told (a .t1) k p (c .before .before .binding .ensures) (c .before .in-role .ensures) (w .0 .taken) in
-    let e : length (left p l k) ≡ suc (length (left p l (k + 1))) = ap length (left-next p l k true t (omega arith)) in
-    omega arith)
-    (λ w.
-    let t = told (a .t1) k p (c .before .before .binding .ensures) (c .before .in-role .ensures) (w .0 .left) in
-    let e : length (left p l k) ≡ length (left p l (k + 1)) = ap length (left-next p l k false t (omega arith)) in
-    omega arith)
+    (λ w. let q : length (left p e k) ≡ suc (length (left p e (k + 1))) = ap length (next true (w .0 .taken)) in omega arith)
+    (λ w. let q : length (left p e k) ≡ length (left p e (k + 1)) = ap length (next false (w .0 .left)) in omega arith)
     (c .if1 .came)
 
 returns : tie.Need-returns Inv-loop μ-loop
 returns c =
     let d = c .before in
     let a = d .before .args in
-    let l = streamsOf (a .t1) .streams in
-    let n = size d in
-    let e : length (left (inRole (a .role)) l (d .loop .k)) ≡ 0 = ap length (left-none (inRole (a .role)) l (d .loop .k) (omega arith)) in
+    let p = inRole (a .role) in
+    let k = d .loop .k in
+    let h : length (left p (streamsOf (a .t1)) k) ≡ 0 = ap length (left-none (a .t1) (size d) p k (c .loop-test .left)) in
     omega arith
 
 pub count-spec : {M : Type 1} → statement M

@@ -1,3 +1,4 @@
+-- Right because each stream reads as closed and each mark as 0. Assumes nothing.
 use mathlib.Core.Path.{refl}
 use Rattle.rules.specs.Streams as rules
 use Rattle.arbitration.specs.Meaning.{streamsOf}

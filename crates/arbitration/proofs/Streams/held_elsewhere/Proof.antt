@@ -1,17 +1,16 @@
--- Right because of the streams left to list one differs from the given stream where one of all does. Assumes nothing.
+-- Right because another stream holds the id where one of those left to list does, once none before them does. Assumes nothing.
 use Prim.Native.Nat.{ℕ, _-_, _≤_}
-use native.Mathlib.Omega.{arith}
 use mathlib.Core.Path.{_≡_, refl, sym, ap, _∙_}
 use mathlib.Core.Bool.{Bool, true, false, not}
 use mathlib.Core.Logic.{⊎-elim}
-use borrow.Author.Tests.{eq-eqb, ne-eqb, not-true, not-false}
 use lib.Dec.{eqb}
 use lib.ListN.{length}
+use borrow.Author.Tests.{eq-eqb, ne-eqb, not-true, not-false}
 use borrow.Author.Needs.{needs}
 use Rattle.rules.specs.Bytes.{some-of}
 use Rattle.rules.specs.Streams.{holds, numbers, heldElsewhere}
 use Rattle.arbitration.specs.Meaning.{idOf, streamsOf}
-use Rattle.arbitration.proofs.Records.{length-mapped, streams-length, told}
+use Rattle.arbitration.proofs.Records.{length-mapped}
 use Rattle.arbitration.proofs.Listing.{left, left-next, left-none, left-skip}
 use Rattle.arbitration.proofs.Streams.held_elsewhere.Statement.{statement}
 use Rattle.arbitration.proofs.Streams.held_elsewhere.Tie as tie
@@ -24,13 +23,13 @@ abbrev Inv-loop : tie.InvT-loop
 Inv-loop stream role id self own k₀ k =
     (k ≤ 32)
     × (some-of (other stream) (numbers (holds role (idOf id)) 0 (streamsOf self .streams))
-    ≡ some-of (other stream) (left (holds role (idOf id)) (streamsOf self .streams) k))
+    ≡ some-of (other stream) (left (holds role (idOf id)) (streamsOf self) k))
 
 abbrev μ-loop : tie.MeasureT-loop
 μ-loop stream role id self own k₀ k = 32 - k
 
-size : (c : tie.At-loop Inv-loop μ-loop) → length (streamsOf (c .before .before .before .args .t1) .streams) ≡ 32
-size c = streams-length (c .before .before .before .args .t1) 32 (search (needs, length-mapped))
+size : (c : tie.At-loop Inv-loop μ-loop) → length (c .before .before .before .args .t1 .streams) ≡ 32
+size c = search (needs, length-mapped)
 
 is-set : (c : tie.Else1 Inv-loop μ-loop) → not (eqb (idOf (c .before .before .args .id)) 0) ≡ true
 is-set c = sym (c .before .is-set .ensures) ∙ not-false (c .before .is-set .result) (c .if1 .left)
@@ -41,7 +40,8 @@ is-set-requires c κs = search needs
 returns : tie.Need-returns Inv-loop μ-loop
 unfolding heldElsewhere
 returns c =
-    let t : not (eqb (idOf (c .before .before .args .id)) 0) ≡ false = sym (c .before .is-set .ensures) ∙ not-true (c .before .is-set .result) (c .if1 .taken) in
+    let i = c .before .is-set in
+    let t : not (eqb (idOf (c .before .before .args .id)) 0) ≡ false = sym (i .ensures) ∙ not-true (i .result) (c .if1 .taken) in
     rw t
 
 loop-holds : tie.Need-loop-holds Inv-loop μ-loop
@@ -66,9 +66,9 @@ returns-2 c =
     let a = d .before .before .before .args in
     let k = d .loop .k in
     let p = holds (a .role) (idOf (a .id)) in
-    let n = size d in
-    let t = told (a .t1) k p (c .before .before .binding .ensures) (c .before .holds .ensures) (c .if3 .taken) in
-    let e = left-next p (streamsOf (a .t1) .streams) k true t (omega arith) in
+    let h = c .before .before .before .before .before .loop-test .taken in
+    let b = c .before .before .binding .ensures in
+    let e = left-next (a .t1) (size d) p k h b (c .before .holds .ensures) true (c .if3 .taken) in
     rw (is-set (d .before), d .loop .inv .1, e, ne-eqb k (a .stream) (c .before .before .before .before .if2 .taken))
 
 add-k : tie.Need-add-k Inv-loop μ-loop
@@ -82,18 +82,14 @@ loop-again c =
     let d = c .before .before in
     let a = d .before .before .before .args in
     let k = d .loop .k in
-    let l = streamsOf (a .t1) .streams in
     let p = holds (a .role) (idOf (a .id)) in
-    let n = size d in
+    let P = other (a .stream) in
+    let h = c .before .loop-test .taken in
     ⊎-elim
-    (λ w. (
-      search needs,
-      d .loop .inv .1 ∙ ap (some-of (other (a .stream))) (left-next p l k false (told (a .t1) k p (w .2 .ensures) (w .3 .ensures) (w .4 .left)) (omega arith)),
-    ))
-    (λ w. (
-      search needs,
-      d .loop .inv .1 ∙ left-skip p l k (other (a .stream)) (ap not (eq-eqb k (a .stream) (w .left))) (omega arith),
-    ))
+    (λ w.
+    let e = left-next (a .t1) (size d) p k h (w .2 .ensures) (w .3 .ensures) false (w .4 .left) in
+    (search needs, d .loop .inv .1 ∙ ap (some-of P) e))
+    (λ w. (search needs, d .loop .inv .1 ∙ left-skip (a .t1) (size d) p k h P (ap not (eq-eqb k (a .stream) (w .left)))))
     (c .if2 .came)
 
 returns-3 : tie.Need-returns-3 Inv-loop μ-loop
@@ -102,8 +98,7 @@ returns-3 c =
     let d = c .before in
     let a = d .before .before .before .args in
     let p = holds (a .role) (idOf (a .id)) in
-    let n = size d in
-    rw (is-set (d .before), d .loop .inv .1, left-none p (streamsOf (a .t1) .streams) (d .loop .k) (omega arith))
+    rw (is-set (d .before), d .loop .inv .1, left-none (a .t1) (size d) p (d .loop .k) (c .loop-test .left))
 
 pub held-elsewhere-spec : {M : Type 1} → statement M
 held-elsewhere-spec =

@@ -1,9 +1,10 @@
+-- Right because a mark reads alike from the record and from what it means, and past the last there is none. Assumes nothing.
 use native.Mathlib.Omega.{arith}
 use mathlib.Core.Path.{_≡_, sym}
 use lib.ListN.{length, List·getD-map}
+use borrow.Author.Needs.{needs}
 use Rattle.arbitration.specs.Meaning.{idOf, streamsOf}
 use Rattle.arbitration.proofs.Records.{length-mapped, past-read}
-use borrow.Author.Needs.{needs}
 use Rattle.arbitration.proofs.Streams.mark.Statement.{statement}
 use Rattle.arbitration.proofs.Streams.mark.Tie as tie
 

@@ -2,9 +2,9 @@
 use mathlib.Core.Path.{sym, _∙_}
 use lib.Dec.{eqb}
 use borrow.Author.Tests.{not-true, not-false}
+use borrow.Author.Needs.{needs}
 use Rattle.rules.specs.Streams.{primary}
 use Rattle.arbitration.specs.Meaning.{idOf}
-use borrow.Author.Needs.{needs}
 use Rattle.arbitration.proofs.Streams.primary.Statement.{statement}
 use Rattle.arbitration.proofs.Streams.primary.Tie as tie
 
@@ -21,13 +21,15 @@ returns : tie.Need-returns
 unfolding primary
 returns c =
     let m = c .before .before .before .mark in
-    rw (← m .ensures, not-true (eqb (idOf (m .result)) 0) (sym (c .before .before .is-set .ensures) ∙ c .before .if1 .taken)) (c .holder .ensures)
+    let t = not-true (eqb (idOf (m .result)) 0) (sym (c .before .before .is-set .ensures) ∙ c .before .if1 .taken) in
+    rw (← m .ensures, t) (c .holder .ensures)
 
 returns-2 : tie.Need-returns-2
 unfolding primary
 returns-2 c =
     let m = c .before .before .mark in
-    rw (← m .ensures, not-false (eqb (idOf (m .result)) 0) (sym (c .before .is-set .ensures) ∙ c .if1 .left))
+    let t = not-false (eqb (idOf (m .result)) 0) (sym (c .before .is-set .ensures) ∙ c .if1 .left) in
+    rw (← m .ensures, t)
 
 pub primary-spec : {M : Type 1} → statement M
 primary-spec = tie.close (tie.spec mark-requires is-set-requires holder-requires returns returns-2)

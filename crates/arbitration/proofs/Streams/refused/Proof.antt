@@ -1,3 +1,4 @@
+-- Right because it leaves the record as it is and notifies nobody. Assumes nothing.
 use mathlib.Core.Path.{refl}
 use Rattle.arbitration.specs.Meaning.{recordsOf}
 use Rattle.arbitration.proofs.Streams.refused.Statement.{statement}

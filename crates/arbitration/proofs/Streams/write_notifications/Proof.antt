@@ -1,15 +1,22 @@
 -- Right because each arm writes the records of its meaning: none, one, or those of a role. Assumes nothing.
 use Prim.Native.Nat.{ℕ}
-use mathlib.Core.Path.{refl, sym, ap, ap₂, _∙_}
-use mathlib.Core.List.{append-nil}
+use mathlib.Core.Path.{_≡_, refl, sym, ap, _∙_}
+use mathlib.Core.List.{List, [], _∷_, append-nil}
 use mathlib.Core.Option.{Option}
-use Rattle.rules.specs.Streams.{noticeOf, notification}
+use borrow.Author.Needs.{needs}
+use Rattle.rules.specs.Bytes.{concat}
+use Rattle.rules.specs.Streams.{Streams, markOf, primary, noticeOf, notification}
 use Rattle.buffers.specs.Splice.{splice}
 use Rattle.buffers.proofs.Splice.{splice-none}
-use Rattle.arbitration.specs.Meaning.{streamsOf, recordsOf}
-use borrow.Author.Needs.{needs}
+use Rattle.arbitration.specs.Meaning.{idOf, primaryOf, streamsOf, recordsOf}
+use Rattle.arbitration.proofs.Notices.{notice-is}
 use Rattle.arbitration.proofs.Streams.write_notifications.Statement.{statement}
 use Rattle.arbitration.proofs.Streams.write_notifications.Tie as tie
+
+-- out holds one record, that of stream s of role r
+one-record : (e : Streams) (r s : ℕ) (d out : List ℕ) (p : Option ℕ) (m : ℕ) → p ≡ primary e r → m ≡ markOf e r
+    → out ≡ splice d 0 (noticeOf p m r s) → out ≡ splice d 0 (concat (notification e r s ∷ []))
+one-record e r s d out p m f g w = w ∙ ap (splice d 0) (notice-is e r s f g ∙ sym (append-nil (notification e r s)))
 
 enum-told : tie.Need-enum-told
 enum-told c = search needs
@@ -46,10 +53,9 @@ returns-2 c =
     let m = w .before .before in
     let g = m .before .before .before .notify .given in
     let a = m .before .before .before .before .before .before .args in
-    let e = streamsOf (a .self) in
-    let x = notification e (g .0 .0) (g .0 .1 .0) in
-    let z = ap₂ (λ (p : Option ℕ) (i : ℕ). noticeOf p i (g .0 .0) (g .0 .1 .0)) (m .before .primary .ensures) (m .mark .ensures) in
-    rw (g .1) (refl, w .write-notification .ensures ∙ ap (splice (a .out .now) 0) (z ∙ sym (append-nil x)))
+    let z = one-record (streamsOf (a .self)) (g .0 .0) (g .0 .1 .0) (a .out .now) (w .write-notification .last .1 .1 .1 .1 .0)
+    (primaryOf (m .before .primary .result)) (idOf (m .mark .result)) (m .before .primary .ensures) (m .mark .ensures) in
+    rw (g .1) (refl, z (w .write-notification .ensures))
 
 same-length-2 : tie.Need-same-length-2
 same-length-2 c = search needs

@@ -1,27 +1,26 @@
 -- Right because the records written and those of the streams left to list are the records of the role. Assumes nothing.
-use Prim.Native.Nat.{ℕ, _+_, _*_, _-_, _≤_}
+use Prim.Native.Nat.{ℕ, _*_, _-_, _≤_}
 use native.Mathlib.Omega.{arith}
-use mathlib.Core.Path.{_≡_, ap, ap₂, _∙_}
+use mathlib.Core.Path.{_≡_, ap, _∙_}
 use mathlib.Core.Bool.{true, false}
 use mathlib.Core.Logic.{⊎-elim}
 use mathlib.Core.List.{List, map}
-use mathlib.Core.Option.{Option}
 use lib.ListN.{length, length-take, length-drop}
 use borrow.Author.Needs.{needs}
 use Rattle.rules.specs.Streams.{Streams, inRole, markOf, primary, noticeOf, notification, notifyAll}
-use Rattle.numbers.proofs.Bytes.{length-bytesOf}
 use Rattle.buffers.specs.Splice.{splice}
 use Rattle.buffers.proofs.Splice.{part-copied}
 use Rattle.arbitration.specs.Meaning.{idOf, primaryOf, streamsOf}
-use Rattle.arbitration.proofs.Records.{length-mapped, streams-length, told}
+use Rattle.arbitration.proofs.Records.{length-mapped}
 use Rattle.arbitration.proofs.Listing.{left, left-next, left-none}
-use Rattle.arbitration.proofs.Written.{Written, written-none, written-next, written-same, written-length, written-all}
+use Rattle.arbitration.proofs.Notices.{notice-length, notice-is}
+use Rattle.buffers.proofs.Written.{Written, written-none, written-next, written-same, written-length, written-all}
 use Rattle.arbitration.proofs.Streams.write_role.Statement.{statement}
 use Rattle.arbitration.proofs.Streams.write_role.Tie as tie
 
 -- the records of the streams of the role from stream k on
 abbrev records : Streams → ℕ → ℕ → List (List ℕ)
-records e r k = map (notification e r) (left (inRole r) (e .streams) k)
+records e r k = map (notification e r) (left (inRole r) e k)
 
 abbrev Inv-loop : tie.InvT-loop
 Inv-loop role out₀ self p mark n₀ k₀ out n k =
@@ -30,15 +29,11 @@ Inv-loop role out₀ self p mark n₀ k₀ out n k =
 abbrev μ-loop : tie.MeasureT-loop
 μ-loop role out₀ self p mark n₀ k₀ out n k = 32 - k
 
-size : (c : tie.At-loop Inv-loop μ-loop) → length (streamsOf (c .before .before .before .before .args .t1) .streams) ≡ 32
-size c = streams-length (c .before .before .before .before .args .t1) 32 (search (needs, length-mapped))
+size : (c : tie.At-loop Inv-loop μ-loop) → length (c .before .before .before .before .args .t1 .streams) ≡ 32
+size c = search (needs, length-mapped)
 
 long : (c : tie.At-loop Inv-loop μ-loop) → length (c .loop .out) ≡ length (c .before .before .before .before .args .out .now)
-long c = written-length 20 _ _ _ _ _ (c .loop .inv .2) (omega arith)
-
-notice-length : (p : Option ℕ) (m r s : ℕ) → length (noticeOf p m r s) ≡ 20
-unfolding noticeOf
-notice-length p m r s = omega (arith, length-bytesOf 16 m)
+long c = written-length (c .loop .inv .2) (omega arith)
 
 primary-requires : tie.Need-primary-requires Inv-loop μ-loop
 primary-requires c κs = search needs
@@ -48,7 +43,9 @@ mark-requires c κs = search needs
 
 loop-holds : tie.Need-loop-holds Inv-loop μ-loop
 unfolding notifyAll
-loop-holds c = (search needs, search needs, written-none 20 (notifyAll (streamsOf (c .before .before .before .args .t1)) (c .before .before .before .args .role)) (c .before .before .before .args .out .now))
+loop-holds c =
+    let a = c .before .before .before .args in
+    (search needs, search needs, written-none 20 (notifyAll (streamsOf (a .t1)) (a .role)) (a .out .now))
 
 mul-s : tie.Need-mul-s Inv-loop μ-loop
 mul-s c = search needs
@@ -95,28 +92,29 @@ loop-again : tie.Need-loop-again Inv-loop μ-loop
 loop-again c =
     let d = c .before .before .before .before .before in
     let a = d .before .before .before .before .args in
+    let r = a .role in
     let k = d .loop .k in
     let m = d .loop .n in
     let o = d .loop .out in
     let e = streamsOf (a .t1) in
-    let p = inRole (a .role) in
-    let b = c .before .before .binding .ensures in
-    let t = c .before .in-role .ensures in
-    let n = size d in
-    let h = long d in
+    let h = c .before .before .before .before .loop-test .taken in
+    let next = left-next (a .t1) (size d) (inRole r) k h (c .before .before .binding .ensures) (c .before .in-role .ensures) in
+    let n = long d in
     ⊎-elim
     (λ w.
-    let x = notification e (a .role) k in
-    let y = noticeOf (primaryOf (d .before .before .primary .result)) (idOf (d .before .mark .result)) (a .role) k in
-    let q = ap (map (notification e (a .role))) (left-next p (e .streams) k true (told (a .t1) k p b t (w .0 .taken)) (omega arith)) in
-    let l : length x ≡ 20 = notice-length (primary e (a .role)) (markOf e (a .role)) (a .role) k in
-    let z : y ≡ x = ap₂ (λ (u : Option ℕ) (v : ℕ). noticeOf u v (a .role) k) (d .before .before .primary .ensures) (d .before .mark .ensures) in
+    let q = ap (map (notification e r)) (next true (w .0 .taken)) in
+    let x = notification e r k in
+    let y = noticeOf (primaryOf (d .before .before .primary .result)) (idOf (d .before .mark .result)) r k in
+    let l : length x ≡ 20 = notice-length (primary e r) (markOf e r) r k in
+    let z : y ≡ x = notice-is e r k (d .before .before .primary .ensures) (d .before .mark .ensures) in
     let g : length y ≡ 20 = ap length z ∙ l in
-    let v = part-copied o (w .2 .last .1 .1 .1 .1 .0) y (20 * m) (length o - 20 * m) (w .2 .ensures) (omega arith) (omega arith) in
-    (omega arith, omega arith, written-next 20 _ _ _ o m (d .loop .inv .2) x (records e (a .role) (k + 1)) (c .if1 .out) (c .if1 .n) q l (omega arith) (w .5 ∙ v ∙ ap (splice o (20 * m)) z) (w .6)))
+    let f = w .2 in
+    let v = part-copied o (f .last .1 .1 .1 .1 .0) y (20 * m) (length o - 20 * m) (f .ensures) (omega arith) (omega arith) in
+    let u = w .5 ∙ v ∙ ap (splice o (20 * m)) z in
+    (omega arith, omega arith, written-next (d .loop .inv .2) q l (omega arith) u (w .6)))
     (λ w.
-    let q = ap (map (notification e (a .role))) (left-next p (e .streams) k false (told (a .t1) k p b t (w .0 .left)) (omega arith)) in
-    (omega arith, omega arith, written-same 20 _ _ _ o m (d .loop .inv .2) (records e (a .role) (k + 1)) (c .if1 .out) (c .if1 .n) q (w .1) (w .2)))
+    let q = ap (map (notification e r)) (next false (w .0 .left)) in
+    (omega arith, omega arith, written-same (d .loop .inv .2) q (w .1) (w .2)))
     (c .if1 .came)
 
 same-length : tie.Need-same-length Inv-loop μ-loop
@@ -127,8 +125,8 @@ returns c =
     let d = c .before in
     let a = d .before .before .before .before .args in
     let e = streamsOf (a .t1) in
-    let n = size d in
-    written-all 20 _ _ _ _ _ (d .loop .inv .2) (ap (map (notification e (a .role))) (left-none (inRole (a .role)) (e .streams) (d .loop .k) (omega arith)))
+    let q = left-none (a .t1) (size d) (inRole (a .role)) (d .loop .k) (c .loop-test .left) in
+    written-all (d .loop .inv .2) (ap (map (notification e (a .role))) q)
 
 pub write-role-spec : {M : Type 1} → statement M
 write-role-spec =
