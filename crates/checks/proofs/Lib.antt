@@ -1,0 +1,3 @@
+-- Laws of the checks.
+pub mod Slots
+pub mod Alongside

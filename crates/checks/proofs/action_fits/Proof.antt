@@ -1,0 +1,146 @@
+-- Right because each turn passes one parameter: what is asked of the parameters is asked of those left. Assumes nothing.
+use Prim.Native.Nat.{ℕ, _+_, _*_, _-_, min, _≤_}
+use native.Mathlib.Omega.{arith}
+use mathlib.Core.Path.{_≡_, refl, sym, _∙_}
+use mathlib.Core.Bool.{Bool, true, _&&_}
+use mathlib.Core.List.{List}
+use lib.ListN.{length, take, drop}
+use denote.Ref.{now}
+use borrow.Author.Needs.{needs}
+use borrow.Author.Tests.{not-true, not-false}
+use Rattle.rules.specs.Bytes.{parts}
+use Rattle.rules.specs.Value.{fits}
+use Rattle.rules.specs.Key.{alongside}
+use Rattle.rules.specs.Entry.{actionFits}
+use Rattle.rows.specs.Meaning.{rowOf}
+use Rattle.rows.proofs.Counted.{length-mapped}
+use Rattle.checks.proofs.Alongside.{counted-next, counted-none, left, left-next, left-none}
+use Rattle.checks.proofs.action_fits.Statement.{statement}
+use Rattle.checks.proofs.action_fits.Tie as tie
+
+abbrev Inv-loop : tie.InvT-loop
+Inv-loop entry chosen n i₀ i =
+    alongside fits (take (chosen .count) (chosen .widths)) (parts 4 17 (drop 152 entry))
+    ≡ left fits (take (chosen .count) (chosen .widths)) 17 152 entry i
+
+abbrev μ-loop : tie.MeasureT-loop
+μ-loop entry chosen n i₀ i = 4 - i
+
+abbrev entry : tie.At-loop Inv-loop μ-loop → List ℕ
+entry c = now (c .before .before .before .before .args .entry)
+
+-- the chosen action's widths
+abbrev widths : tie.At-loop Inv-loop μ-loop → List ℕ
+widths c = take (c .before .choose .result .count) (c .before .choose .result .widths)
+
+size : (c : tie.At-loop Inv-loop μ-loop) → length (c .before .choose .result .widths) ≡ 4
+size c = search (needs, length-mapped)
+
+-- what is asked is asked over them
+asked : (c : tie.At-loop Inv-loop μ-loop)
+    → actionFits (rowOf (c .before .before .before .before .args .row)) (entry c)
+    ≡ left fits (widths c) 17 152 (entry c) (c .loop .i)
+unfolding actionFits
+asked c = rw (← c .before .before .integer .ensures, ← c .before .choose .ensures .1) (c .loop .inv)
+
+-- no width is left
+ended : (c : tie.At-loop Inv-loop μ-loop) → min (c .before .choose .result .count) 4 ≤ c .loop .i
+    → true ≡ actionFits (rowOf (c .before .before .before .before .args .row)) (entry c)
+ended c h =
+    let w = c .before .choose .result in
+    let none = counted-none (w .count) (c .loop .i) (w .widths) (rw (size c) h) in
+    sym (asked c ∙ left-none fits (widths c) 17 152 (entry c) (c .loop .i) none)
+
+-- the parameter at the index came out so
+next : (c : tie.After-fits2 Inv-loop μ-loop) {b : Bool} → c .fits2 .result ≡ b →
+    let l = c .before .before .before .before .before in
+    left fits (widths l) 17 152 (entry l) (l .loop .i) ≡ b && left fits (widths l) 17 152 (entry l) (l .loop .i + 1)
+next c q =
+    let l = c .before .before .before .before .before in
+    let w = l .before .choose .result in
+    let i : ℕ = l .loop .i in
+    let first = counted-next (w .count) i (w .widths) 0 (omega arith) (omega (arith, size l)) in
+    left-next fits (widths l) 17 152 (entry l) i (152 + 17 * i) (omega arith) refl q first (c .fits2 .ensures)
+
+integer-requires : tie.Need-integer-requires Inv-loop μ-loop
+integer-requires c κs = search needs
+
+choose-requires : tie.Need-choose-requires Inv-loop μ-loop
+choose-requires c κs = search needs
+
+cast-n : tie.Need-cast-n Inv-loop μ-loop
+cast-n c = search needs
+
+loop-holds : tie.Need-loop-holds Inv-loop μ-loop
+loop-holds c = refl
+
+returns : tie.Need-returns Inv-loop μ-loop
+returns c = ended (c .before .before) (omega arith)
+
+mul-at : tie.Need-mul-at Inv-loop μ-loop
+mul-at c = search needs
+
+add-at : tie.Need-add-at Inv-loop μ-loop
+add-at c = search needs
+
+add-end : tie.Need-add-end Inv-loop μ-loop
+add-end c = search needs
+
+element-copy-out-width : tie.Need-element-copy-out-width Inv-loop μ-loop
+element-copy-out-width c = search needs
+
+sub-fits : tie.Need-sub-fits Inv-loop μ-loop
+sub-fits c = search needs
+
+part-fits-start : tie.Need-part-fits-start Inv-loop μ-loop
+part-fits-start c = search needs
+
+part-fits-end : tie.Need-part-fits-end Inv-loop μ-loop
+part-fits-end c = search needs
+
+fits-requires : tie.Need-fits-requires Inv-loop μ-loop
+fits-requires c κs = search needs
+
+returns-2 : tie.Need-returns-2 Inv-loop μ-loop
+returns-2 c =
+    let r = c .before .fits2 .result in
+    sym (asked (c .before .before .before .before .before .before) ∙ next (c .before) (not-true r (c .if2 .taken)))
+
+add-i : tie.Need-add-i Inv-loop μ-loop
+add-i c = search needs
+
+loop-less : tie.Need-loop-less Inv-loop μ-loop
+loop-less c = search needs
+
+loop-again : tie.Need-loop-again Inv-loop μ-loop
+loop-again c =
+    let r = c .before .fits2 .result in
+    c .before .before .before .before .before .before .loop .inv ∙ next (c .before) (not-false r (c .if2 .left))
+
+returns-3 : tie.Need-returns-3 Inv-loop μ-loop
+returns-3 c = ended (c .before) (omega arith)
+
+pub action-fits-spec : {M : Type 1} → statement M
+action-fits-spec =
+    tie.close
+    (tie.spec
+    Inv-loop
+    μ-loop
+    integer-requires
+    choose-requires
+    cast-n
+    loop-holds
+    returns
+    mul-at
+    add-at
+    add-end
+    element-copy-out-width
+    sub-fits
+    part-fits-start
+    part-fits-end
+    fits-requires
+    returns-2
+    add-i
+    loop-less
+    loop-again
+    returns-3)
