@@ -1,0 +1,2 @@
+-- Laws of the entry store.
+pub mod Verdicts
