@@ -1,9 +1,9 @@
 -- A row's fields, or an action's widths, and the parts of a key or entry that stand for them, walked together from the front: the
 -- thing at the index is the first of those left, and the part there the first of the parts left. Assumes nothing.
-use Prim.Native.Nat.{ℕ, zero, suc, _+_, _*_, _-_, min, _≤_, _<_}
+use Prim.Native.Nat.{ℕ, suc, _+_, _*_, _-_, min, _≤_, _<_}
 use native.Mathlib.Numerals.{add-one}
 use native.Mathlib.Omega.{arith}
-use mathlib.Core.Path.{_≡_, refl, sym, ap, _∙_}
+use mathlib.Core.Path.{_≡_, sym, ap, _∙_}
 use mathlib.Core.Bool.{Bool, true, _&&_}
 use mathlib.Core.List.{List, [], _∷_, map}
 use lib.ListN.{length, take, drop, getD, length-take, drop-of-length-le}
@@ -12,6 +12,7 @@ use Rattle.rules.specs.Bytes.{part, parts, allZero}
 use Rattle.rules.specs.Key.{alongside, alongsideAll}
 use Rattle.rules.proofs.Formed.{parts-count}
 use Rattle.rows.specs.declared.Field.{Field}
+use Rattle.rules.proofs.Lists.{drop-map, parts-from}
 use Rattle.rows.specs.declared.Action.{Action}
 use Rattle.rows.specs.declared.Row.{Row}
 use Rattle.rows.specs.Meaning.{fieldOf, actionOf, rowOf}
@@ -30,17 +31,12 @@ module _ {A : Type 0} where
   counted-none n i xs h = drop-of-length-le (take n xs) {i = i} (rw length-take h)
 
 module _ {A B : Type 0} (f : A → B) where
-  drop-map : (i : ℕ) (l : List A) → drop i (map f l) ≡ map f (drop i l)
-  drop-map zero l = refl
-  drop-map (suc i) [] = refl
-  drop-map (suc i) (x ∷ l) = drop-map i l
-
   -- the same of what the elements mean
   mapped-next : (i : ℕ) (l : List A) (x : A) → drop i l ≡ x ∷ drop (i + 1) l → drop i (map f l) ≡ f x ∷ drop (i + 1) (map f l)
-  mapped-next i l x e = rw (drop-map i l, drop-map (i + 1) l, e)
+  mapped-next i l x e = rw (drop-map f i l, drop-map f (i + 1) l, e)
 
   mapped-none : (i : ℕ) (l : List A) → drop i l ≡ [] → drop i (map f l) ≡ []
-  mapped-none i l e = rw (drop-map i l, e)
+  mapped-none i l e = rw (drop-map f i l, e)
 
 -- what the code reads where there is no field, or no action
 abbrev pub noField : Field
@@ -79,16 +75,6 @@ actions-none row i e h =
     (counted-none (row .«action_count») i (row .actions) (rw e h))
 
 -- ---- what is left of the parts
-
--- the parts past the first i begin at place w * i
-parts-from : (i n w : ℕ) (l : List ℕ) → i < n → drop i (parts n w l) ≡ part (w * i) w l ∷ drop (i + 1) (parts n w l)
-unfolding parts
-parts-from i zero w l h = absurd (omega arith)
-parts-from zero (suc n) w l h = let e : w * 0 ≡ 0 = omega arith in rw e
-parts-from (suc i) (suc n) w l h =
-    let e : w + w * i ≡ w * suc i = omega arith in
-    let s : suc i + 1 ≡ suc (i + 1) = omega arith in
-    rw (s, ← e, ← drop-drop (w * i) w l) (parts-from i n w (drop w l) (omega arith))
 
 -- a part lent by its two ends
 part-lent : (at z w i : ℕ) (l : List ℕ) → at ≡ z + w * i → take (at + w - at) (drop at l) ≡ part (w * i) w (drop z l)

@@ -7,6 +7,7 @@ use mathlib.Core.Path.{_≡_, refl, sym, ap, _∙_}
 use mathlib.Core.List.{List, [], _∷_, _++_, append-assoc}
 use lib.ListN.{length, take, drop, getD, set, length-drop}
 use lib.Seq.{take-at, drop-at, drop-drop, getD-drop, take-add, length-take-le}
+use Rattle.rules.proofs.Lists.{parts-from}
 use Rattle.rules.specs.Bytes.{part, parts}
 use Rattle.buffers.specs.Splice.{splice}
 use Rattle.buffers.proofs.Splice.{take-splice, splice-front, length-splice, part-splice, part-back, length-window}
@@ -15,15 +16,6 @@ use Rattle.entries.specs.Store.{without}
 -- ---- where a part stands
 
 -- part i is the first of those from i on
-pub parts-from : (i n w : ℕ) (l : List ℕ) → i < n → drop i (parts n w l) ≡ part (w * i) w l ∷ drop (i + 1) (parts n w l)
-unfolding parts
-parts-from i zero w l h = absurd (omega arith)
-parts-from zero (suc n) w l h = let e : w * 0 ≡ 0 = omega arith in rw e
-parts-from (suc i) (suc n) w l h =
-    let e : w + w * i ≡ w * suc i = omega arith in
-    let s : suc i + 1 ≡ suc (i + 1) = omega arith in
-    rw (s, ← e, ← drop-drop (w * i) w l) (parts-from i n w (drop w l) (omega arith))
-
 pub parts-at : (i n w : ℕ) (l : List ℕ) → i < n → getD (parts n w l) i [] ≡ part (w * i) w l
 parts-at i n w l h = sym (rw (parts-from i n w l h, add-zero i) at (getD-drop i (parts n w l) 0 []))
 

@@ -17,7 +17,7 @@ use Rattle.rules.proofs.Formed.{parts-count}
 use Rattle.buffers.specs.Splice.{splice}
 use Rattle.buffers.proofs.Splice.{splice-none, splice-next, length-splice, length-window}
 use Rattle.entries.specs.Store.{entriesIn, tablesIn, placeFrom}
-use Rattle.entries.proofs.Parts.{parts-from}
+use Rattle.rules.proofs.Lists.{parts-from}
 
 none-left : (count i : ℕ) (s : List ℕ) → count ≤ i → drop i (entriesIn count s) ≡ []
 none-left count i s h = drop-of-length-le (entriesIn count s) {i = i} (omega (arith, parts-count count 220 s))

@@ -1,2 +1,4 @@
 -- Laws of the entry store.
 pub mod Verdicts
+pub mod Reading
+pub mod Judging

@@ -3,16 +3,17 @@
 use Prim.Native.Nat.{ℕ, zero, suc, _+_, _*_, _-_, _≤_, _<_}
 use native.Mathlib.Nat.{sub-zero, zero-sub, suc-sub-suc}
 use native.Mathlib.Omega.{arith}
-use mathlib.Core.Path.{_≡_, refl, sym, _∙_}
+use mathlib.Core.Path.{_≡_, refl, sym}
 use mathlib.Core.Bool.{Bool, true, false, _&&_, and-assoc, and-comm, and-true, and-false}
 use mathlib.Core.List.{List, [], _∷_, map, map-map}
 use lib.Dec.{eqb, leb, lit≤}
 use lib.ListN.{length, take, drop, drop-of-length-le, length-map}
-use lib.Seq.{take-nil, take-take, drop-drop, getD-take, getD-drop}
+use lib.Seq.{take-nil, take-take, drop-drop}
 use borrow.Author.Tests.{le-leb, lt-leb}
 use Rattle.rules.specs.Bytes.{between, every, some-of, distinct, byte, part, parts, int, allZero}
 use Rattle.rules.specs.Row as rules
 use Rattle.rules.proofs.Formed.{parts-count}
+use Rattle.rules.proofs.Lists.{every-map, drop-map, parts-from, part-part, byte-part}
 use Rattle.buffers.proofs.Words.{Bytes}
 use Rattle.numbers.proofs.Bytes.{int-none, int-next}
 use Rattle.rows.specs.Meaning.{fieldsPass, actionPasses, actionIds, actionsPass}
@@ -28,37 +29,11 @@ drop-take (suc k) (suc n) (x ∷ l) = rw suc-sub-suc (drop-take k n l)
 drop-part : (k a n : ℕ) (l : List ℕ) → drop k (part a n l) ≡ part (a + k) (n - k) l
 drop-part k a n l = rw (drop-take k n (drop a l), drop-drop k a l)
 
-part-part : (k m a n : ℕ) (l : List ℕ) → k + m ≤ n → part k m (part a n l) ≡ part (a + k) m l
-part-part k m a n l h = rw (drop-part k a n l) (take-take m (n - k) (drop (a + k) l) (omega arith))
-
-pub byte-part : (k a n : ℕ) (l : List ℕ) → k < n → byte k (part a n l) ≡ byte (a + k) l
-byte-part k a n l h = getD-take n (drop a l) k 0 h ∙ getD-drop a l k 0
-
 -- a part lent by its two ends
 pub part-lent : (a n : ℕ) (l : List ℕ) → take (a + n - a) (drop a l) ≡ part a n l
 part-lent a n l = let e : a + n - a ≡ n = omega arith in rw e
 
--- the parts past the first i begin at place w * i
-parts-from : (i n w : ℕ) (l : List ℕ) → i < n → drop i (parts n w l) ≡ part (w * i) w l ∷ drop (i + 1) (parts n w l)
-unfolding parts
-parts-from i zero w l h = absurd (omega arith)
-parts-from zero (suc n) w l h = let e : w * 0 ≡ 0 = omega arith in rw e
-parts-from (suc i) (suc n) w l h =
-    let e : w + w * i ≡ w * suc i = omega arith in
-    let s : suc i + 1 ≡ suc (i + 1) = omega arith in
-    rw (s, ← e, ← drop-drop (w * i) w l) (parts-from i n w (drop w l) (omega arith))
-
 -- ---- tests over lists
-
-module _ {A B : Type 0} where
-  every-map : (p : B → Bool) (f : A → B) (l : List A) → every p (map f l) ≡ every (λ (x : A). p (f x)) l
-  every-map p f [] = refl
-  every-map p f (x ∷ l) = rw (every-map p f l)
-
-  drop-map : (f : A → B) (i : ℕ) (l : List A) → drop i (map f l) ≡ map f (drop i l)
-  drop-map f zero l = refl
-  drop-map f (suc i) [] = refl
-  drop-map f (suc i) (x ∷ l) = drop-map f i l
 
 and-left-comm : (a b c : Bool) → a && (b && c) ≡ b && (a && c)
 and-left-comm true b c = refl
@@ -77,10 +52,10 @@ module _ (p : List ℕ → Bool) (w a m n k : ℕ) (l : List ℕ) where
 
   module _ (i : ℕ) (h : i < n) (g : w * i + w ≤ m) {t : Bool} (e : t ≡ p (part (a + w * i) w l)) where
     pub left-refused : t ≡ false → left i ≡ false
-    left-refused q = rw (parts-from i n w (part a m l) h, part-part (w * i) w a m l g, ← e, q)
+    left-refused q = rw (parts-from i n w (part a m l) h, part-part a m (w * i) w l g, ← e, q)
 
     pub left-passed : t ≡ true → left i ≡ left (i + 1)
-    left-passed q = rw (parts-from i n w (part a m l) h, part-part (w * i) w a m l g, ← e, q)
+    left-passed q = rw (parts-from i n w (part a m l) h, part-part a m (w * i) w l g, ← e, q)
 
   pub left-none : (i e : ℕ) → n ≤ i → a + m ≡ e → left i ≡ allZero (part (a + k) (e - (a + k)) l)
   left-none i e h g =
@@ -143,7 +118,7 @@ widthPasses w = rules.widthAllowed (byte 0 w)
 pub width-at : (i : ℕ) (a : List ℕ) → rules.widthAllowed (byte (5 + i) a) ≡ widthPasses (part (5 + 1 * i) 1 a)
 width-at i a =
     let e : 5 + 1 * i + 0 ≡ 5 + i = omega arith in
-    rw (byte-part 0 (5 + 1 * i) 1 a (omega arith), e)
+    rw (byte-part (5 + 1 * i) 1 0 a (omega arith), e)
 
 -- of n widths, past the first i
 abbrev pub widthsLeft : ℕ → List ℕ → ℕ → Bool
@@ -171,7 +146,7 @@ module _ (n i : ℕ) (b : List ℕ) where
         drop-map id i ps,
         drop-map id (i + 1) ps,
         parts-from i n 9 (rules.actionBytes b) h,
-        part-part (9 * i) 9 17 36 b (omega arith),
+        part-part 17 36 (9 * i) 9 b (omega arith),
         take-take 4 9 (drop (17 + 9 * i) b) (lit≤ tt),
       )
 

@@ -8,8 +8,9 @@ use mathlib.Core.Path.{_≡_, refl, sym, ap, ap₂, _∙_}
 use mathlib.Core.List.{List, [], _∷_, map}
 use mathlib.Core.Bool.{Bool, true}
 use lib.ListN.{length, take, drop, getD}
-use lib.Seq.{getD-take, getD-drop, take-take, drop-drop}
-use Rattle.rules.specs.Bytes.{every, byte, part, parts, int}
+use lib.Seq.{drop-drop}
+use Rattle.rules.proofs.Lists.{part-part}
+use Rattle.rules.specs.Bytes.{every, part, parts, int}
 use Rattle.rules.proofs.Tests.{and-true, both-true}
 use Rattle.numbers.proofs.Bytes.{int-none, int-next, below-next}
 
@@ -19,21 +20,6 @@ int-below zero a l b h = rw (int-none a l) (omega arith)
 int-below (suc n) a l b h =
     let r : int a n l < 256 ^ n = int-below n a l b (omega arith) in
     rw (← add-one n, int-next a n l (omega arith)) (below-next (int a n l) (getD l (a + n) 0) n r (b (a + n)))
-
--- ---- parts of parts
-
--- the first m after k of n, where there are as many
-part-front : (k m n : ℕ) (l : List ℕ) → k + m ≤ n → part k m (take n l) ≡ part k m l
-part-front zero m n l h = take-take m n l (omega arith)
-part-front (suc k) m zero l h = absurd (omega arith)
-part-front (suc k) m (suc n) [] h = refl
-part-front (suc k) m (suc n) (x ∷ l) h = part-front k m n l (omega arith)
-
-pub part-part : (at n k m : ℕ) (l : List ℕ) → k + m ≤ n → part k m (part at n l) ≡ part (at + k) m l
-part-part at n k m l h = part-front k m n (drop at l) h ∙ ap (take m) (drop-drop k at l)
-
-pub byte-part : (at n k : ℕ) (l : List ℕ) → k < n → byte k (part at n l) ≡ byte (at + k) l
-byte-part at n k l h = getD-take n (drop at l) k 0 h ∙ getD-drop at l k 0
 
 -- ---- records of w bytes each
 

@@ -15,14 +15,11 @@ use Rattle.rules.proofs.Formed.{parts-count}
 use Rattle.rows.specs.declared.Row.{Row}
 use Rattle.rows.specs.declared.Rows.{Rows}
 use Rattle.rows.specs.Meaning.{rowOf, rowsOf, countsFit, tablesOf, sizesOf}
+use Rattle.rules.proofs.Lists.{every-map}
 use Rattle.rows.proofs.Bytes.{read-all, every-part, every-parts}
 use Rattle.rows.proofs.Counted.{blank}
 
 -- ---- tests of all elements of a list
-
-every-map : {A B : Type 0} (p : B → Bool) (f : A → B) (l : List A) → every p (map f l) ≡ every (λ (x : A). p (f x)) l
-every-map p f [] = refl
-every-map p f (x ∷ l) = ap (λ (b : Bool). p (f x) && b) (every-map p f l)
 
 every-weaker : {A : Type 0} (p q : A → Bool) → ((x : A) → p x ≡ true → q x ≡ true) → (l : List A) → every p l ≡ true
     → every q l ≡ true

@@ -3,7 +3,7 @@
 use Prim.Native.Nat.{ℕ, zero, suc, _+_, min, _≤_, _<_}
 use native.Mathlib.Numerals.{add-one}
 use native.Mathlib.Omega.{arith}
-use mathlib.Core.Path.{_≡_, refl, sym, ap, _∙_}
+use mathlib.Core.Path.{_≡_, refl, ap, _∙_}
 use mathlib.Core.List.{List, [], _∷_, map}
 use lib.ListN.{length, take, drop, getD, length-map, length-take, drop-of-length-le, List·getD-map}
 use lib.Seq.{drop-cons, getD-take}
@@ -11,23 +11,15 @@ use lib.Dec.{eqb, eqb·suc-zero}
 use Rattle.rules.specs.Call.{unconfigured}
 use Rattle.rules.specs.Row as rules
 use Rattle.rows.specs.declared.Row.{Row}
+use Rattle.rules.proofs.Lists.{drop-map}
 use Rattle.rows.specs.declared.Rows.{Rows}
 use Rattle.rows.specs.Meaning.{rowOf, rowsOf}
-
--- what is known of an array's length is said of its elements' images
-pub length-mapped : (X Y : Type 0) (f : X → Y) (l : List X) (n : ℕ) → length (map f l) ≡ n → length l ≡ n
-length-mapped X Y f l n e = sym (length-map l f) ∙ e
 
 -- there is none exactly where the count is 0
 pub none-within : (n : ℕ) (l : List Row) → 0 < length l → eqb n 0 ≡ unconfigured (map rowOf (take n l))
 none-within zero l h = refl
 none-within (suc n) [] h = absurd (omega arith)
 none-within (suc n) (r ∷ l) h = eqb·suc-zero n
-
-drop-map : {A B : Type 0} (f : A → B) (j : ℕ) (l : List A) → drop j (map f l) ≡ map f (drop j l)
-drop-map f zero l = refl
-drop-map f (suc j) [] = refl
-drop-map f (suc j) (x ∷ l) = drop-map f j l
 
 -- what the code reads where there is no row
 abbrev pub blank : Row

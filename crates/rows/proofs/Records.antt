@@ -14,7 +14,8 @@ use Rattle.rules.proofs.Tests.{and-true}
 use Rattle.rows.specs.declared.Field.{Field}
 use Rattle.rows.specs.declared.Action.{Action}
 use Rattle.rows.specs.Meaning.{fieldOf, actionOf, rowOf, countsFit}
-use Rattle.rows.proofs.Bytes.{part-part, byte-part, read-four, every-part}
+use Rattle.rules.proofs.Lists.{part-part, byte-part}
+use Rattle.rows.proofs.Bytes.{read-four, every-part}
 
 -- the byte at place k of nine, by itself
 one-byte : (at k : ℕ) (b : List ℕ) → k < 9 → byte (at + k) b ≡ byte 0 (part k 1 (part at 9 b))

@@ -5,6 +5,7 @@ pub mod Cases
 pub mod Table
 pub mod Listed
 pub mod Tests
+pub mod Lists
 pub mod Orders
 pub mod Formed
 pub mod Streams

@@ -4,7 +4,7 @@ use Prim.Native.Nat.{ℕ, _+_, _*_}
 use mathlib.Core.Path.{_≡_, refl, sym, _∙_, ap, ap₂, fun-ext, subst}
 use mathlib.Core.Bool.{Bool, true, false, _&&_, _||_, not, and-true}
 use mathlib.Core.Logic.{_⊎_, inl, inr, ⊎-elim, _↔_}
-use mathlib.Core.List.{List, [], _∷_, _++_, map, append-assoc}
+use mathlib.Core.List.{List, [], _∷_, _++_, map}
 use native.Mathlib.Omega.{arith}
 use lib.Dec.{eqb}
 use lib.ListN.{length}
@@ -23,6 +23,7 @@ use Rattle.rules.specs.Call.{State, Call, fresh, configureReason, writeR
 use Rattle.rules.specs.LookBack.{Effect, inserted, modified, deleted, cleared, revise, present, Past, nothing, shows, effectOf, reasonAt, tookEffect, noteUpdate, noteUpdates, noted, note, lookBack, pairsSeen, someFailed, named, asksFor, readSeen, answerSeen, replySeen}
 use Rattle.rules.specs.Agreement.{commandsOf, replyAfter, pastOf, pairAt, Agreement}
 use Rattle.rules.proofs.Tests.{same-sym}
+use Rattle.rules.proofs.Lists.{concat-append}
 use Rattle.rules.proofs.Orders.{first-avoids}
 use Rattle.rules.proofs.Effects.{takeEffect, present-snoc}
 
@@ -316,10 +317,6 @@ pairs-length : (p : Past) (role : ℕ) (us : List Update) → length (concat (pa
 unfolding pairsSeen
 pairs-length p role [] = refl
 pairs-length p role (u ∷ us) = omega (arith, pairs-length (noteUpdate p role u) role us)
-
-concat-append : (xs ys : List (List ℕ)) → concat (xs ++ ys) ≡ concat xs ++ concat ys
-concat-append [] ys = refl
-concat-append (x ∷ xs) ys = ap (λ l. x ++ l) (concat-append xs ys) ∙ sym (append-assoc x (concat xs) (concat ys))
 
 -- the pair behind a head of four bytes and n pairs
 pair-there : (a b c d n r : ℕ) (before after : List (List ℕ)) → length (concat before) ≡ 2 * n

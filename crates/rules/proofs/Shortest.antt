@@ -87,7 +87,7 @@ stripped-length (b ∷ bs) = go (eqb b 0) (stripped-length bs)
     go false h = omega arith
 
 -- leading zeros add nothing to the number
-number-stripped : (bs : List ℕ) → number (stripped bs) ≡ number bs
+pub number-stripped : (bs : List ℕ) → number (stripped bs) ≡ number bs
 unfolding numberFrom
 number-stripped [] = refl
 number-stripped (b ∷ bs) = go (eqb b 0) refl (number-stripped bs)

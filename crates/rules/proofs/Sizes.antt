@@ -24,7 +24,7 @@ use Rattle.rules.proofs.Sound.{sizes-fit, sound}
 
 -- ---- lists of records of one length
 
-concat-length : (n : ℕ) (xs : List (List ℕ)) → EveryLength n xs → length (concat xs) ≡ n * length xs
+pub concat-length : (n : ℕ) (xs : List (List ℕ)) → EveryLength n xs → length (concat xs) ≡ n * length xs
 concat-length n [] h = omega arith
 concat-length n (x ∷ xs) h = omega (arith, length-append x (concat xs), concat-length n xs (h .1), h .0)
 
@@ -36,7 +36,7 @@ append-lengths : (n : ℕ) (xs ys : List (List ℕ)) → EveryLength n xs → Ev
 append-lengths n [] ys h k = k
 append-lengths n (x ∷ xs) ys h k = (h .0, append-lengths n xs ys (h .1) k)
 
-keep-lengths : (n : ℕ) (p : List ℕ → Bool) (xs : List (List ℕ)) → EveryLength n xs → EveryLength n (keep p xs)
+pub keep-lengths : (n : ℕ) (p : List ℕ → Bool) (xs : List (List ℕ)) → EveryLength n xs → EveryLength n (keep p xs)
 keep-lengths n p [] h = tt
 keep-lengths n p (x ∷ xs) h = go (p x) (keep-lengths n p xs (h .1))
   where

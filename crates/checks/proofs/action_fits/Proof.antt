@@ -13,7 +13,7 @@ use Rattle.rules.specs.Value.{fits}
 use Rattle.rules.specs.Key.{alongside}
 use Rattle.rules.specs.Entry.{actionFits}
 use Rattle.rows.specs.Meaning.{rowOf}
-use Rattle.rows.proofs.Counted.{length-mapped}
+use Rattle.rules.proofs.Lists.{length-mapped}
 use Rattle.checks.proofs.Alongside.{counted-next, counted-none, left, left-next, left-none}
 use Rattle.checks.proofs.action_fits.Statement.{statement}
 use Rattle.checks.proofs.action_fits.Tie as tie

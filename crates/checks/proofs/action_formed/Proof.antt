@@ -14,7 +14,7 @@ use Rattle.rules.specs.Value.{isValue}
 use Rattle.rules.specs.Key.{alongsideAll}
 use Rattle.rules.specs.Entry.{actionFormed}
 use Rattle.rows.specs.Meaning.{rowOf}
-use Rattle.rows.proofs.Counted.{length-mapped}
+use Rattle.rules.proofs.Lists.{length-mapped}
 use Rattle.checks.proofs.Alongside.{counted-next, counted-none, leftAll, leftAll-next, leftAll-unused, leftAll-none}
 use Rattle.checks.proofs.action_formed.Statement.{statement}
 use Rattle.checks.proofs.action_formed.Tie as tie

@@ -11,7 +11,7 @@ use borrow.Author.Tests.{eq-eqb, ne-eqb}
 use Rattle.rules.specs.Bytes.{if_then_else_}
 use Rattle.rules.specs.Entry.{hasAction, widthsOf}
 use Rattle.rows.specs.Meaning.{rowOf}
-use Rattle.rows.proofs.Counted.{length-mapped}
+use Rattle.rules.proofs.Lists.{length-mapped}
 use Rattle.checks.proofs.Alongside.{noAction, actions-next, actions-none}
 use Rattle.checks.proofs.choose.Statement.{statement}
 use Rattle.checks.proofs.choose.Tie as tie

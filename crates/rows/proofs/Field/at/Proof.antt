@@ -2,7 +2,7 @@
 use native.Mathlib.Nat.{add-zero}
 use native.Mathlib.Omega.{arith}
 use borrow.Author.Needs.{needs}
-use Rattle.rows.proofs.Bytes.{byte-part}
+use Rattle.rules.proofs.Lists.{byte-part}
 use Rattle.rows.proofs.Field.at.Statement.{statement}
 use Rattle.rows.proofs.Field.at.Tie as tie
 

@@ -10,7 +10,8 @@ use borrow.Author.Tests.{eq-eqb, ne-eqb}
 use Rattle.rules.specs.Bytes.{if_then_else_}
 use Rattle.rules.specs.Row as rules
 use Rattle.rows.specs.Meaning.{rowOf, rowsOf}
-use Rattle.rows.proofs.Counted.{length-mapped, blank, rows-next, rows-none}
+use Rattle.rules.proofs.Lists.{length-mapped}
+use Rattle.rows.proofs.Counted.{blank, rows-next, rows-none}
 use Rattle.rows.proofs.Rows.find.Statement.{statement}
 use Rattle.rows.proofs.Rows.find.Tie as tie
 

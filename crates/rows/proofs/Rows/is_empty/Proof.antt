@@ -4,7 +4,8 @@ use mathlib.Core.Path.{_≡_}
 use lib.ListN.{length}
 use borrow.Author.Needs.{needs}
 use Rattle.rows.specs.Meaning.{rowsOf}
-use Rattle.rows.proofs.Counted.{length-mapped, none-within}
+use Rattle.rules.proofs.Lists.{length-mapped}
+use Rattle.rows.proofs.Counted.{none-within}
 use Rattle.rows.proofs.Rows.is_empty.Statement.{statement}
 use Rattle.rows.proofs.Rows.is_empty.Tie as tie
 

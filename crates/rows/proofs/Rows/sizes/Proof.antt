@@ -7,7 +7,8 @@ use lib.ListN.{length, getD}
 use borrow.Author.Needs.{needs}
 use Rattle.rules.specs.Bytes.{sum}
 use Rattle.rows.specs.Meaning.{rowOf, sizesOf}
-use Rattle.rows.proofs.Counted.{length-mapped, blank, sizeOf, column, column-next, column-none}
+use Rattle.rules.proofs.Lists.{length-mapped}
+use Rattle.rows.proofs.Counted.{blank, sizeOf, column, column-next, column-none}
 use Rattle.rows.proofs.Rows.sizes.Statement.{statement}
 use Rattle.rows.proofs.Rows.sizes.Tie as tie
 

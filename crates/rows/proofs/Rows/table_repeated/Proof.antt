@@ -9,7 +9,8 @@ use borrow.Author.Needs.{needs}
 use borrow.Author.Tests.{eq-eqb, ne-eqb}
 use Rattle.rules.specs.Bytes.{some-of}
 use Rattle.rows.specs.Meaning.{rowOf, tablesOf}
-use Rattle.rows.proofs.Counted.{length-mapped, blank, tableOf, column, column-from, column-next, column-none}
+use Rattle.rules.proofs.Lists.{length-mapped}
+use Rattle.rows.proofs.Counted.{blank, tableOf, column, column-from, column-next, column-none}
 use Rattle.rows.proofs.Rows.table_repeated.Statement.{statement}
 use Rattle.rows.proofs.Rows.table_repeated.Tie as tie
 

@@ -8,7 +8,8 @@ use lib.Dec.{eqb}
 use borrow.Author.Needs.{needs}
 use Rattle.rules.specs.Bytes.{if_then_else_, some-of, distinct}
 use Rattle.rows.specs.Meaning.{rowOf, tablesOf}
-use Rattle.rows.proofs.Counted.{length-mapped, blank, tableOf, column, column-from, column-next, column-none}
+use Rattle.rules.proofs.Lists.{length-mapped}
+use Rattle.rows.proofs.Counted.{blank, tableOf, column, column-from, column-next, column-none}
 use Rattle.rows.proofs.Rows.tables_distinct.Statement.{statement}
 use Rattle.rows.proofs.Rows.tables_distinct.Tie as tie
 

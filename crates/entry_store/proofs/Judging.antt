@@ -1,0 +1,150 @@
+-- Why an update is refused, read off in the order in which the tests are made: those of the entry stand between those of its
+-- table and those of its place. Assumes nothing.
+use Prim.Native.Nat.{ℕ, zero, suc, _+_, _*_, _-_, _≤_, _<_}
+use native.Mathlib.Nat.{zero-add, suc-add}
+use native.Mathlib.Omega.{arith}
+use mathlib.Core.Path.{_≡_, refl, sym, ap, _∙_}
+use mathlib.Core.Bool.{Bool, true, false, _&&_, not}
+use mathlib.Core.List.{List, [], _∷_}
+use lib.Dec.{eqb}
+use lib.ListN.{length, take, drop, length-drop}
+use lib.Seq.{take-nil, take-take, take-all}
+use borrow.Author.Tests.{le-leb, lt-leb, ne-eqb}
+use Rattle.rules.specs.Bytes.{if_then_else_, between, byte, part, parts, int}
+use Rattle.rules.specs.Reason.{first}
+use Rattle.rules.specs.Frame.{updateOf}
+use Rattle.rules.specs.Row.{Row, known, rowFor, mayWrite}
+use Rattle.rules.specs.Key.{slots, slotFormed, slotFits, slotRule, alongside, alongsideAll, priorityRule}
+use Rattle.rules.specs.Key.{keyFormed, keyFits, keyRules}
+use Rattle.rules.specs.Entry.{actionFormed, actionFits}
+use Rattle.rules.specs.Update.{Tables, judge}
+use Rattle.entry_store.specs.declared.Verdict.{Verdict}
+use Rattle.entry_store.specs.Update.{entryReason, placeReason, reasonOf, Meant}
+
+-- ---- what is lent
+
+drop-take : (w m : ℕ) (l : List ℕ) → drop w (take (w + m) l) ≡ take m (drop w l)
+drop-take zero m l = rw (zero-add m)
+drop-take (suc w) m [] = rw (suc-add w m, take-nil m)
+drop-take (suc w) m (x ∷ l) = rw (suc-add w m) (drop-take w m l)
+
+-- n parts stand in the first n * w bytes
+parts-lent : (n w : ℕ) (l : List ℕ) → parts n w (take (n * w) l) ≡ parts n w l
+unfolding parts
+parts-lent zero w l = refl
+parts-lent (suc n) w l =
+    let m : suc n * w ≡ w + n * w = omega arith in
+    rw (m, take-take w (w + n * w) l (omega arith), drop-take w (n * w) l, parts-lent n w (drop w l))
+
+-- the slots of an entry, as the 140 bytes that hold them give them
+abbrev pub lent : List ℕ → List (List ℕ)
+lent e = parts 4 35 (part 8 140 e)
+
+slots-lent : (e : List ℕ) → slots e ≡ lent e
+slots-lent e = sym (parts-lent 4 35 (drop 8 e))
+
+-- the entry of an update is all of it but the first byte
+pub entry-lent : (u : List ℕ) → take (length u - 1) (drop 1 u) ≡ drop 1 u
+entry-lent u = take-all (length u - 1) (drop 1 u) (omega (arith, length-drop 1 u))
+
+-- ---- 17 to 19, the tests one after the other
+
+in-order : (a b c d e : Bool)
+    → first ((not (a && b), 17) ∷ (not (c && d), 18) ∷ (not e, 19) ∷ [])
+    ≡ (if a then if b then if c then if d then if e then 0 else 19 else 18 else 18 else 17 else 17)
+unfolding first
+in-order false b c d e = refl
+in-order true false c d e = refl
+in-order true true false d e = refl
+in-order true true true false e = refl
+in-order true true true true false = refl
+in-order true true true true true = refl
+
+pub entry-asked : (row : Row) (e : List ℕ)
+    → entryReason row e
+    ≡ (if alongsideAll slotFormed (row .fields) (lent e) then if actionFormed row e then
+    if alongside slotFits (row .fields) (lent e) then if actionFits row e then
+    if alongside slotRule (row .fields) (lent e) && priorityRule (row .fields) (int 4 4 e) then 0 else 19
+    else 18 else 18 else 17 else 17)
+unfolding entryReason keyFormed keyFits keyRules
+entry-asked row e =
+    rw (← slots-lent e) (in-order (keyFormed row e) (actionFormed row e) (keyFits row e) (actionFits row e) (keyRules row e))
+
+-- ---- the whole order: an entry's reasons stand as one test in it
+
+split : (a b c d e f : Bool) (cs : List (Bool × ℕ))
+    → first ((not a, 17) ∷ (not b, 15) ∷ (not c, 16) ∷ (d, 17) ∷ (e, 18) ∷ (f, 19) ∷ cs)
+    ≡ (if a then if b then if c then
+    if eqb (first ((d, 17) ∷ (e, 18) ∷ (f, 19) ∷ [])) 0 then first cs else first ((d, 17) ∷ (e, 18) ∷ (f, 19) ∷ [])
+    else 16 else 15 else 17)
+unfolding first
+split false b c d e f cs = refl
+split true false c d e f cs = refl
+split true true false d e f cs = refl
+split true true true true e f cs = refl
+split true true true false true f cs = refl
+split true true true false false true cs = refl
+split true true true false false false cs = refl
+
+module _ (rows : List Row) (role : ℕ) (t : Tables) (u : List ℕ) where
+  abbrev reason : ℕ
+  reason = judge rows role t (updateOf u)
+
+  -- what is asked once the table's row is found and may be written
+  abbrev rest : Row → ℕ
+  rest row =
+      if eqb (entryReason row (drop 1 u)) 0 then placeReason row (byte 0 u) (drop 1 u) t else entryReason row (drop 1 u)
+
+  -- only that is left
+  abbrev pub Reached : Row → Type 0
+  Reached row = reason ≡ rest row
+
+  judge-asked : reason
+      ≡ (if between 1 3 (byte 0 u) then if known (int 1 4 u) rows then
+      if mayWrite role (rowFor (int 1 4 u) rows) then rest (rowFor (int 1 4 u) rows) else 16 else 15 else 17)
+  unfolding judge entryReason placeReason
+  judge-asked =
+      let e : List ℕ = drop 1 u in
+      let row : Row = rowFor (int 1 4 u) rows in
+      split (between 1 3 (byte 0 u)) (known (int 1 4 u) rows) (mayWrite role row)
+      (not (keyFormed row e && actionFormed row e)) (not (keyFits row e && actionFits row e)) (not (keyRules row e)) _
+
+  -- ---- one law for each way out
+
+  pub type-zero : byte 0 u ≡ 0 → 17 ≡ reason
+  type-zero h = sym (judge-asked ∙ (rw (lt-leb 1 (byte 0 u) (omega arith))))
+
+  pub type-high : 3 < byte 0 u → 17 ≡ reason
+  type-high h = sym (judge-asked ∙ (rw (le-leb 1 (byte 0 u) (omega arith), lt-leb (byte 0 u) 3 h)))
+
+  -- the type is 1, 2 or 3
+  module _ (some : byte 0 u ≡ 0 → ⊥) (most : byte 0 u ≤ 3) where
+    typed : between 1 3 (byte 0 u) ≡ true
+    typed = rw (le-leb 1 (byte 0 u) (omega arith), le-leb (byte 0 u) 3 most)
+
+    pub table-unknown : known (int 1 4 u) rows ≡ false → 15 ≡ reason
+    table-unknown k = sym (judge-asked ∙ (rw (typed, k)))
+
+    -- and the table has this row
+    module _ (k : known (int 1 4 u) rows ≡ true) {row : Row} (found : row ≡ rowFor (int 1 4 u) rows) where
+      pub not-owned : mayWrite role row ≡ false → 16 ≡ reason
+      not-owned w = sym (judge-asked ∙ (rw (typed, k, ← found, w)))
+
+      pub owned : mayWrite role row ≡ true → Reached row
+      owned w = judge-asked ∙ (rw (typed, k, ← found, w))
+
+  -- of the entry, as it is lent
+  module _ (row : Row) {e : List ℕ} (left : Reached row) (whole : e ≡ drop 1 u) where
+    pub entry-refused : {r : ℕ} → r ≡ entryReason row e → (r ≡ 0 → ⊥) → r ≡ reason
+    entry-refused {r} q n =
+        let a : entryReason row (drop 1 u) ≡ r = sym (q ∙ ap (entryReason row) whole) in
+        sym (left ∙ (rw (a, ne-eqb r 0 n)))
+
+    -- what is said of the place is the answer
+    pub place-judged : (kind : ℕ) (v : Verdict) → 0 ≡ entryReason row e → kind ≡ byte 0 u
+        → reasonOf v ≡ placeReason row kind e t → Meant v kind e t
+        → (reasonOf v ≡ reason) × Meant v (byte 0 u) (drop 1 u) t
+    place-judged kind v z k q m =
+        let a : entryReason row (drop 1 u) ≡ 0 = sym (z ∙ ap (entryReason row) whole) in
+        let p : reason ≡ placeReason row (byte 0 u) (drop 1 u) t = left ∙ (rw a) in
+        (rw (k, whole) at q ∙ sym p, rw (k, whole) at m)

@@ -1,0 +1,190 @@
+-- Right because each way out is one way through the order of `judge`, and a place is judged of the update's own entry.
+-- Assumes nothing.
+use Prim.Native.Nat.{ℕ}
+use mathlib.Core.Path.{_≡_, refl, sym, _∙_}
+use mathlib.Core.Bool.{true}
+use mathlib.Core.List.{List}
+use lib.ListN.{getD}
+use denote.Ref.{now}
+use borrow.Author.Tests.{not-true, not-false, ne-eqb}
+use Rattle.rules.specs.Bytes.{int}
+use Rattle.rules.specs.Row.{Row, known, rowFor}
+use Rattle.rules.specs.Update.{Tables}
+use Rattle.rows.specs.Meaning.{rowOf, rowsOf}
+use Rattle.entries.specs.Store.{tablesIn}
+use Rattle.entry_store.proofs.Judging.{Reached, type-zero, type-high, table-unknown, not-owned, owned}
+use Rattle.entry_store.proofs.Judging.{entry-lent, entry-refused, place-judged}
+use borrow.Author.Needs.{needs}
+use Rattle.entry_store.proofs.judge.Statement.{statement}
+use Rattle.entry_store.proofs.judge.Tie as tie
+
+-- the rows, the role, the tables and the update
+
+abbrev R : tie.Else1 → List Row
+R b = rowsOf (b .before .before .before .before .args .rows)
+
+abbrev P : tie.Else1 → ℕ
+P b = b .before .before .before .before .args .role
+
+abbrev T : tie.Else1 → Tables
+T b = let a = b .before .before .before .before .args in tablesIn (a .count) (now (a .store))
+
+abbrev U : tie.Else1 → List ℕ
+U b = now (b .before .before .before .before .args .update)
+
+-- what is found of the update's table
+
+is-known : (d : tie.After-find)
+    → let b = d .before .before .before in known (int 1 4 (U b)) (R b) ≡ d .find .result .known
+is-known d = sym (rw (d .before .integer .ensures) at (d .find .ensures .0))
+
+row-found : (d : tie.After-find)
+    → let b = d .before .before .before in rowOf (d .find .result .row) ≡ rowFor (int 1 4 (U b)) (R b)
+row-found d = rw (d .before .integer .ensures) at (d .find .ensures .1)
+
+known-row : (e : tie.Else3) → let b = e .before .before .before .before .before in known (int 1 4 (U b)) (R b) ≡ true
+known-row e = is-known (e .before .before) ∙ not-false (e .before .before .find .result .known) (e .if3 .left)
+
+-- the row may be written
+reached : (g : tie.Else4) → let d = g .before .before .before .before .before in
+    let b = d .before .before .before in Reached (R b) (P b) (T b) (U b) (rowOf (d .find .result .row))
+reached g =
+    let m = g .before in
+    let e = m .before .before in
+    let d = e .before .before in
+    let b = d .before .before .before in
+    owned (R b) (P b) (T b) (U b) (b .if1 .left) (d .before .before .if2 .left) (known-row e) (row-found d)
+    (sym (m .may-write .ensures) ∙ not-false (m .may-write .result) (g .if4 .left))
+
+shared-slice-read-kind : tie.Need-shared-slice-read-kind
+shared-slice-read-kind c = search needs
+
+returns : tie.Need-returns
+returns c =
+    let a = c .before .before .before .before .args in
+    (type-zero (rowsOf (a .rows)) (a .role) (tablesIn (a .count) (now (a .store))) (now (a .update)) (c .if1 .taken), tt)
+
+returns-2 : tie.Need-returns-2
+returns-2 c =
+    let a = c .before .before .before .before .before .args in
+    (type-high (rowsOf (a .rows)) (a .role) (tablesIn (a .count) (now (a .store))) (now (a .update)) (c .if2 .taken), tt)
+
+integer-requires : tie.Need-integer-requires
+integer-requires c κs = search needs
+
+find-requires : tie.Need-find-requires
+find-requires c κs = search needs
+
+returns-3 : tie.Need-returns-3
+returns-3 c =
+    let d = c .before .before in
+    let b = d .before .before .before in
+    let k = is-known d ∙ not-true (d .find .result .known) (c .if3 .taken) in
+    (table-unknown (R b) (P b) (T b) (U b) (b .if1 .left) (d .before .before .if2 .left) k, tt)
+
+may-write-requires : tie.Need-may-write-requires
+may-write-requires c κs = search needs
+
+returns-4 : tie.Need-returns-4
+returns-4 c =
+    let m = c .before in
+    let e = m .before .before in
+    let d = e .before .before in
+    let b = d .before .before .before in
+    let w = sym (m .may-write .ensures) ∙ not-true (m .may-write .result) (c .if4 .taken) in
+    (not-owned (R b) (P b) (T b) (U b) (b .if1 .left) (d .before .before .if2 .left) (known-row e) (row-found d) w, tt)
+
+sub-entry-reason : tie.Need-sub-entry-reason
+sub-entry-reason c = search needs
+
+part-entry-reason-start : tie.Need-part-entry-reason-start
+part-entry-reason-start c = search needs
+
+part-entry-reason-end : tie.Need-part-entry-reason-end
+part-entry-reason-end c = search needs
+
+entry-reason-requires : tie.Need-entry-reason-requires
+entry-reason-requires c κs = search needs
+
+returns-5 : tie.Need-returns-5
+returns-5 c =
+    let g = c .before .before .before in
+    let d = g .before .before .before .before .before in
+    let b = d .before .before .before in
+    let r = rowOf (d .find .result .row) in
+    (entry-refused (R b) (P b) (T b) (U b) r (reached g) (entry-lent (U b)) (c .before .entry-reason .ensures) (c .if5 .taken), tt)
+
+sub-judge-insert : tie.Need-sub-judge-insert
+sub-judge-insert c = search needs
+
+part-judge-insert-start : tie.Need-part-judge-insert-start
+part-judge-insert-start c = search needs
+
+part-judge-insert-end : tie.Need-part-judge-insert-end
+part-judge-insert-end c = search needs
+
+judge-insert-requires : tie.Need-judge-insert-requires
+judge-insert-requires c κs = search needs
+
+returns-6 : tie.Need-returns-6
+returns-6 c =
+    let h = c .before .before .before in
+    let g = h .before .before .before in
+    let d = g .before .before .before .before .before in
+    let b = d .before .before .before in
+    let r = rowOf (d .find .result .row) in
+    let z = sym (h .if5 .left) ∙ h .before .entry-reason .ensures in
+    let k = sym (c .before .before .if6 .taken) in
+    place-judged (R b) (P b) (T b) (U b) r (reached g) (entry-lent (U b)) 1 (c .judge-insert .result) z k
+    (c .judge-insert .ensures .0) (c .judge-insert .ensures .1)
+
+sub-judge-change : tie.Need-sub-judge-change
+sub-judge-change c = search needs
+
+part-judge-change-start : tie.Need-part-judge-change-start
+part-judge-change-start c = search needs
+
+part-judge-change-end : tie.Need-part-judge-change-end
+part-judge-change-end c = search needs
+
+judge-change-requires : tie.Need-judge-change-requires
+judge-change-requires c κs = (search needs, search needs, ne-eqb _ _ (c .before .if6 .left))
+
+returns-7 : tie.Need-returns-7
+returns-7 c =
+    let h = c .before .before .before in
+    let g = h .before .before .before in
+    let d = g .before .before .before .before .before in
+    let b = d .before .before .before in
+    let r = rowOf (d .find .result .row) in
+    let z = sym (h .if5 .left) ∙ h .before .entry-reason .ensures in
+    place-judged (R b) (P b) (T b) (U b) r (reached g) (entry-lent (U b)) (getD (U b) 0 0) (c .judge-change .result) z refl
+    (c .judge-change .ensures .0) (c .judge-change .ensures .1)
+
+pub judge-spec : {M : Type 1} → statement M
+judge-spec =
+    tie.close
+    (tie.spec
+    shared-slice-read-kind
+    returns
+    returns-2
+    integer-requires
+    find-requires
+    returns-3
+    may-write-requires
+    returns-4
+    sub-entry-reason
+    part-entry-reason-start
+    part-entry-reason-end
+    entry-reason-requires
+    returns-5
+    sub-judge-insert
+    part-judge-insert-start
+    part-judge-insert-end
+    judge-insert-requires
+    returns-6
+    sub-judge-change
+    part-judge-change-start
+    part-judge-change-end
+    judge-change-requires
+    returns-7)
