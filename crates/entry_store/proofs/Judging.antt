@@ -14,8 +14,7 @@ use Rattle.rules.specs.Bytes.{if_then_else_, between, byte, part, parts, int}
 use Rattle.rules.specs.Reason.{first}
 use Rattle.rules.specs.Frame.{updateOf}
 use Rattle.rules.specs.Row.{Row, known, rowFor, mayWrite}
-use Rattle.rules.specs.Key.{slots, slotFormed, slotFits, slotRule, alongside, alongsideAll, priorityRule}
-use Rattle.rules.specs.Key.{keyFormed, keyFits, keyRules}
+use Rattle.rules.specs.Key.{slots, slotFormed, slotFits, slotRule, alongside, alongsideAll, priorityRule, keyFormed, keyFits, keyRules}
 use Rattle.rules.specs.Entry.{actionFormed, actionFits}
 use Rattle.rules.specs.Update.{Tables, judge}
 use Rattle.entry_store.specs.declared.Verdict.{Verdict}

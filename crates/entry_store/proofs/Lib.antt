@@ -1,4 +1,6 @@
 -- Laws of the entry store.
 pub mod Verdicts
-pub mod Reading
 pub mod Judging
+pub mod Updates
+pub mod Batches
+pub mod Reading

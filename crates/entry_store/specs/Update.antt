@@ -46,9 +46,9 @@ reasonOf Insert = 0
 reasonOf (Modify i) = 0
 reasonOf (Delete i) = 0
 
--- what a verdict other than a refusal has found
+-- what a verdict has found; a refusal has a reason
 abbrev pub Meant : Verdict → ℕ → List ℕ → Tables → Type 0
-Meant (Refused r) type e t = Unit {0}
+Meant (Refused r) type e t = 0 < r
 Meant Insert type e t = (isInsert type ≡ true) × (length (t .entries) < 256)
 Meant (Modify i) type e t = (isInsert type ≡ false) × (isModify type ≡ true) × (place (shortKey e) (t .entries) ≡ some i)
 Meant (Delete i) type e t = (isInsert type ≡ false) × (isModify type ≡ false) × (place (shortKey e) (t .entries) ≡ some i)

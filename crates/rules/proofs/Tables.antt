@@ -26,7 +26,7 @@ of es = record { entries = es }
 -- ---- an entry under a MODIFY keeps its key, and so its table
 
 -- what a MODIFY to e makes of an entry
-abbrev revised : List ℕ → List ℕ → List ℕ
+abbrev pub revised : List ℕ → List ℕ → List ℕ
 revised e old = if hasKey (keyOf e) old then e else old
 
 key-revised : (e old : List ℕ) → keyOf (revised e old) ≡ keyOf old
@@ -42,7 +42,7 @@ table-revised e old = sym (table-of-key (revised e old)) ∙ (ap tableOf (key-re
 -- ---- keys stay distinct
 
 -- no entry has the key
-abbrev Free : List ℕ → List (List ℕ) → Type 0
+abbrev pub Free : List ℕ → List (List ℕ) → Type 0
 Free k es = some-of (hasKey k) es ≡ false
 
 free-map : (k e : List ℕ) (es : List (List ℕ)) → some-of (hasKey k) (map (revised e) es) ≡ some-of (hasKey k) es
@@ -63,12 +63,12 @@ free-snoc : (k : List ℕ) (es : List (List ℕ)) (x : List ℕ) → Free k es �
 free-snoc k [] x h n = rw n
 free-snoc k (e ∷ es) x h n = let q = or-false (hasKey k e) (some-of (hasKey k) es) h in rw (q .0) (free-snoc k es x (q .1) n)
 
-distinct-map : (e : List ℕ) (es : List (List ℕ)) → Distinct es → Distinct (map (revised e) es)
+pub distinct-map : (e : List ℕ) (es : List (List ℕ)) → Distinct es → Distinct (map (revised e) es)
 unfolding stored
 distinct-map e [] d = tt
 distinct-map e (x ∷ es) d = (rw (key-revised e x, free-map (keyOf x) e es) (d .0), distinct-map e es (d .1))
 
-distinct-keep : (p : List ℕ → Bool) (es : List (List ℕ)) → Distinct es → Distinct (keep p es)
+pub distinct-keep : (p : List ℕ → Bool) (es : List (List ℕ)) → Distinct es → Distinct (keep p es)
 unfolding stored
 distinct-keep p [] d = tt
 distinct-keep p (x ∷ es) d = go (p x) (distinct-keep p es (d .1))
@@ -77,7 +77,7 @@ distinct-keep p (x ∷ es) d = go (p x) (distinct-keep p es (d .1))
     go true r = (free-keep (keyOf x) p es (d .0), r)
     go false r = r
 
-distinct-snoc : (es : List (List ℕ)) (x : List ℕ) → Distinct es → Free (keyOf x) es → Distinct (es ++ (x ∷ []))
+pub distinct-snoc : (es : List (List ℕ)) (x : List ℕ) → Distinct es → Free (keyOf x) es → Distinct (es ++ (x ∷ []))
 unfolding stored
 distinct-snoc [] x d h = (refl, tt)
 distinct-snoc (e ∷ es) x d h =

@@ -1,6 +1,7 @@
 -- Right because each way out is one way through the order of `judge`, and a place is judged of the update's own entry.
 -- Assumes nothing.
 use Prim.Native.Nat.{ℕ}
+use native.Mathlib.Omega.{arith}
 use mathlib.Core.Path.{_≡_, refl, sym, _∙_}
 use mathlib.Core.Bool.{true}
 use mathlib.Core.List.{List}
@@ -12,8 +13,7 @@ use Rattle.rules.specs.Row.{Row, known, rowFor}
 use Rattle.rules.specs.Update.{Tables}
 use Rattle.rows.specs.Meaning.{rowOf, rowsOf}
 use Rattle.entries.specs.Store.{tablesIn}
-use Rattle.entry_store.proofs.Judging.{Reached, type-zero, type-high, table-unknown, not-owned, owned}
-use Rattle.entry_store.proofs.Judging.{entry-lent, entry-refused, place-judged}
+use Rattle.entry_store.proofs.Judging.{Reached, type-zero, type-high, table-unknown, not-owned, owned, entry-lent, entry-refused, place-judged}
 use borrow.Author.Needs.{needs}
 use Rattle.entry_store.proofs.judge.Statement.{statement}
 use Rattle.entry_store.proofs.judge.Tie as tie
@@ -62,12 +62,12 @@ shared-slice-read-kind c = search needs
 returns : tie.Need-returns
 returns c =
     let a = c .before .before .before .before .args in
-    (type-zero (rowsOf (a .rows)) (a .role) (tablesIn (a .count) (now (a .store))) (now (a .update)) (c .if1 .taken), tt)
+    (type-zero (rowsOf (a .rows)) (a .role) (tablesIn (a .count) (now (a .store))) (now (a .update)) (c .if1 .taken), omega arith)
 
 returns-2 : tie.Need-returns-2
 returns-2 c =
     let a = c .before .before .before .before .before .args in
-    (type-high (rowsOf (a .rows)) (a .role) (tablesIn (a .count) (now (a .store))) (now (a .update)) (c .if2 .taken), tt)
+    (type-high (rowsOf (a .rows)) (a .role) (tablesIn (a .count) (now (a .store))) (now (a .update)) (c .if2 .taken), omega arith)
 
 integer-requires : tie.Need-integer-requires
 integer-requires c κs = search needs
@@ -80,7 +80,7 @@ returns-3 c =
     let d = c .before .before in
     let b = d .before .before .before in
     let k = is-known d ∙ not-true (d .find .result .known) (c .if3 .taken) in
-    (table-unknown (R b) (P b) (T b) (U b) (b .if1 .left) (d .before .before .if2 .left) k, tt)
+    (table-unknown (R b) (P b) (T b) (U b) (b .if1 .left) (d .before .before .if2 .left) k, omega arith)
 
 may-write-requires : tie.Need-may-write-requires
 may-write-requires c κs = search needs
@@ -92,7 +92,7 @@ returns-4 c =
     let d = e .before .before in
     let b = d .before .before .before in
     let w = sym (m .may-write .ensures) ∙ not-true (m .may-write .result) (c .if4 .taken) in
-    (not-owned (R b) (P b) (T b) (U b) (b .if1 .left) (d .before .before .if2 .left) (known-row e) (row-found d) w, tt)
+    (not-owned (R b) (P b) (T b) (U b) (b .if1 .left) (d .before .before .if2 .left) (known-row e) (row-found d) w, omega arith)
 
 sub-entry-reason : tie.Need-sub-entry-reason
 sub-entry-reason c = search needs
@@ -112,7 +112,7 @@ returns-5 c =
     let d = g .before .before .before .before .before in
     let b = d .before .before .before in
     let r = rowOf (d .find .result .row) in
-    (entry-refused (R b) (P b) (T b) (U b) r (reached g) (entry-lent (U b)) (c .before .entry-reason .ensures) (c .if5 .taken), tt)
+    (entry-refused (R b) (P b) (T b) (U b) r (reached g) (entry-lent (U b)) (c .before .entry-reason .ensures) (c .if5 .taken), (let n = c .if5 .taken in omega (arith, n)))
 
 sub-judge-insert : tie.Need-sub-judge-insert
 sub-judge-insert c = search needs

@@ -1,4 +1,5 @@
 -- Right because the entry is there or not. Assumes nothing.
+use native.Mathlib.Omega.{arith}
 use mathlib.Core.Path.{_≡_, sym, ap, _∙_}
 use mathlib.Core.Bool.{false}
 use borrow.Author.Tests.{eq-eqb, ne-eqb}
@@ -44,7 +45,7 @@ returns-3 c =
     let a = d .before .before .before .args in
     let p = sym (d .locate .ensures) ∙ ap placeOf (c .enum-told .given .1) in
     let n : isInsert (a .kind) ≡ false = search needs in
-    (sym (change-absent (rowOf (a .row)) (now (a .entry)) (entriesIn (a .count) (now (a .store))) (a .kind) n p), tt)
+    (sym (change-absent (rowOf (a .row)) (now (a .entry)) (entriesIn (a .count) (now (a .store))) (a .kind) n p), omega arith)
 
 pub judge-change-spec : {M : Type 1} → statement M
 judge-change-spec =

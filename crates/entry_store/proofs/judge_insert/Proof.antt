@@ -37,7 +37,7 @@ returns c =
     let a = d .before .before .before .args in
     let es = entriesIn (a .count) (now (a .store)) in
     let p = sym (d .locate .ensures) ∙ ap placeOf (h .before .before .before .enum-told2 .given .1) in
-    (sym (insert-table-full (rowOf (a .row)) (now (a .entry)) es p (omega (arith, h .held .ensures))), tt)
+    (sym (insert-table-full (rowOf (a .row)) (now (a .entry)) es p (omega (arith, h .held .ensures))), omega arith)
 
 returns-2 : tie.Need-returns-2
 unfolding rowOf
@@ -48,14 +48,14 @@ returns-2 c =
     let es = entriesIn (a .count) (now (a .store)) in
     let m : length es ≡ a .count = parts-count (a .count) 220 (now (a .store)) in
     let p = sym (d .locate .ensures) ∙ ap placeOf (h .before .before .before .enum-told2 .given .1) in
-    (sym (insert-store-full (rowOf (a .row)) (now (a .entry)) es p (omega (arith, h .held .ensures)) (omega arith)), tt)
+    (sym (insert-store-full (rowOf (a .row)) (now (a .entry)) es p (omega (arith, h .held .ensures)) (omega arith)), omega arith)
 
 returns-3 : tie.Need-returns-3
 returns-3 c =
     let d = c .before .before in
     let a = d .before .before .before .args in
     let p = sym (d .locate .ensures) ∙ ap placeOf (c .enum-told .given .1) in
-    (sym (insert-present (rowOf (a .row)) (now (a .entry)) (entriesIn (a .count) (now (a .store))) _ p), tt)
+    (sym (insert-present (rowOf (a .row)) (now (a .entry)) (entriesIn (a .count) (now (a .store))) _ p), omega arith)
 
 returns-4 : tie.Need-returns-4
 unfolding rowOf

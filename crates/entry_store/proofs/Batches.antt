@@ -1,0 +1,104 @@
+-- A batch before its update i: what the updates left will do to the store as it is now, after what was done, is what all of them
+-- do to the store at the start. Assumes nothing.
+use Prim.Native.Nat.{ℕ, _+_, _*_, _≤_}
+use mathlib.Core.Path.{_≡_, refl, sym, ap, _∙_}
+use mathlib.Core.Bool.{Bool, true, false, _&&_, not}
+use mathlib.Core.List.{List, [], _∷_, map}
+use lib.Dec.{eqb}
+use lib.ListN.{length, drop}
+use borrow.Author.Tests.{ne-eqb}
+use Rattle.rules.specs.Bytes.{if_then_else_, every, concat}
+use Rattle.rules.specs.Frame.{Update}
+use Rattle.rules.specs.Row.{Row}
+use Rattle.rules.specs.Update.{Tables, Batch, judge, apply, batch}
+use Rattle.rules.specs.Call.{pairOf}
+use Rattle.buffers.specs.Splice.{splice}
+use Rattle.buffers.proofs.Written.{Written as Pairs, written-none, written-next, written-all}
+use Rattle.entries.specs.Store.{tablesIn}
+use Rattle.entry_store.specs.Update.{Tidy, Applied, BatchApplied}
+use Rattle.entry_store.specs.declared.Updated.{Updated}
+use Rattle.entry_store.proofs.Updates.{applied-tidy}
+
+-- ---- the flag
+
+-- after an update of this reason
+abbrev flagged : ℕ → Bool → Bool
+flagged reason failed = if eqb 0 reason then failed else true
+
+module _ (reason : ℕ) (failed : Bool) {flag : Bool} where
+  pub flag-set : (reason ≡ 0 → ⊥) → flag ≡ true → flag ≡ flagged reason failed
+  flag-set n e = rw (ne-eqb 0 reason (λ z. n (sym z))) e
+
+  pub flag-kept : reason ≡ 0 → flag ≡ failed → flag ≡ flagged reason failed
+  flag-kept z e = rw z e
+
+still : (reason : ℕ) (failed rest : Bool) → (not failed && (eqb 0 reason && rest)) ≡ (not (flagged reason failed) && rest)
+still reason failed rest = go (eqb 0 reason) failed
+  where
+    go : (b f : Bool) → (not f && (b && rest)) ≡ (not (if b then f else true) && rest)
+    go true f = refl
+    go false true = refl
+    go false false = refl
+
+-- ---- the store and the answer
+
+module _ (rows : List Row) (role : ℕ) where
+  -- what updates do to a store as it is
+  abbrev does : ℕ → List ℕ → List Update → Batch
+  does held store us = batch rows role (tablesIn held store) us
+
+  -- `all` is what all updates do to the store `start`, with the answer `out`; us are those left
+  pub record Batching (all : Batch) (start out : List ℕ) (us : List Update) (store answer : List ℕ) (held : ℕ) (failed : Bool)
+      (i : ℕ) : Type 0 where
+    pub tidy : Tidy held store
+    pub room : length store ≡ length start
+    pub beyond : drop 56_320 store ≡ drop 56_320 start
+    pub tables : all .tables ≡ does held store us .tables
+    pub failing : every (eqb 0) (all .reasons) ≡ (not failed && every (eqb 0) (does held store us .reasons))
+    pub pairs : Pairs 2 (map pairOf (all .reasons)) out (map pairOf (does held store us .reasons)) answer i
+
+  pub batch-start : (count : ℕ) (start out : List ℕ) (us : List Update) → Tidy count start
+      → Batching (does count start us) start out us start out count false 0
+  batch-start count start out us ok =
+      record { tidy = ok; room = refl; beyond = refl; tables = refl; failing = refl; pairs = written-none 2 _ out }
+
+  -- the tables that an update leaves
+  tables-left : {held : ℕ} {store after : List ℕ} {u : Update} {r : Updated} → Applied rows role held store after u r
+      → tablesIn (r .count) after ≡ apply (judge rows role (tablesIn held store) u) u (tablesIn held store)
+  tables-left a = ap (λ (es : List (List ℕ)). let t : Tables = record { entries = es } in t) (a .left .holds)
+
+  module _ {all : Batch} {start out store answer : List ℕ} {held i : ℕ} {failed : Bool} where
+    pub batch-next : {u : Update} {us : List Update} {after answer′ : List ℕ} {r : Updated} {failed′ : Bool}
+        → Batching all start out (u ∷ us) store answer held failed i → length (u .entry) ≡ 220 → 2 * i ≤ length out
+        → Applied rows role held store after u r → failed′ ≡ flagged (r .reason) failed
+        → answer′ ≡ splice answer (2 * i) (pairOf (r .reason))
+        → Batching all start out us after answer′ (r .count) failed′ (i + 1)
+    unfolding batch
+    batch-next {u} {us} {after} {answer′} {r} b l h a f w =
+        let t = tables-left a in
+        record {
+          tidy = applied-tidy rows role held store u (r .count) after l (b .tidy) (a .left .holds);
+          room = a .left .room ∙ b .room;
+          beyond = a .left .beyond ∙ b .beyond;
+          tables = rw t (b .tables);
+          failing = rw (t, f, a .reason) (b .failing ∙ still (judge rows role (tablesIn held store) u) failed _);
+          pairs = rw t (written-next (b .pairs) refl refl h (rw (a .reason) at w) refl);
+        }
+
+  pub batch-end : {count : ℕ} {us : List Update} {start out store answer : List ℕ} {held i : ℕ} {failed : Bool}
+      → Batching (does count start us) start out [] store answer held failed i
+      → BatchApplied rows role count start store us (record { count = held; failed = failed })
+      × (answer ≡ splice out 0 (concat (map pairOf (does count start us .reasons))))
+  unfolding batch
+  batch-end {count} {us} {start} {store} {held} {failed} b = (
+    record {
+      failed = flag failed (b .failing);
+      left = record { holds = sym (ap (λ (t : Tables). t .entries) (b .tables)); room = b .room; beyond = b .beyond };
+    },
+    written-all (b .pairs) refl .1,
+  )
+    where
+      flag : (f : Bool) → every (eqb 0) (does count start us .reasons) ≡ (not f && true)
+          → f ≡ not (every (eqb 0) (does count start us .reasons))
+      flag true q = rw q
+      flag false q = rw q

@@ -1,0 +1,157 @@
+-- Right because each update does what the rules say to what the updates before it left. Assumes nothing.
+use Prim.Native.Nat.{ℕ, _+_, _*_, _-_, _≤_, _<_}
+use native.Mathlib.Omega.{arith}
+use mathlib.Core.Path.{_≡_, refl, _∙_}
+use mathlib.Core.Bool.{Bool}
+use mathlib.Core.List.{List, [], map}
+use mathlib.Core.Logic.{⊎-elim}
+use lib.ListN.{length, drop, length-drop, drop-of-length-le}
+use borrow.Rule.Slice.PartMut.{same-len-mid}
+use Rattle.rules.proofs.Formed.{parts-count}
+use Rattle.rules.specs.Call.{pairOf}
+use denote.Ref.{now}
+use borrow.Author.Needs.{needs}
+use Rattle.rules.specs.Bytes.{part, parts}
+use Rattle.rules.specs.Frame.{updateOf}
+use Rattle.rules.specs.Update.{batch}
+use Rattle.rows.specs.Meaning.{rowsOf}
+use Rattle.entries.specs.Store.{tablesIn}
+use Rattle.rules.proofs.Lists.{parts-from}
+use Rattle.buffers.proofs.Splice.{length-window, part-copied}
+use Rattle.entry_store.specs.Update.{Tidy, updatesIn}
+use Rattle.entry_store.proofs.Batches.{Batching, batch-start, batch-next, batch-end, flag-set, flag-kept}
+use Rattle.entry_store.proofs.batch.Statement.{statement}
+use Rattle.entry_store.proofs.batch.Tie as tie
+
+abbrev Inv-loop : tie.InvT-loop
+Inv-loop rows role store₀ count updates n answer₀ held₀ failed₀ i₀ store answer held failed i =
+    (i ≤ n)
+    × (length store ≡ length store₀)
+    × (length answer ≡ length answer₀)
+    × (Tidy count store₀
+    → Batching (rowsOf rows) role (batch (rowsOf rows) role (tablesIn count store₀) (updatesIn n updates)) store₀ answer₀
+    (map updateOf (drop i (parts n 221 updates))) store answer held failed i)
+
+abbrev μ-loop : tie.MeasureT-loop
+μ-loop rows role store₀ count updates n answer₀ held₀ failed₀ i₀ store answer held failed i = n - i
+
+loop-holds : tie.Need-loop-holds Inv-loop μ-loop
+loop-holds c = (omega arith, refl, refl, λ t. batch-start _ _ _ _ _ _ t)
+
+mul-from : tie.Need-mul-from Inv-loop μ-loop
+mul-from c = search needs
+
+add-end : tie.Need-add-end Inv-loop μ-loop
+add-end c = search needs
+
+sub-update : tie.Need-sub-update Inv-loop μ-loop
+sub-update c = search needs
+
+part-update-start : tie.Need-part-update-start Inv-loop μ-loop
+part-update-start c = search needs
+
+part-update-end : tie.Need-part-update-end Inv-loop μ-loop
+part-update-end c = search needs
+
+update-requires : tie.Need-update-requires Inv-loop μ-loop
+update-requires c κs = search needs
+
+mul-at : tie.Need-mul-at Inv-loop μ-loop
+mul-at c = search needs
+
+sub-write-pair : tie.Need-sub-write-pair Inv-loop μ-loop
+sub-write-pair c = search needs
+
+part-write-pair-start : tie.Need-part-write-pair-start Inv-loop μ-loop
+part-write-pair-start c = search needs
+
+part-write-pair-end : tie.Need-part-write-pair-end Inv-loop μ-loop
+part-write-pair-end c = search needs
+
+write-pair-requires : tie.Need-write-pair-requires Inv-loop μ-loop
+write-pair-requires c κs = search needs
+
+add-i : tie.Need-add-i Inv-loop μ-loop
+add-i c = search needs
+
+loop-less : tie.Need-loop-less Inv-loop μ-loop
+loop-less c = search needs
+
+-- update i and its pair have their places
+places : (c : tie.In-loop Inv-loop μ-loop)
+    → let l = c .before in
+    let a = l .before .before .before .before .args in
+    (l .loop .i < a .n)
+    × (221 * l .loop .i + 221 ≤ length (now (a .updates)))
+    × (2 * l .loop .i + 2 ≤ length (now (a .answer)))
+    × (2 * l .loop .i + 2 ≤ length (l .loop .answer))
+places c = omega arith
+
+loop-again : tie.Need-loop-again Inv-loop μ-loop
+loop-again c =
+    let g = c .before .before .before .before .before .before .before .before .before .before .before in
+    let l = g .before in
+    let a = l .before .before .before .before .args in
+    let u = c .before .before .before .before .before .before .before .before .update in
+    let w = c .before .before .write-pair in
+    let us : List ℕ = now (a .updates) in
+    let x : List ℕ = l .loop .answer in
+    let i : ℕ = l .loop .i in
+    let r : ℕ = u .result .reason in
+    let at = places g in
+    let k : 221 * i + 221 - 221 * i ≡ 221 = omega arith in
+    let long : length (drop 1 (part (221 * i) 221 us)) ≡ 220 =
+    omega (arith, length-drop 1 (part (221 * i) 221 us), length-window (221 * i) 221 us (at .1)) in
+    let written = part-copied x (w .last .1 .0) (pairOf r) (2 * i) (length x - 2 * i) (w .ensures)
+    (omega (arith, at .3)) (omega (arith, at .3)) in
+    let f : Bool = l .loop .failed in
+    let flag = ⊎-elim (λ y. flag-set r f (y .0 .taken) (y .1)) (λ y. flag-kept r f (y .0 .left) (y .1))
+    (c .before .before .before .before .if1 .came) in (
+      omega (arith, at .0),
+      u .kept .1 .1 .0 ∙ l .loop .inv .1,
+      same-len-mid (2 * i) (length x - 2 * i) x (w .last .1 .0) (w .kept .1 .0) ∙ l .loop .inv .2,
+      λ t.
+          let b = rw (parts-from i (a .n) 221 us (at .0)) at (l .loop .inv .3 t) in
+          let done = rw k at (u .ensures (b .tidy)) in
+          batch-next _ _ b long (omega (arith, at .2)) done flag written,
+    )
+
+same-length : tie.Need-same-length Inv-loop μ-loop
+same-length c = search needs
+
+same-length-2 : tie.Need-same-length-2 Inv-loop μ-loop
+same-length-2 c = search needs
+
+returns : tie.Need-returns Inv-loop μ-loop
+returns c =
+    let a = c .before .before .before .before .before .args in
+    let i : ℕ = c .before .loop .i in
+    let us : List (List ℕ) = parts (a .n) 221 (now (a .updates)) in
+    let none : drop i us ≡ [] = drop-of-length-le us {i = i} (omega (arith, parts-count (a .n) 221 (now (a .updates)))) in
+    let b = c .before .loop .inv .3 in
+    (λ t. batch-end _ _ (rw none at (b t)) .0, λ t. batch-end _ _ (rw none at (b t)) .1)
+
+pub batch-spec : {M : Type 1} → statement M
+batch-spec =
+    tie.close
+    (tie.spec
+    Inv-loop
+    μ-loop
+    loop-holds
+    mul-from
+    add-end
+    sub-update
+    part-update-start
+    part-update-end
+    update-requires
+    mul-at
+    sub-write-pair
+    part-write-pair-start
+    part-write-pair-end
+    write-pair-requires
+    add-i
+    loop-less
+    loop-again
+    same-length
+    same-length-2
+    returns)
