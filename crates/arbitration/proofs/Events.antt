@@ -1,18 +1,21 @@
 -- One law for each way through an event: what stands in the stream record, and the tests taken, fix what the event leaves.
 -- Assumes nothing.
 use Prim.Native.Nat.{ℕ}
-use mathlib.Core.Path.{_≡_, refl}
-use mathlib.Core.Bool.{Bool, true, false, _&&_, _||_}
+use mathlib.Core.Path.{_≡_, refl, sym}
+use mathlib.Core.Bool.{Bool, true, false, _&&_, _||_, not}
 use mathlib.Core.List.{List, [], _∷_}
 use mathlib.Core.Option.{Option}
 use lib.Dec.{eqb}
-use borrow.Author.Tests.{ne-eqb}
+use borrow.Author.Tests.{eqb-true, ne-eqb, not-false}
 use Rattle.rules.specs.Bytes.{if_then_else_, between}
 use Rattle.rules.specs.Reason.{first}
 use Rattle.rules.specs.Frame.{Head}
-use Rattle.rules.specs.Streams.{Stream, closed, unbound, bound, Streams, streamAt, markOf, isOpen, primary, notification, notifyAll, become, openStream, closeStream, is, leaving, closeRecords, orderOf, arbitrateReason, binds, sameOption, samePair, bindRecords, arbitrate}
-use Rattle.rules.proofs.Tests.{and-true}
-use Rattle.arbitration.specs.Meaning.{leftAs, closedUnder}
+use Rattle.rules.specs.Streams.{Stream, closed, unbound, bound, Streams, streamAt, markOf, isOpen, primary, notification, notifyAll, become, openStream, closeStream, is, leaving, closeRecords, heldElsewhere, orderOf, arbitrateReason, binds, sameOption, samePair, bindRecords, arbitrate, Outcome}
+use Rattle.rules.proofs.Tests.{clash, or-false, and-true}
+use Rattle.rules.proofs.Orders.{first-clear}
+use Rattle.arbitration.specs.Meaning.{recordsOf, leftAs, closedUnder}
+use Rattle.arbitration.specs.declared.Notify.{Notify}
+use Rattle.arbitration.specs.declared.Notify.the-variants.{Only, All}
 
 -- ---- an order of refusals
 
@@ -51,9 +54,9 @@ known r = eqb r 0 || (eqb r 4 || between 5 9 r)
 module _ (e : Streams) (s : ℕ) where
   -- ---- OPEN
 
-  pub open-closed : closed ≡ streamAt e s → leftAs (become e s unbound) 0 ≡ openStream e s
+  pub open-closed : {x : Stream} → x ≡ streamAt e s → isOpen x ≡ false → leftAs (become e s unbound) 0 ≡ openStream e s
   unfolding openStream first
-  open-closed h = rw (← h)
+  open-closed h o = rw (← h, o)
 
   pub open-twice : {x : Stream} → x ≡ streamAt e s → isOpen x ≡ true → leftAs e 3 ≡ openStream e s
   unfolding openStream first
@@ -61,30 +64,32 @@ module _ (e : Streams) (s : ℕ) where
 
   -- ---- CLOSE
 
-  pub close-closed : closed ≡ streamAt e s → leftAs e 4 ≡ closeStream e s
+  pub close-closed : {x : Stream} → x ≡ streamAt e s → isOpen x ≡ false → leftAs e 4 ≡ closeStream e s
   unfolding closeStream first
-  close-closed h = rw (← h)
+  close-closed h o = rw (← h, o)
 
   pub close-open : {x : Stream} → x ≡ streamAt e s → isOpen x ≡ true → closedUnder e s 0 ≡ closeStream e s
   unfolding closeStream first
   close-open h o = rw (← h, o)
 
-  -- e′ is the record without the stream
-  module _ {e′ : Streams} (d : e′ ≡ become e s closed) where
-    -- a stream that was bound to no role
-    pub leaves-quiet : {r : ℕ} {x : Stream} → x ≡ streamAt e s → leaving e s x ≡ [] → leftAs e′ r ≡ closedUnder e s r
-    unfolding closeRecords
-    leaves-quiet h n = rw (d, ← h, n)
+  -- a stream that was bound to no role
+  pub leaves-quiet : {x : Stream} → x ≡ streamAt e s → leaving e s x ≡ [] → [] ≡ closeRecords e s
+  unfolding closeRecords
+  leaves-quiet h n = rw (← h, n)
 
-    -- one whose role's primary is another, or nobody
-    pub backup-leaves : {r q i : ℕ} {p : Option ℕ} → bound q i ≡ streamAt e s → p ≡ primary e q → is s p ≡ false
-        → leftAs e′ r ≡ closedUnder e s r
-    backup-leaves h m n = leaves-quiet h (rw (← m, n))
+  -- one whose role's primary is another, or nobody
+  pub backup-leaves : {q i : ℕ} {p : Option ℕ} → bound q i ≡ streamAt e s → p ≡ primary e q → is s p ≡ false → [] ≡ closeRecords e s
+  backup-leaves h m n = leaves-quiet h (rw (← m, n))
 
-    pub primary-leaves : {r q i : ℕ} {p : Option ℕ} → bound q i ≡ streamAt e s → p ≡ primary e q → is s p ≡ true
-        → record { after = e′; reason = r; records = notifyAll e′ q } ≡ closedUnder e s r
-    unfolding closeRecords
-    primary-leaves h m n = rw (d, ← h, ← m, n)
+  pub primary-leaves : {q i : ℕ} {p : Option ℕ} → bound q i ≡ streamAt e s → p ≡ primary e q → is s p ≡ true
+      → notifyAll (become e s closed) q ≡ closeRecords e s
+  unfolding closeRecords
+  primary-leaves h m n = rw (← h, ← m, n)
+
+  -- the record without the stream, and who is to be notified
+  pub closes : (n : Notify) (r : ℕ) {e′ : Streams} → e′ ≡ become e s closed → recordsOf n (become e s closed) ≡ closeRecords e s
+      → record { after = e′; reason = r; records = recordsOf n e′ } ≡ closedUnder e s r
+  closes n r d q = rw (d, q)
 
   -- ---- ARBITRATE
 
@@ -114,17 +119,35 @@ module _ (e : Streams) (s : ℕ) where
     unfolding arbitrate
     arbitrate-closes {r} p four zero = rw (← p, ne-eqb r 0 zero, closing r p four zero)
 
-    -- e′ is the record with the stream bound
-    module _ {e′ : Streams} (d : e′ ≡ binds e s h) (p : 0 ≡ arbitrateReason device e s h) where
-      pub arbitrate-same : samePair e e′ (h .role) ≡ true
-          → record { after = e′; reason = 0; records = notification e′ (h .role) s ∷ [] } ≡ arbitrate device e s h
-      unfolding arbitrate bindRecords
-      arbitrate-same q = rw (← p, ← d, q)
+    -- e′ is the record with the stream bound, and the pair of the role is the same or not
+    pub arbitrate-binds : {e′ : Streams} → e′ ≡ binds e s h → 0 ≡ arbitrateReason device e s h
+        → {b : Bool} → b ≡ samePair e (binds e s h) (h .role) → {n : Notify} → n ≡ (if b then Only (h .role) s else All (h .role))
+        → record { after = e′; reason = 0; records = recordsOf n e′ } ≡ arbitrate device e s h
+    unfolding arbitrate bindRecords recordsOf
+    arbitrate-binds d p {b} q m = rw (d, m, ← p, ← q) (go b)
+      where
+        go : (b : Bool) → _≡_ {A = Outcome}
+            (record { after = binds e s h; reason = 0; records = recordsOf (if b then Only (h .role) s else All (h .role)) (binds e s h) })
+            (record {
+              after = binds e s h;
+              reason = 0;
+              records = if b then notification (binds e s h) (h .role) s ∷ [] else notifyAll (binds e s h) (h .role);
+            })
+        go true = refl
+        go false = refl
 
-      pub arbitrate-changed : samePair e e′ (h .role) ≡ false
-          → record { after = e′; reason = 0; records = notifyAll e′ (h .role) } ≡ arbitrate device e s h
-      unfolding arbitrate bindRecords
-      arbitrate-changed q = rw (← p, ← d, q)
+-- what was accepted has no id that another holds
+pub accepted-alone : (e : Streams) (s device : ℕ) (h : Head) → 0 ≡ arbitrateReason device e s h → heldElsewhere e s (h .role) (h .id) ≡ false
+unfolding arbitrateReason
+accepted-alone e s device h p = go (streamAt e s) (sym p)
+  where
+    go : (x : Stream) → first (orderOf device e s h x) ≡ 0 → heldElsewhere e s (h .role) (h .id) ≡ false
+    go closed q = clash refl (first-clear (orderOf device e s h closed) refl q .0)
+    go unbound q = first-clear (orderOf device e s h unbound) refl q .1 .1 .0
+    go (bound r i) q =
+        let c = first-clear (orderOf device e s h (bound r i)) refl q in
+        let t = or-false (not (eqb (h .device) device)) (not (eqb (h .role) r)) (c .0) in
+        rw (eqb-true (h .role) r (not-false (eqb (h .role) r) (t .1))) (c .1 .0)
 
 -- ---- the pair of a role
 

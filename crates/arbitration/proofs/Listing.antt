@@ -3,12 +3,12 @@
 use Prim.Native.Nat.{ℕ, _+_, _<_, _≤_}
 use native.Mathlib.Numerals.{add-one}
 use native.Mathlib.Omega.{arith}
-use mathlib.Core.Path.{_≡_, refl, sym, ap, _∙_}
-use mathlib.Core.Bool.{Bool, true, false}
+use mathlib.Core.Path.{_≡_, sym, ap, _∙_}
+use mathlib.Core.Bool.{Bool}
 use mathlib.Core.List.{List, [], _∷_}
 use lib.ListN.{length, getD, drop, length-map, List·getD-map, drop-of-length-le}
 use lib.Seq.{drop-cons}
-use Rattle.rules.specs.Bytes.{if_then_else_, some-of}
+use Rattle.rules.specs.Bytes.{if_then_else_}
 use Rattle.rules.specs.Streams as rules
 use Rattle.rules.specs.Streams.{closed, numbers, streamAt}
 use Rattle.arbitration.specs.Meaning.{streamOf, streamsOf}
@@ -42,13 +42,3 @@ module _ (s : Streams) (size : length (s .streams) ≡ 32) (p : rules.Stream →
       let n = sized in
       let g : length (streamsOf s .streams) ≤ k = omega arith in
       ap (numbers p k) (drop-of-length-le (streamsOf s .streams) g)
-
-  -- a number that another test refuses adds nothing to what that test finds
-  pub left-skip : k < 32 → (P : ℕ → Bool) → P k ≡ false
-      → some-of P (left p (streamsOf s) k) ≡ some-of P (left p (streamsOf s) (k + 1))
-  left-skip h P e = ap (some-of P) (step h (p (streamAt (streamsOf s) k)) refl) ∙ go (p (streamAt (streamsOf s) k))
-    where
-      go : (b : Bool) → some-of P (if b then k ∷ left p (streamsOf s) (k + 1) else left p (streamsOf s) (k + 1))
-          ≡ some-of P (left p (streamsOf s) (k + 1))
-      go true = rw e
-      go false = refl

@@ -1,24 +1,22 @@
 -- The record's streams and marks in the rules' terms: a place is read and stored alike in a list and in what it means.
 -- Assumes nothing.
-use Prim.Native.Nat.{ℕ, zero, suc, _≤_, max}
+use Prim.Native.Nat.{ℕ, zero, suc, _%_, _<_, _≤_, max}
+use native.Mathlib.Nat.{mod-eq-of-lt}
 use native.Mathlib.Omega.{arith}
-use mathlib.Core.Path.{_≡_, refl, sym, ap, _∙_}
-use mathlib.Core.Bool.{true, false}
+use mathlib.Core.Path.{_≡_, refl, sym, ap, ap₂, _∙_}
+use mathlib.Core.Bool.{Bool, true, false, _&&_}
 use mathlib.Core.List.{List, [], _∷_, map}
 use lib.Dec.{ltb}
 use lib.ListN.{length, getD, set, length-map, List·getD-map, List·getD-eq-default}
 use lib.Seq.{set-out, set-getD}
 use borrow.Author.Tests.{ltb-true, ltb-false}
+use Rattle.rules.specs.Bytes.{if_then_else_}
 use Rattle.rules.specs.Streams as rules
-use Rattle.arbitration.specs.Meaning.{idOf, headOf, streamsOf}
+use Rattle.arbitration.specs.Meaning.{idOf, headOf, streamOf, streamsOf}
 use Rattle.arbitration.specs.declared.ElectionId.{ElectionId}
 use Rattle.arbitration.specs.declared.Head.{Head}
 use Rattle.arbitration.specs.declared.Stream.{Stream}
 use Rattle.arbitration.specs.declared.Streams.{Streams}
-
--- the length of an array of structs, which is known of what its elements mean
-pub length-mapped : (X Y : Type 0) (f : X → Y) (l : List X) (n : ℕ) → length (map f l) ≡ n → length l ≡ n
-length-mapped X Y f l n e = sym (length-map l f) ∙ e
 
 module _ {X Y : Type 0} (f : X → Y) where
   pub map-set : (l : List X) (k : ℕ) (x : X) → map f (set l k x) ≡ set (map f l) k (f x)
@@ -45,27 +43,68 @@ noStream = record { id = unset; phase = 0; role = 0 }
 abbrev pub raised : List ℕ → ℕ → ℕ → List ℕ
 raised m r i = set m r (max (getD m r 0) i)
 
-module _ (ms : List ElectionId) (r : ℕ) (id : ElectionId) where
-  mark-is : getD (map idOf ms) r 0 ≡ idOf (getD ms r unset)
-  mark-is = List·getD-map idOf ms r unset
+max-if : (a b : ℕ) → (if ltb a b then b else a) ≡ max a b
+max-if a b = go (ltb a b) (ltb-true a b) (ltb-false a b)
+  where
+    go : (t : Bool) → (t ≡ true → a < b) → (t ≡ false → b ≤ a) → (if t then b else a) ≡ max a b
+    go true p q = let h : a < b = p refl in omega arith
+    go false p q = let h : b ≤ a = q refl in omega arith
 
-  pub raised-up : ltb (idOf (getD ms r unset)) (idOf id) ≡ true → map idOf (set ms r id) ≡ raised (map idOf ms) r (idOf id)
-  raised-up h =
-      let l = ltb-true (idOf (getD ms r unset)) (idOf id) h in
-      map-set idOf ms r id ∙ ap (set (map idOf ms) r) (omega (arith, mark-is))
+-- what the mark at the role modulo 8 becomes
+module _ (ms : List ElectionId) (n : length ms ≡ 8) (r : ℕ) (id v : ElectionId) where
+  pub raised-at : idOf v ≡ (if ltb r 8 && ltb (idOf (getD ms (r % 8) unset)) (idOf id) then idOf id else idOf (getD ms (r % 8) unset))
+      → map idOf (set ms (r % 8) v) ≡ raised (map idOf ms) r (idOf id)
+  raised-at e = map-set idOf ms (r % 8) v ∙ go (ltb r 8) (ltb-true r 8) (ltb-false r 8) e
+    where
+      go : (b : Bool) → (b ≡ true → r < 8) → (b ≡ false → 8 ≤ r)
+          → idOf v ≡ (if b && ltb (idOf (getD ms (r % 8) unset)) (idOf id) then idOf id else idOf (getD ms (r % 8) unset))
+          → set (map idOf ms) (r % 8) (idOf v) ≡ raised (map idOf ms) r (idOf id)
+      go true l g e =
+          let q : r % 8 ≡ r = mod-eq-of-lt (l refl) in
+          let m : idOf (getD ms (r % 8) unset) ≡ getD (map idOf ms) r 0 =
+          ap (λ (k : ℕ). idOf (getD ms k unset)) q ∙ sym (List·getD-map idOf ms r unset) in
+          ap₂ (set (map idOf ms)) q (e ∙ max-if (idOf (getD ms (r % 8) unset)) (idOf id) ∙ ap (λ (x : ℕ). max x (idOf id)) m)
+      go false l g e =
+          let h : 8 ≤ r = g refl in
+          ap (set (map idOf ms) (r % 8)) (e ∙ sym (List·getD-map idOf ms (r % 8) unset))
+          ∙ set-getD (map idOf ms) (r % 8) 0
+          ∙ sym (set-out (map idOf ms) r (max (getD (map idOf ms) r 0) (idOf id)) (rw length-map (omega arith)))
 
-  pub raised-kept : ltb (idOf (getD ms r unset)) (idOf id) ≡ false → map idOf ms ≡ raised (map idOf ms) r (idOf id)
-  raised-kept h =
-      let l = ltb-false (idOf (getD ms r unset)) (idOf id) h in
-      sym (ap (set (map idOf ms) r) (omega (arith, mark-is)) ∙ set-getD (map idOf ms) r 0)
+-- a stream in its place is what the record says of it
+module _ (self : Streams) (k : ℕ) where
+  pub read : {x : rules.Stream} → x ≡ streamOf (getD (self .streams) k noStream) → x ≡ rules.streamAt (streamsOf self) k
+  unfolding streamsOf
+  read e = e ∙ sym (List·getD-map streamOf (self .streams) k noStream)
 
--- an accepted ARBITRATE in two steps: next has the stream bound, and ms are its marks with one raised
-pub binds-in-steps : (self next : Streams) (s : ℕ) (h : Head) (ms : List ElectionId)
-    → streamsOf next ≡ rules.become (streamsOf self) s (rules.bound (h .role) (idOf (h .id)))
-    → map idOf ms ≡ raised (map idOf (next .marks)) (h .role) (idOf (h .id))
-    → streamsOf (record { streams = next .streams; marks = ms }) ≡ rules.binds (streamsOf self) s (headOf h)
+  -- past the last a stream is closed, and a store changes nothing
+  module _ (n : length (self .streams) ≡ 32) (h : 32 ≤ k) where
+    pub past-closed : rules.closed ≡ rules.streamAt (streamsOf self) k
+    unfolding streamsOf
+    past-closed = sym (past-read streamOf (self .streams) k rules.closed (omega arith))
+
+    pub past-stored : (x : rules.Stream) → streamsOf self ≡ rules.become (streamsOf self) k x
+    unfolding streamsOf
+    past-stored x = λ i. record {
+      streams = sym (past-set streamOf (self .streams) k x (omega arith)) i;
+      marks = map idOf (self .marks);
+    }
+
+-- a stream stored in place
+pub stored : (self : Streams) (k : ℕ) (x : Stream) {y : rules.Stream} → streamOf x ≡ y
+    → streamsOf (record { streams = set (self .streams) k x; marks = self .marks }) ≡ rules.become (streamsOf self) k y
+unfolding streamsOf
+stored self k x e = λ i. record {
+  streams = (map-set streamOf (self .streams) k x ∙ ap (set (map streamOf (self .streams)) k) e) i;
+  marks = map idOf (self .marks);
+}
+
+-- a stream bound in place, and the marks with one raised
+pub bound-stored : (self : Streams) (s : ℕ) (h : Head) (ms : List ElectionId) (x : Stream)
+    → streamOf x ≡ rules.bound (h .role) (idOf (h .id))
+    → map idOf ms ≡ raised (map idOf (self .marks)) (h .role) (idOf (h .id))
+    → streamsOf (record { streams = set (self .streams) s x; marks = ms }) ≡ rules.binds (streamsOf self) s (headOf h)
 unfolding streamsOf rules.binds
-binds-in-steps self next s h ms e q = λ i. record {
-  streams = ap (λ (x : rules.Streams). x .streams) e i;
-  marks = (q ∙ ap (λ (x : rules.Streams). raised (x .marks) (h .role) (idOf (h .id))) e) i;
+bound-stored self s h ms x e q = λ i. record {
+  streams = (map-set streamOf (self .streams) s x ∙ ap (set (map streamOf (self .streams)) s) e) i;
+  marks = q i;
 }

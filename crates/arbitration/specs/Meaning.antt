@@ -1,8 +1,11 @@
 -- What the values of this crate mean in the rules' terms. Assumes nothing.
+use mathlib.Core.Path.{_≡_}
+use mathlib.Core.Bool.{Bool, false}
 use mathlib.Core.List.{List, [], _∷_, map}
 use mathlib.Core.Option.{Option, none, some}
-use Prim.Native.Nat.{ℕ}
-use lib.Dec.{eqb}
+use Prim.Native.Nat.{ℕ, _<_}
+use lib.Dec.{eqb, ltb}
+use lib.ListN.{length}
 use Rattle.rules.specs.Bytes.{if_then_else_}
 use Rattle.rules.specs.Frame as frame
 use Rattle.rules.specs.Streams as rules
@@ -15,6 +18,7 @@ use Rattle.arbitration.specs.declared.Stream.{Stream}
 use Rattle.arbitration.specs.declared.Streams.{Streams}
 use Rattle.arbitration.specs.declared.Primary.{Primary}
 use Rattle.arbitration.specs.declared.Primary.the-variants.{Nobody, Is}
+use Rattle.arbitration.specs.declared.Survey.{Survey}
 use Rattle.arbitration.specs.declared.Notify.{Notify}
 use Rattle.arbitration.specs.declared.Notify.the-variants.{None, Only, All}
 use Rattle.arbitration.specs.declared.Outcome.{Outcome}
@@ -68,3 +72,28 @@ leftAs e reason = record { after = e; reason = reason; records = [] }
 -- stream s closed under a reason, with the notifications of a CLOSE
 abbrev pub closedUnder : rules.Streams → ℕ → ℕ → rules.Outcome
 closedUnder e s reason = record { after = rules.become e s rules.closed; reason = reason; records = rules.closeRecords e s }
+
+-- a stream's number, or none from 32 on
+abbrev pub numbered : ℕ → Option ℕ
+numbered k = if ltb k 32 then some k else none
+
+-- what a walk over the record e shows of role r to stream s with id i
+pub record Shows (seen : Survey) (e : rules.Streams) (s r i : ℕ) : Type 0 where
+  pub streams : length (e .streams) ≡ 32
+  pub marks : length (e .marks) ≡ 8
+  pub members : seen .members ≡ length (rules.members e r)
+  pub clash : seen .clash ≡ rules.heldElsewhere e s r i
+  pub mark : idOf (seen .mark) ≡ rules.markOf e r
+  pub holder : numbered (seen .holder) ≡ rules.head (rules.numbers (rules.holds r (rules.markOf e r)) 0 (e .streams))
+
+-- n is the reason of an ARBITRATE in every record that the survey shows
+abbrev pub ReasonOf : ℕ → ℕ → Binding → Head → Survey → Type 0
+ReasonOf n device b h seen =
+    (e : rules.Streams) (s : ℕ) → bindingOf b ≡ rules.streamAt e s → Shows seen e s (h .role) (idOf (h .id))
+    → n ≡ rules.arbitrateReason device e s (headOf h)
+
+-- t says whether an accepted ARBITRATE of stream s leaves the pair of its role the same, in every record that the survey shows
+abbrev pub SamePairOf : Bool → ℕ → Head → Survey → Type 0
+SamePairOf t s h seen =
+    (e : rules.Streams) → s < 32 → Shows seen e s (h .role) (idOf (h .id)) → seen .clash ≡ false
+    → t ≡ rules.samePair e (rules.binds e s (headOf h)) (h .role)

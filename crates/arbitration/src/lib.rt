@@ -1,13 +1,13 @@
 // Who may write: the streams, the roles they are bound to, and the marks of the roles (document 01, "Streams and primaries").
 ghost use mathlib.Core.Path.{_≡_};
-ghost use mathlib.Core.Bool.{not};
-ghost use Prim.Native.Nat.{ℕ, _≤_};
+ghost use mathlib.Core.Bool.{not, _&&_, _||_};
+ghost use Prim.Native.Nat.{_≤_};
 ghost use lib.ListN.{length};
 ghost use lib.Dec.{ltb, eqb};
-ghost use Rattle.rules.specs.Bytes.{number, bytesOf, concat};
+ghost use Rattle.rules.specs.Bytes.{if_then_else_, number, bytesOf, concat};
 ghost use Rattle.rules.specs.Streams as rules;
 ghost use Rattle.buffers.specs.Splice.{splice};
-ghost use Rattle.arbitration.specs.Meaning.{idOf, headOf, bindingOf, streamOf, streamsOf, primaryOf, recordsOf, outcomeOf, leftAs, closedUnder};
+ghost use Rattle.arbitration.specs.Meaning.{idOf, headOf, bindingOf, streamOf, streamsOf, primaryOf, recordsOf, outcomeOf, leftAs, Shows, ReasonOf, SamePairOf};
 use numbers::Number;
 
 // An election id: a 128-bit number, of which 0 is the unset id.
@@ -121,6 +121,16 @@ impl Binding {
         }
     }
 
+    fn is_open(self) -> bool
+        ensures { λ r. ⌜ r ≡ rules.isOpen (bindingOf self) ⌝ }
+    {
+        match self {
+            Binding::Closed => false,
+            Binding::Open => true,
+            Binding::Bound(_, _) => true,
+        }
+    }
+
     // Whether it is bound to the role.
     fn in_role(self, role: u8) -> bool
         ensures { λ r. ⌜ r ≡ rules.inRole role (bindingOf self) ⌝ }
@@ -176,6 +186,15 @@ pub struct Outcome {
     pub notify: Notify,
 }
 
+// What one walk over the record shows an ARBITRATE of its role: how many streams are bound to it, whether another than the sender
+// holds the id, the mark, and the mark's first holder (32: none). What is decided of these takes no copy of the record.
+struct Survey {
+    members: usize,
+    clash: bool,
+    mark: ElectionId,
+    holder: usize,
+}
+
 // 0 to the primary, 6 where another is primary, 5 where none is.
 fn status(primary: Primary, stream: u8) -> u8
     ensures { λ r. ⌜ r ≡ rules.status (primaryOf primary) stream ⌝ }
@@ -211,6 +230,136 @@ pub fn write_notification(primary: Primary, mark: ElectionId, role: u8, stream: 
     out[2] = status(primary, stream);
     out[3] = flag(mark);
     mark.write(&mut out[4..]);
+}
+
+// The mark of a role, where read is the mark at the role modulo 8: a role past the last has none.
+fn mark_of(role: u8, read: ElectionId) -> ElectionId
+    ensures { λ r. ⌜ idOf r ≡ (if ltb role 8 then idOf read else 0) ⌝ }
+{
+    if role < 8 {
+        return read;
+    }
+    ElectionId::UNSET
+}
+
+// What stands at that place after an accepted ARBITRATE: the mark rises to a higher id, and never falls.
+fn raised(role: u8, old: ElectionId, id: ElectionId) -> ElectionId
+    ensures { λ r. ⌜ idOf r ≡ (if ltb role 8 && ltb (idOf old) (idOf id) then idOf id else idOf old) ⌝ }
+{
+    if 8 <= role {
+        return old;
+    }
+    if old.below(id) {
+        return id;
+    }
+    old
+}
+
+// The steps of a walk that changes several values, as functions: a value changed in a branch loses its invariant where branches meet.
+fn one(hit: bool) -> usize
+    ensures { λ r. ⌜ r ≡ (if hit then 1 else 0) ⌝ }
+{
+    if hit {
+        return 1;
+    }
+    0
+}
+
+fn both(a: bool, b: bool) -> bool
+    ensures { λ r. ⌜ r ≡ a && b ⌝ }
+{
+    if a {
+        return b;
+    }
+    false
+}
+
+fn either(a: bool, b: bool) -> bool
+    ensures { λ r. ⌜ r ≡ a || b ⌝ }
+{
+    if a {
+        return true;
+    }
+    b
+}
+
+// The first stream that was hit, 32 while none was.
+fn first(found: usize, hit: bool, k: usize) -> usize
+    ensures { λ r. ⌜ r ≡ (if ltb found 32 then found else if hit then k else 32) ⌝ }
+{
+    if found < 32 {
+        return found;
+    }
+    if hit {
+        return k;
+    }
+    32
+}
+
+// The reason of an ARBITRATE, 0 where nothing refuses it.
+fn reason(device: u64, binding: Binding, head: Head, seen: Survey) -> u8
+    ensures { λ r. ⌜ ReasonOf r device binding head seen ⌝ }
+{
+    match binding {
+        Binding::Closed => 4,
+        Binding::Open => {
+            if head.device != device {
+                return 5;
+            }
+            if 7 < head.role {
+                return 6;
+            }
+            if seen.clash {
+                return 8;
+            }
+            if 8 <= seen.members {
+                return 9;
+            }
+            0
+        }
+        Binding::Bound(role, _) => {
+            if head.device != device {
+                return 7;
+            }
+            if head.role != role {
+                return 7;
+            }
+            if seen.clash {
+                return 8;
+            }
+            0
+        }
+    }
+}
+
+// Whether an accepted ARBITRATE leaves the pair (primary or none, mark) of its role as it is. No walk over the new record: no other
+// stream holds the id, so where the mark stays the primary does unless the stream becomes the mark's holder, or was its first.
+fn same_pair(stream: u8, head: Head, seen: Survey) -> bool
+    ensures { λ r. ⌜ SamePairOf r stream head seen ⌝ }
+{
+    let id = head.id;
+    let mark = seen.mark;
+    if !mark.is_set() {
+        return !both(head.role < 8, id.is_set());
+    }
+    if mark.below(id) {
+        return false;
+    }
+    let was = seen.holder == stream as usize;
+    if id.equals(mark) {
+        return was;
+    }
+    !was
+}
+
+// Who is to be notified of an accepted ARBITRATE: the sender where that pair is the same, otherwise all streams of the role.
+fn told(role: u8, stream: u8, same: bool) -> Notify
+    ensures { λ r. ⌜ r ≡ (if same then Notify.Only role stream else Notify.All role) ⌝ }
+{
+    if same {
+        return Notify::Only(role, stream);
+    }
+    Notify::All(role)
 }
 
 impl Streams {
@@ -251,77 +400,26 @@ impl Streams {
         self.marks[k]
     }
 
-    // The record with another stream in place.
-    fn with(self, stream: u8, binding: Binding) -> Streams
-        ensures { λ r. ⌜ streamsOf r ≡ rules.become (streamsOf self) stream (bindingOf binding) ⌝ }
-    {
-        let k = stream as usize;
-        if 32 <= k {
-            return self;
-        }
-        let mut next = self;
-        next.streams[k] = binding.stream();
-        next
-    }
-
-    // The record after an accepted ARBITRATE: the stream bound, the mark raised where the id is higher.
-    fn binds(self, stream: u8, head: Head) -> Streams
-        ensures { λ r. ⌜ streamsOf r ≡ rules.binds (streamsOf self) stream (headOf head) ⌝ }
-    {
-        let role = head.role;
-        let id = head.id;
-        let mut next = self.with(stream, Binding::Bound(role, id));
-        let k = role as usize;
-        if 8 <= k {
-            return next;
-        }
-        let old = next.marks[k];
-        if old.below(id) {
-            next.marks[k] = id;
-        }
-        next
-    }
-
-    // How many streams are bound to the role.
-    fn count(self, role: u8) -> usize
-        ensures { λ r. ⌜ r ≡ length (rules.members (streamsOf self) role) ⌝ }
-    {
-        let mut n: usize = 0;
-        let mut k: usize = 0;
-        while k < 32 {
-            let s = self.streams[k];
-            let b = s.binding();
-            if b.in_role(role) {
-                n += 1;
-            }
-            k += 1;
-        }
-        n
-    }
-
-    // The first stream bound to the role with the id.
-    fn holder(self, role: u8, id: ElectionId) -> Primary
-        ensures { λ r. ⌜ primaryOf r ≡ rules.head (rules.numbers (rules.holds role (idOf id)) 0 (streamsOf self .streams)) ⌝ }
-    {
-        let mut k: usize = 0;
-        while k < 32 {
-            let s = self.streams[k];
-            let b = s.binding();
-            if b.holds(role, id) {
-                return Primary::Is(k as u8);
-            }
-            k += 1;
-        }
-        Primary::Nobody
-    }
-
     // The primary of the role.
     pub fn primary(self, role: u8) -> Primary
         ensures { λ r. ⌜ primaryOf r ≡ rules.primary (streamsOf self) role ⌝ }
     {
-        let mark = self.mark(role);
-        if mark.is_set() {
-            return self.holder(role, mark);
+        let r = role as usize;
+        if 8 <= r {
+            return Primary::Nobody;
+        }
+        let mark = self.marks[r];
+        if !mark.is_set() {
+            return Primary::Nobody;
+        }
+        let mut k: usize = 0;
+        while k < 32 {
+            let s = self.streams[k];
+            let b = s.binding();
+            if b.holds(role, mark) {
+                return Primary::Is(k as u8);
+            }
+            k += 1;
         }
         Primary::Nobody
     }
@@ -333,7 +431,10 @@ impl Streams {
         if !id.is_set() {
             return false;
         }
-        if !id.equals(self.mark(role)) {
+        let place = (role % 8) as usize;
+        let read = self.marks[place];
+        let mark = mark_of(role, read);
+        if !id.equals(mark) {
             return false;
         }
         let p = self.primary(role);
@@ -350,7 +451,9 @@ impl Streams {
         ensures records { λ _. ⌜ now (out .exit) ≡ splice (now (out .entry)) 0 (concat (rules.notifyAll (streamsOf self) role)) ⌝ }
     {
         let p = self.primary(role);
-        let mark = self.mark(role);
+        let place = (role % 8) as usize;
+        let read = self.marks[place];
+        let mark = mark_of(role, read);
         let mut n: usize = 0;
         let mut k: usize = 0;
         while k < 32 {
@@ -375,15 +478,18 @@ impl Streams {
         match notify {
             Notify::None => 0,
             Notify::Only(role, stream) => {
-                write_notification(self.primary(role), self.mark(role), role, stream, out);
+                let p = self.primary(role);
+                let place = (role % 8) as usize;
+                let read = self.marks[place];
+                write_notification(p, mark_of(role, read), role, stream, out);
                 1
             }
             Notify::All(role) => self.write_role(role, out),
         }
     }
 
-    // A refusal that changes nothing.
-    fn refused(self, reason: u8) -> Outcome
+    // The record as it stands, with a reason and nobody to be notified.
+    fn quiet(self, reason: u8) -> Outcome
         ensures { λ r. ⌜ outcomeOf r ≡ leftAs (streamsOf self) reason ⌝ }
     {
         Outcome {
@@ -393,44 +499,40 @@ impl Streams {
         }
     }
 
-    // OPEN.
-    pub fn open(self, stream: u8) -> Outcome
+    // OPEN. The record changes in place: the outcome has the one copy.
+    pub fn open(mut self, stream: u8) -> Outcome
         ensures { λ r. ⌜ outcomeOf r ≡ rules.openStream (streamsOf self) stream ⌝ }
     {
-        let b = self.at(stream);
-        match b {
-            Binding::Closed => Outcome {
-                streams: self.with(stream, Binding::Open),
-                reason: 0,
-                notify: Notify::None,
-            },
-            Binding::Open => self.refused(3),
-            Binding::Bound(_, _) => self.refused(3),
+        let k = stream as usize;
+        if 32 <= k {
+            return self.quiet(0);
         }
+        let s = self.streams[k];
+        let b = s.binding();
+        if b.is_open() {
+            return self.quiet(3);
+        }
+        self.streams[k] = Binding::Open.stream();
+        self.quiet(0)
     }
 
-    // The stream closes under a reason; when it is the primary's, the streams left in its role are to be notified.
-    fn closes(self, stream: u8, binding: Binding, reason: u8) -> Outcome
+    // Who is to be notified when the stream closes: where it is the primary's, the streams left in its role.
+    fn leaving(self, stream: u8, binding: Binding) -> Notify
         requires { ⌜ bindingOf binding ≡ rules.streamAt (streamsOf self) stream ⌝ }
-        ensures { λ r. ⌜ outcomeOf r ≡ closedUnder (streamsOf self) stream reason ⌝ }
+        ensures { λ r. ⌜ recordsOf r (rules.become (streamsOf self) stream rules.closed) ≡ rules.closeRecords (streamsOf self) stream ⌝ }
     {
-        let rest = self.with(stream, Binding::Closed);
         match binding {
-            Binding::Closed => rest.refused(reason),
-            Binding::Open => rest.refused(reason),
+            Binding::Closed => Notify::None,
+            Binding::Open => Notify::None,
             Binding::Bound(role, _) => {
                 let p = self.primary(role);
                 match p {
-                    Primary::Nobody => rest.refused(reason),
+                    Primary::Nobody => Notify::None,
                     Primary::Is(q) => {
                         if q == stream {
-                            return Outcome {
-                                streams: rest,
-                                reason,
-                                notify: Notify::All(role),
-                            };
+                            return Notify::All(role);
                         }
-                        rest.refused(reason)
+                        Notify::None
                     }
                 }
             }
@@ -438,122 +540,90 @@ impl Streams {
     }
 
     // CLOSE.
-    pub fn close(self, stream: u8) -> Outcome
+    pub fn close(mut self, stream: u8) -> Outcome
         ensures { λ r. ⌜ outcomeOf r ≡ rules.closeStream (streamsOf self) stream ⌝ }
     {
-        let b = self.at(stream);
-        match b {
-            Binding::Closed => self.refused(4),
-            Binding::Open => self.closes(stream, b, 0),
-            Binding::Bound(_, _) => self.closes(stream, b, 0),
+        let k = stream as usize;
+        if 32 <= k {
+            return self.quiet(4);
         }
+        let s = self.streams[k];
+        let b = s.binding();
+        if b.is_open() {
+            let notify = self.leaving(stream, b);
+            self.streams[k] = Binding::Closed.stream();
+            return Outcome {
+                streams: self,
+                reason: 0,
+                notify,
+            };
+        }
+        self.quiet(4)
     }
 
-    // Whether the id is set and held by another open stream of the role.
-    fn held_elsewhere(self, stream: u8, role: u8, id: ElectionId) -> bool
-        ensures { λ r. ⌜ r ≡ rules.heldElsewhere (streamsOf self) stream role (idOf id) ⌝ }
+    // The one walk of an ARBITRATE.
+    fn survey(self, stream: u8, role: u8, id: ElectionId) -> Survey
+        ensures { λ r. ⌜ Shows r (streamsOf self) stream role (idOf id) ⌝ }
     {
-        if !id.is_set() {
-            return false;
-        }
+        let place = (role % 8) as usize;
+        let read = self.marks[place];
+        let mark = mark_of(role, read);
         let own = stream as usize;
+        let mut members: usize = 0;
+        let mut held = false;
+        let mut holder: usize = 32;
         let mut k: usize = 0;
         while k < 32 {
-            if k != own {
-                let s = self.streams[k];
-                let b = s.binding();
-                if b.holds(role, id) {
-                    return true;
-                }
-            }
+            let s = self.streams[k];
+            let b = s.binding();
+            members += one(b.in_role(role));
+            held = either(held, both(k != own, b.holds(role, id)));
+            holder = first(holder, b.holds(role, mark), k);
             k += 1;
         }
-        false
-    }
-
-    // The reason of an ARBITRATE, 0 where nothing refuses it.
-    fn reason(self, device: u64, stream: u8, binding: Binding, head: Head) -> u8
-        requires { ⌜ bindingOf binding ≡ rules.streamAt (streamsOf self) stream ⌝ }
-        ensures { λ r. ⌜ r ≡ rules.arbitrateReason device (streamsOf self) stream (headOf head) ⌝ }
-    {
-        match binding {
-            Binding::Closed => 4,
-            Binding::Open => {
-                if head.device != device {
-                    return 5;
-                }
-                if 7 < head.role {
-                    return 6;
-                }
-                if self.held_elsewhere(stream, head.role, head.id) {
-                    return 8;
-                }
-                if 8 <= self.count(head.role) {
-                    return 9;
-                }
-                0
-            }
-            Binding::Bound(role, _) => {
-                if head.device != device {
-                    return 7;
-                }
-                if head.role != role {
-                    return 7;
-                }
-                if self.held_elsewhere(stream, role, head.id) {
-                    return 8;
-                }
-                0
-            }
-        }
-    }
-
-    // Whether the pair (primary or none, mark) of the role is the same in both records.
-    fn same_pair(self, next: Streams, role: u8) -> bool
-        ensures { λ r. ⌜ r ≡ rules.samePair (streamsOf self) (streamsOf next) role ⌝ }
-    {
-        if !self.mark(role).equals(next.mark(role)) {
-            return false;
-        }
-        let p = self.primary(role);
-        let q = next.primary(role);
-        match p {
-            Primary::Nobody => match q {
-                Primary::Nobody => true,
-                Primary::Is(_) => false,
-            },
-            Primary::Is(a) => match q {
-                Primary::Nobody => false,
-                Primary::Is(b) => a == b,
-            },
+        Survey {
+            members,
+            clash: both(id.is_set(), held),
+            mark,
+            holder,
         }
     }
 
     // ARBITRATE.
-    pub fn arbitrate(self, device: u64, stream: u8, head: Head) -> Outcome
+    pub fn arbitrate(mut self, device: u64, stream: u8, head: Head) -> Outcome
         ensures { λ r. ⌜ outcomeOf r ≡ rules.arbitrate device (streamsOf self) stream (headOf head) ⌝ }
     {
-        let b = self.at(stream);
-        let reason = self.reason(device, stream, b, head);
+        let k = stream as usize;
+        if 32 <= k {
+            return self.quiet(4);
+        }
+        let s = self.streams[k];
+        let b = s.binding();
+        let role = head.role;
+        let id = head.id;
+        let seen = self.survey(stream, role, id);
+        let reason = reason(device, b, head, seen);
         if reason == 4 {
-            return self.refused(4);
+            return self.quiet(4);
         }
         if reason != 0 {
-            return self.closes(stream, b, reason);
-        }
-        let next = self.binds(stream, head);
-        let role = head.role;
-        if self.same_pair(next, role) {
+            let notify = self.leaving(stream, b);
+            self.streams[k] = Binding::Closed.stream();
             return Outcome {
-                streams: next,
-                reason: 0,
-                notify: Notify::Only(role, stream),
+                streams: self,
+                reason,
+                notify,
             };
         }
+        let same = same_pair(stream, head, seen);
+        self.streams[k] = Binding::Bound(role, id).stream();
+        let at = (role % 8) as usize;
+        let old = self.marks[at];
+        self.marks[at] = raised(role, old, id);
         Outcome {
-            streams: next,
+            streams: self,
             reason: 0,
-            notify: Notify::All(role),
+            notify: told(role, stream, same),
         }
     }
 }

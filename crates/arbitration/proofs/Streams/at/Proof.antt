@@ -5,7 +5,8 @@ use lib.ListN.{length, List·getD-map}
 use borrow.Author.Needs.{needs}
 use Rattle.rules.specs.Streams as rules
 use Rattle.arbitration.specs.Meaning.{streamOf, streamsOf}
-use Rattle.arbitration.proofs.Records.{length-mapped, past-read}
+use Rattle.rules.proofs.Lists.{length-mapped}
+use Rattle.arbitration.proofs.Records.{past-read}
 use Rattle.arbitration.proofs.Streams.at.Statement.{statement}
 use Rattle.arbitration.proofs.Streams.at.Tie as tie
 

@@ -4,9 +4,12 @@ use mathlib.Core.Path.{_≡_, refl, sym, ap, _∙_}
 use mathlib.Core.Bool.{Bool, true, false, _&&_, not}
 use lib.Dec.{eqb}
 use borrow.Author.Tests.{not-true, not-false}
+use lib.ListN.{length}
 use borrow.Author.Needs.{needs}
 use Rattle.rules.specs.Streams.{Streams, markOf, primary, isSome, byPrimary}
 use Rattle.arbitration.specs.Meaning.{idOf, streamsOf}
+use Rattle.rules.proofs.Lists.{length-mapped}
+use Rattle.arbitration.proofs.Surveys.{mark-read}
 use Rattle.arbitration.proofs.Streams.by_primary.Statement.{statement}
 use Rattle.arbitration.proofs.Streams.by_primary.Tie as tie
 
@@ -14,9 +17,12 @@ set : (c : tie.Else1) → not (eqb (idOf (c .before .before .args .id)) 0) ≡ t
 set c = sym (c .before .is-set .ensures) ∙ not-false (c .before .is-set .result) (c .if1 .left)
 
 -- whether the id is the mark
-mark-test : (c : tie.After-equals) → let a = c .before .before .before .before .args in
-    eqb (idOf (a .id)) (markOf (streamsOf (a .self)) (a .role)) ≡ c .equals .result
-mark-test c = sym (c .equals .ensures ∙ ap (eqb (idOf (c .before .before .before .before .args .id))) (c .before .mark .ensures))
+mark-test : (c : tie.After-equals) → let a = c .before .before .before .before .before .args in
+    eqb (idOf (a .id)) (markOf (streamsOf (a .t1)) (a .role)) ≡ c .equals .result
+mark-test c =
+    let a = c .before .before .before .before .before .args in
+    let n : length (a .t1 .marks) ≡ 8 = search (needs, length-mapped) in
+    sym (c .equals .ensures ∙ ap (eqb (idOf (a .id))) (c .before .mark-of .ensures ∙ mark-read (a .t1) n (a .role)))
 
 -- an id that is not the mark
 other-id : (e : Streams) (r i : ℕ) → eqb i (markOf e r) ≡ false → false ≡ byPrimary e r i
@@ -37,8 +43,17 @@ returns c =
     let t : not (eqb (idOf (c .before .before .args .id)) 0) ≡ false = sym (i .ensures) ∙ not-true (i .result) (c .if1 .taken) in
     rw t
 
-mark-requires : tie.Need-mark-requires
-mark-requires c κs = search needs
+cast-place : tie.Need-cast-place
+cast-place c = search needs
+
+mul-read : tie.Need-mul-read
+mul-read c = search needs
+
+element-copy-out-read : tie.Need-element-copy-out-read
+element-copy-out-read c = search needs
+
+mark-of-requires : tie.Need-mark-of-requires
+mark-of-requires c κs = search needs
 
 equals-requires : tie.Need-equals-requires
 equals-requires c κs = search needs
@@ -59,7 +74,7 @@ returns-3 : tie.Need-returns-3
 unfolding byPrimary
 returns-3 c =
     let p = c .before .before in
-    rw (set (p .before .before .before .before), ← p .primary .ensures, c .enum-told .given .1)
+    rw (set (p .before .before .before .before .before), ← p .primary .ensures, c .enum-told .given .1)
 
 returns-4 : tie.Need-returns-4
 unfolding byPrimary
@@ -67,7 +82,7 @@ returns-4 c =
     let p = c .before .before in
     let e = p .before .before in
     let t = mark-test e ∙ not-false (e .equals .result) (p .before .if2 .left) in
-    rw (set (e .before .before), ← p .primary .ensures, c .enum-told2 .given .1, t)
+    rw (set (e .before .before .before), ← p .primary .ensures, c .enum-told2 .given .1, t)
 
 pub by-primary-spec : {M : Type 1} → statement M
 by-primary-spec =
@@ -75,7 +90,10 @@ by-primary-spec =
     (tie.spec
     is-set-requires
     returns
-    mark-requires
+    cast-place
+    mul-read
+    element-copy-out-read
+    mark-of-requires
     equals-requires
     returns-2
     primary-requires

@@ -4,7 +4,8 @@ use mathlib.Core.Path.{_≡_, sym}
 use lib.ListN.{length, List·getD-map}
 use borrow.Author.Needs.{needs}
 use Rattle.arbitration.specs.Meaning.{idOf, streamsOf}
-use Rattle.arbitration.proofs.Records.{length-mapped, past-read}
+use Rattle.rules.proofs.Lists.{length-mapped}
+use Rattle.arbitration.proofs.Records.{past-read}
 use Rattle.arbitration.proofs.Streams.mark.Statement.{statement}
 use Rattle.arbitration.proofs.Streams.mark.Tie as tie
 

@@ -1,66 +1,88 @@
--- An open stream refuses with 3, and a closed one opens: the laws of OPEN, by what the stream is. Assumes nothing.
-use mathlib.Core.Path.{refl, sym, ap, _∙_}
-use Rattle.rules.specs.Streams as rules
-use Rattle.arbitration.specs.Meaning.{bindingOf, streamsOf, recordsOf, leftAs}
-use Rattle.arbitration.proofs.Events.{open-closed, open-twice}
+-- An open stream refuses with 3, a closed one opens, and past the last nothing can change. Assumes nothing.
+use mathlib.Core.Path.{_≡_, refl, sym, ap, _∙_}
+use lib.ListN.{length}
 use borrow.Author.Needs.{needs}
+use Rattle.rules.specs.Streams as rules
+use Rattle.arbitration.specs.Meaning.{streamsOf, leftAs}
+use Rattle.rules.proofs.Lists.{length-mapped}
+use Rattle.arbitration.proofs.Records.{past-closed, past-stored, read, stored}
+use Rattle.arbitration.proofs.Events.{open-closed, open-twice}
 use Rattle.arbitration.proofs.Streams.open.Statement.{statement}
 use Rattle.arbitration.proofs.Streams.open.Tie as tie
 
-at-requires : tie.Need-at-requires
-at-requires c κs = search needs
-
-enum-told : tie.Need-enum-told
-enum-told c = search needs
-
-with-requires : tie.Need-with-requires
-with-requires c κs = search needs
-
-enum-told-2 : tie.Need-enum-told-2
-enum-told-2 c = search needs
-
-refused-requires : tie.Need-refused-requires
-refused-requires c κs = search needs
-
-enum-told-3 : tie.Need-enum-told-3
-enum-told-3 c = search needs
-
-refused-requires-2 : tie.Need-refused-requires-2
-refused-requires-2 c κs = search needs
+quiet-requires : tie.Need-quiet-requires
+quiet-requires c κs = search needs
 
 returns : tie.Need-returns
-unfolding recordsOf
 returns c =
-    let d = c .before .before .before in
-    let a = d .before .args in
-    ap (λ (t : rules.Streams). leftAs t 0) (c .with .ensures)
-    ∙ open-closed (streamsOf (a .self)) (a .stream) (ap bindingOf (sym (c .before .enum-told .given .1)) ∙ d .at .ensures)
+    let a = c .before .before .args in
+    let n : length (a .t1 .streams) ≡ 32 = search (needs, length-mapped) in
+    let h = c .before .if1 .taken in
+    c .quiet .ensures
+    ∙ ap (λ (t : rules.Streams). leftAs t 0) (past-stored (a .t1) (a .stream) n h rules.unbound)
+    ∙ open-closed (streamsOf (a .t1)) (a .stream) (past-closed (a .t1) (a .stream) n h) refl
+
+mul-s : tie.Need-mul-s
+mul-s c = search needs
+
+element-copy-out-s : tie.Need-element-copy-out-s
+element-copy-out-s c = search needs
+
+binding-requires : tie.Need-binding-requires
+binding-requires c κs = search needs
+
+is-open-requires : tie.Need-is-open-requires
+is-open-requires c κs = search needs
+
+quiet-requires-2 : tie.Need-quiet-requires-2
+quiet-requires-2 c κs = search needs
 
 returns-2 : tie.Need-returns-2
 returns-2 c =
-    let d = c .before .before .before in
-    let a = d .before .args in
-    c .refused .ensures
-    ∙ open-twice (streamsOf (a .self)) (a .stream) (ap bindingOf (sym (c .before .enum-told2 .given .1)) ∙ d .at .ensures) refl
+    let o = c .before .before in
+    let b = o .before in
+    let a = b .before .before .before .args in
+    c .quiet2 .ensures
+    ∙ open-twice (streamsOf (a .t1)) (a .stream) (read (a .t1) (a .stream) (b .binding .ensures))
+    (sym (o .is-open .ensures) ∙ c .before .if2 .taken)
+
+stream-requires : tie.Need-stream-requires
+stream-requires c κs = search needs
+
+mul-t9 : tie.Need-mul-t9
+mul-t9 c = search needs
+
+element-set-from-self : tie.Need-element-set-from-self
+element-set-from-self c = search needs
+
+quiet-requires-3 : tie.Need-quiet-requires-3
+quiet-requires-3 c κs = search needs
 
 returns-3 : tie.Need-returns-3
 returns-3 c =
-    let d = c .before .before .before in
-    let a = d .before .args in
-    c .refused2 .ensures
-    ∙ open-twice (streamsOf (a .self)) (a .stream) (ap bindingOf (sym (c .before .enum-told3 .given .1)) ∙ d .at .ensures) refl
+    let l = c .before .before in
+    let o = l .before in
+    let b = o .before in
+    let a = b .before .before .before .args in
+    c .quiet3 .ensures
+    ∙ ap (λ (t : rules.Streams). leftAs t 0) (stored (a .t1) (a .stream) (c .before .stream .result) (c .before .stream .ensures))
+    ∙ open-closed (streamsOf (a .t1)) (a .stream) (read (a .t1) (a .stream) (b .binding .ensures))
+    (sym (o .is-open .ensures) ∙ l .if2 .left)
 
 pub open-spec : {M : Type 1} → statement M
 open-spec =
     tie.close
     (tie.spec
-    at-requires
-    enum-told
-    with-requires
-    enum-told-2
-    refused-requires
-    enum-told-3
-    refused-requires-2
+    quiet-requires
     returns
+    mul-s
+    element-copy-out-s
+    binding-requires
+    is-open-requires
+    quiet-requires-2
     returns-2
+    stream-requires
+    mul-t9
+    element-set-from-self
+    quiet-requires-3
     returns-3)

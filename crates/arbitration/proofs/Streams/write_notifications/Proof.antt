@@ -3,12 +3,15 @@ use Prim.Native.Nat.{ℕ}
 use mathlib.Core.Path.{_≡_, refl, sym, ap, _∙_}
 use mathlib.Core.List.{List, [], _∷_, append-nil}
 use mathlib.Core.Option.{Option}
+use lib.ListN.{length}
 use borrow.Author.Needs.{needs}
 use Rattle.rules.specs.Bytes.{concat}
 use Rattle.rules.specs.Streams.{Streams, markOf, primary, noticeOf, notification}
 use Rattle.buffers.specs.Splice.{splice}
 use Rattle.buffers.proofs.Splice.{splice-none}
 use Rattle.arbitration.specs.Meaning.{idOf, primaryOf, streamsOf, recordsOf}
+use Rattle.rules.proofs.Lists.{length-mapped}
+use Rattle.arbitration.proofs.Surveys.{mark-read}
 use Rattle.arbitration.proofs.Notices.{notice-is}
 use Rattle.arbitration.proofs.Streams.write_notifications.Statement.{statement}
 use Rattle.arbitration.proofs.Streams.write_notifications.Tie as tie
@@ -17,6 +20,9 @@ use Rattle.arbitration.proofs.Streams.write_notifications.Tie as tie
 one-record : (e : Streams) (r s : ℕ) (d out : List ℕ) (p : Option ℕ) (m : ℕ) → p ≡ primary e r → m ≡ markOf e r
     → out ≡ splice d 0 (noticeOf p m r s) → out ≡ splice d 0 (concat (notification e r s ∷ []))
 one-record e r s d out p m f g w = w ∙ ap (splice d 0) (notice-is e r s f g ∙ sym (append-nil (notification e r s)))
+
+marks : (c : tie.After-primary) → length (c .before .before .before .before .before .args .t1 .marks) ≡ 8
+marks c = search (needs, length-mapped)
 
 enum-told : tie.Need-enum-told
 enum-told c = search needs
@@ -27,8 +33,17 @@ enum-known-notify c = search needs
 primary-requires : tie.Need-primary-requires
 primary-requires c κs = search needs
 
-mark-requires : tie.Need-mark-requires
-mark-requires c κs = search needs
+cast-place : tie.Need-cast-place
+cast-place c = search needs
+
+mul-read : tie.Need-mul-read
+mul-read c = search needs
+
+element-copy-out-read : tie.Need-element-copy-out-read
+element-copy-out-read c = search needs
+
+mark-of-requires : tie.Need-mark-of-requires
+mark-of-requires c κs = search needs
 
 write-notification-requires : tie.Need-write-notification-requires
 write-notification-requires c κs = search needs
@@ -51,10 +66,12 @@ unfolding recordsOf
 returns-2 c =
     let w = c .before .before in
     let m = w .before .before in
-    let g = m .before .before .before .notify .given in
-    let a = m .before .before .before .before .before .before .args in
-    let z = one-record (streamsOf (a .self)) (g .0 .0) (g .0 .1 .0) (a .out .now) (w .write-notification .last .1 .1 .1 .1 .0)
-    (primaryOf (m .before .primary .result)) (idOf (m .mark .result)) (m .before .primary .ensures) (m .mark .ensures) in
+    let p = m .before .before in
+    let g = p .before .before .notify .given in
+    let a = p .before .before .before .before .before .args in
+    let z = one-record (streamsOf (a .t1)) (g .0 .0) (g .0 .1 .0) (a .out .now) (w .write-notification .last .1 .1 .1 .1 .0)
+    (primaryOf (p .primary .result)) (idOf (m .mark-of .result)) (p .primary .ensures)
+    (m .mark-of .ensures ∙ mark-read (a .t1) (marks p) (g .0 .0)) in
     rw (g .1) (refl, z (w .write-notification .ensures))
 
 same-length-2 : tie.Need-same-length-2
@@ -73,7 +90,10 @@ write-notifications-spec =
     enum-told
     enum-known-notify
     primary-requires
-    mark-requires
+    cast-place
+    mul-read
+    element-copy-out-read
+    mark-of-requires
     write-notification-requires
     enum-known-notify-2
     write-role-requires

@@ -11,8 +11,9 @@ use Rattle.rules.specs.Streams.{Streams, inRole, markOf, primary, noticeOf, not
 use Rattle.buffers.specs.Splice.{splice}
 use Rattle.buffers.proofs.Splice.{part-copied}
 use Rattle.arbitration.specs.Meaning.{idOf, primaryOf, streamsOf}
-use Rattle.arbitration.proofs.Records.{length-mapped}
+use Rattle.rules.proofs.Lists.{length-mapped}
 use Rattle.arbitration.proofs.Listing.{left, left-next, left-none}
+use Rattle.arbitration.proofs.Surveys.{mark-read}
 use Rattle.arbitration.proofs.Notices.{notice-length, notice-is}
 use Rattle.buffers.proofs.Written.{Written, written-none, written-next, written-same, written-length, written-all}
 use Rattle.arbitration.proofs.Streams.write_role.Statement.{statement}
@@ -23,28 +24,44 @@ abbrev records : Streams → ℕ → ℕ → List (List ℕ)
 records e r k = map (notification e r) (left (inRole r) e k)
 
 abbrev Inv-loop : tie.InvT-loop
-Inv-loop role out₀ self p mark n₀ k₀ out n k =
+Inv-loop role out₀ self p place mark n₀ k₀ out n k =
     (k ≤ 32) × (n ≤ k) × Written 20 (notifyAll (streamsOf self) role) out₀ (records (streamsOf self) role k) out n
 
 abbrev μ-loop : tie.MeasureT-loop
-μ-loop role out₀ self p mark n₀ k₀ out n k = 32 - k
+μ-loop role out₀ self p place mark n₀ k₀ out n k = 32 - k
 
-size : (c : tie.At-loop Inv-loop μ-loop) → length (c .before .before .before .before .args .t1 .streams) ≡ 32
+size : (c : tie.At-loop Inv-loop μ-loop) → length (c .before .before .before .before .before .args .t1 .streams) ≡ 32
 size c = search (needs, length-mapped)
 
-long : (c : tie.At-loop Inv-loop μ-loop) → length (c .loop .out) ≡ length (c .before .before .before .before .args .out .now)
+long : (c : tie.At-loop Inv-loop μ-loop) → length (c .loop .out) ≡ length (c .before .before .before .before .before .args .out .now)
 long c = written-length (c .loop .inv .2) (omega arith)
+
+mark : (c : tie.At-loop Inv-loop μ-loop) → let a = c .before .before .before .before .before .args in
+    idOf (c .before .mark-of .result) ≡ markOf (streamsOf (a .t1)) (a .role)
+mark c =
+    let a = c .before .before .before .before .before .args in
+    let n : length (a .t1 .marks) ≡ 8 = search (needs, length-mapped) in
+    c .before .mark-of .ensures ∙ mark-read (a .t1) n (a .role)
 
 primary-requires : tie.Need-primary-requires Inv-loop μ-loop
 primary-requires c κs = search needs
 
-mark-requires : tie.Need-mark-requires Inv-loop μ-loop
-mark-requires c κs = search needs
+cast-place : tie.Need-cast-place Inv-loop μ-loop
+cast-place c = search needs
+
+mul-read : tie.Need-mul-read Inv-loop μ-loop
+mul-read c = search needs
+
+element-copy-out-read : tie.Need-element-copy-out-read Inv-loop μ-loop
+element-copy-out-read c = search needs
+
+mark-of-requires : tie.Need-mark-of-requires Inv-loop μ-loop
+mark-of-requires c κs = search needs
 
 loop-holds : tie.Need-loop-holds Inv-loop μ-loop
 unfolding notifyAll
 loop-holds c =
-    let a = c .before .before .before .args in
+    let a = c .before .before .before .before .args in
     (search needs, search needs, written-none 20 (notifyAll (streamsOf (a .t1)) (a .role)) (a .out .now))
 
 mul-s : tie.Need-mul-s Inv-loop μ-loop
@@ -91,7 +108,7 @@ loop-less c = search needs
 loop-again : tie.Need-loop-again Inv-loop μ-loop
 loop-again c =
     let d = c .before .before .before .before .before in
-    let a = d .before .before .before .before .args in
+    let a = d .before .before .before .before .before .args in
     let r = a .role in
     let k = d .loop .k in
     let m = d .loop .n in
@@ -104,9 +121,9 @@ loop-again c =
     (λ w.
     let q = ap (map (notification e r)) (next true (w .0 .taken)) in
     let x = notification e r k in
-    let y = noticeOf (primaryOf (d .before .before .primary .result)) (idOf (d .before .mark .result)) r k in
+    let y = noticeOf (primaryOf (d .before .before .before .primary .result)) (idOf (d .before .mark-of .result)) r k in
     let l : length x ≡ 20 = notice-length (primary e r) (markOf e r) r k in
-    let z : y ≡ x = notice-is e r k (d .before .before .primary .ensures) (d .before .mark .ensures) in
+    let z : y ≡ x = notice-is e r k (d .before .before .before .primary .ensures) (mark d) in
     let g : length y ≡ 20 = ap length z ∙ l in
     let f = w .2 in
     let v = part-copied o (f .last .1 .1 .1 .1 .0) y (20 * m) (length o - 20 * m) (f .ensures) (omega arith) (omega arith) in
@@ -123,7 +140,7 @@ same-length c = long (c .before)
 returns : tie.Need-returns Inv-loop μ-loop
 returns c =
     let d = c .before in
-    let a = d .before .before .before .before .args in
+    let a = d .before .before .before .before .before .args in
     let e = streamsOf (a .t1) in
     let q = left-none (a .t1) (size d) (inRole (a .role)) (d .loop .k) (c .loop-test .left) in
     written-all (d .loop .inv .2) (ap (map (notification e (a .role))) q)
@@ -135,7 +152,10 @@ write-role-spec =
     Inv-loop
     μ-loop
     primary-requires
-    mark-requires
+    cast-place
+    mul-read
+    element-copy-out-read
+    mark-of-requires
     loop-holds
     mul-s
     element-copy-out-s
