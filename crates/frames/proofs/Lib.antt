@@ -1,0 +1,2 @@
+-- Laws of the frame reader.
+pub mod Readings
