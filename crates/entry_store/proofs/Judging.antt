@@ -46,28 +46,34 @@ slots-lent e = sym (parts-lent 4 35 (drop 8 e))
 pub entry-lent : (u : List ℕ) → take (length u - 1) (drop 1 u) ≡ drop 1 u
 entry-lent u = take-all (length u - 1) (drop 1 u) (omega (arith, length-drop 1 u))
 
--- ---- 17 to 19, the tests one after the other
+pub key-formed-lent : (row : Row) (e : List ℕ) → keyFormed row e ≡ alongsideAll slotFormed (row .fields) (lent e)
+unfolding keyFormed
+key-formed-lent row e = ap (alongsideAll slotFormed (row .fields)) (slots-lent e)
 
-in-order : (a b c d e : Bool)
-    → first ((not (a && b), 17) ∷ (not (c && d), 18) ∷ (not e, 19) ∷ [])
-    ≡ (if a then if b then if c then if d then if e then 0 else 19 else 18 else 18 else 17 else 17)
+pub key-fits-lent : (row : Row) (e : List ℕ) → keyFits row e ≡ alongside slotFits (row .fields) (lent e)
+unfolding keyFits
+key-fits-lent row e = ap (alongside slotFits (row .fields)) (slots-lent e)
+
+pub key-rules-lent : (row : Row) (e : List ℕ)
+    → keyRules row e ≡ (alongside slotRule (row .fields) (lent e) && priorityRule (row .fields) (int 4 4 e))
+unfolding keyRules
+key-rules-lent row e = ap (λ l. alongside slotRule (row .fields) l && priorityRule (row .fields) (int 4 4 e)) (slots-lent e)
+
+-- ---- 17 to 19, one after the other
+
+in-order : (a b c : Bool) → first ((not a, 17) ∷ (not b, 18) ∷ (not c, 19) ∷ [])
+    ≡ (if a then if b then if c then 0 else 19 else 18 else 17)
 unfolding first
-in-order false b c d e = refl
-in-order true false c d e = refl
-in-order true true false d e = refl
-in-order true true true false e = refl
-in-order true true true true false = refl
-in-order true true true true true = refl
+in-order false b c = refl
+in-order true false c = refl
+in-order true true false = refl
+in-order true true true = refl
 
-pub entry-asked : (row : Row) (e : List ℕ)
-    → entryReason row e
-    ≡ (if alongsideAll slotFormed (row .fields) (lent e) then if actionFormed row e then
-    if alongside slotFits (row .fields) (lent e) then if actionFits row e then
-    if alongside slotRule (row .fields) (lent e) && priorityRule (row .fields) (int 4 4 e) then 0 else 19
-    else 18 else 18 else 17 else 17)
-unfolding entryReason keyFormed keyFits keyRules
-entry-asked row e =
-    rw (← slots-lent e) (in-order (keyFormed row e) (actionFormed row e) (keyFits row e) (actionFits row e) (keyRules row e))
+pub entry-asked : (row : Row) (e : List ℕ) → entryReason row e
+    ≡ (if keyFormed row e && actionFormed row e then
+    if keyFits row e && actionFits row e then if keyRules row e then 0 else 19 else 18 else 17)
+unfolding entryReason
+entry-asked row e = in-order (keyFormed row e && actionFormed row e) (keyFits row e && actionFits row e) (keyRules row e)
 
 -- ---- the whole order: an entry's reasons stand as one test in it
 

@@ -1,14 +1,14 @@
 // The entry store: one update judged and applied, batches of them, and the records of a READ
 // (document 01, "Configuration and entries" and "The maker of an update").
 ghost use mathlib.Core.Path.{_≡_};
-ghost use mathlib.Core.Bool.{false};
+ghost use mathlib.Core.Bool.{false, _&&_};
 ghost use mathlib.Core.List.{[], _∷_, _++_, map};
 ghost use Prim.Native.Nat.{_+_, _*_, _≤_, _<_};
 ghost use lib.ListN.{length, drop, getD, set};
-ghost use Rattle.rules.specs.Bytes.{byte, keep, concat};
+ghost use Rattle.rules.specs.Bytes.{if_then_else_, byte, keep, concat};
 ghost use Rattle.rules.specs.Frame.{updateOf};
-ghost use Rattle.rules.specs.Key.{shortKey, hasKey};
-ghost use Rattle.rules.specs.Entry.{shortEntry};
+ghost use Rattle.rules.specs.Key.{keyFormed, keyFits, shortKey, hasKey};
+ghost use Rattle.rules.specs.Entry.{actionFormed, actionFits, shortEntry};
 ghost use Rattle.rules.specs.Update.{isInsert, judge as judgement, batch as batchOf};
 ghost use Rattle.rules.specs.Call.{pairOf, asked, gathered};
 ghost use Rattle.buffers.specs.Splice.{splice};
@@ -42,27 +42,41 @@ pub struct Written {
 
 // ---- one update
 
-// 17 to 19 of a whole entry: 17 over all of it, then 18, then 19.
+// 17 over all of an entry.
+fn entry_formed(row: Row, entry: &[u8]) -> bool
+    requires { ⌜ length (now entry) ≡ 220 ⌝ }
+    ensures { λ r. ⌜ r ≡ (keyFormed (rowOf row) (now (entry .entry)) && actionFormed (rowOf row) (now (entry .entry))) ⌝ }
+{
+    checks::key_formed(row, &entry[8..148]) && checks::action_formed(row, entry)
+}
+
+// 18 over all of an entry.
+fn entry_fits(row: Row, entry: &[u8]) -> bool
+    requires { ⌜ length (now entry) ≡ 220 ⌝ }
+    ensures { λ r. ⌜ r ≡ (keyFits (rowOf row) (now (entry .entry)) && actionFits (rowOf row) (now (entry .entry))) ⌝ }
+{
+    checks::key_fits(row, &entry[8..148]) && checks::action_fits(row, entry)
+}
+
+// The reason where a test fails, what the later tests give where it is passed.
+fn unless(passed: bool, reason: u8, later: u8) -> u8
+    ensures { λ r. ⌜ r ≡ (if passed then later else reason) ⌝ }
+{
+    if passed {
+        return later;
+    }
+    reason
+}
+
+// 17 to 19 of a whole entry, in that order.
 fn entry_reason(row: Row, entry: &[u8]) -> u8
     requires { ⌜ length (now entry) ≡ 220 ⌝ }
     ensures { λ r. ⌜ r ≡ entryReason (rowOf row) (now (entry .entry)) ⌝ }
 {
-    if !checks::key_formed(row, &entry[8..148]) {
-        return 17;
-    }
-    if !checks::action_formed(row, entry) {
-        return 17;
-    }
-    if !checks::key_fits(row, &entry[8..148]) {
-        return 18;
-    }
-    if !checks::action_fits(row, entry) {
-        return 18;
-    }
-    if !checks::key_rules(row, integer(entry, 4, 4), &entry[8..148]) {
-        return 19;
-    }
-    0
+    let formed = entry_formed(row, entry);
+    let fits = entry_fits(row, entry);
+    let ruled = checks::key_rules(row, integer(entry, 4, 4), &entry[8..148]);
+    unless(formed, 17, unless(fits, 18, unless(ruled, 19, 0)))
 }
 
 // Where the entry of an update's key is.
