@@ -61,7 +61,7 @@ key-rules-lent row e = ap (λ l. alongside slotRule (row .fields) l && priorityR
 
 -- ---- 17 to 19, one after the other
 
-in-order : (a b c : Bool) → first ((not a, 17) ∷ (not b, 18) ∷ (not c, 19) ∷ [])
+pub in-order : (a b c : Bool) → first ((not a, 17) ∷ (not b, 18) ∷ (not c, 19) ∷ [])
     ≡ (if a then if b then if c then 0 else 19 else 18 else 17)
 unfolding first
 in-order false b c = refl

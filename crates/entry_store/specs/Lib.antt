@@ -1,1 +1,2 @@
 pub mod Update
+pub mod Read

@@ -7,6 +7,8 @@ ghost use Prim.Native.Nat.{_+_, _*_, _≤_, _<_};
 ghost use lib.ListN.{length, drop, getD, set};
 ghost use Rattle.rules.specs.Bytes.{if_then_else_, byte, keep, concat};
 ghost use Rattle.rules.specs.Frame.{updateOf};
+ghost use lib.Dec.{eqb};
+ghost use Rattle.rules.specs.Row.{mayWrite};
 ghost use Rattle.rules.specs.Key.{keyFormed, keyFits, shortKey, hasKey};
 ghost use Rattle.rules.specs.Entry.{actionFormed, actionFits, shortEntry};
 ghost use Rattle.rules.specs.Update.{isInsert, judge as judgement, batch as batchOf};
@@ -14,6 +16,7 @@ ghost use Rattle.rules.specs.Call.{pairOf, asked, gathered};
 ghost use Rattle.buffers.specs.Splice.{splice};
 ghost use Rattle.rows.specs.Meaning.{rowOf, rowsOf};
 ghost use Rattle.entries.specs.Store.{entriesIn, tablesIn, place, placeOf, Left};
+ghost use Rattle.entry_store.specs.Read.{keyIn, keyReason, queryReason, readIn, Reads};
 ghost use Rattle.entry_store.specs.Update.{entryReason, placeReason, reasonOf, Meant, changed, Performed, Tidy, Applied, updatesIn, BatchApplied};
 use entries::Found;
 use numbers::integer;
@@ -344,4 +347,91 @@ pub fn read_one(store: &[u8], count: usize, key: &[u8], answer: &mut [u8]) -> us
         }
         Found::Absent => 0,
     }
+}
+
+// 17 to 19 of the key of a READ, in that order.
+fn key_reason(row: Row, query: &[u8]) -> u8
+    requires { ⌜ length (now query) ≡ 149 ⌝ }
+    ensures { λ r. ⌜ r ≡ keyReason (rowOf row) (keyIn (now (query .entry))) ⌝ }
+{
+    let formed = checks::key_formed(row, &query[9..149]);
+    let fits = checks::key_fits(row, &query[9..149]);
+    let ruled = checks::key_rules(row, integer(query, 5, 4), &query[9..149]);
+    unless(formed, 17, unless(fits, 18, unless(ruled, 19, 0)))
+}
+
+// 15 and 16 of a READ, where its table was found so; table 0 names none.
+fn table_reason(found: rows::Found, role: u8, table: u64) -> u8
+    ensures { λ r. ⌜ r ≡ (if eqb table 0 then 0 else if found .known then if mayWrite role (rowOf (found .row)) then 0 else 16 else 15) ⌝ }
+{
+    if table == 0 {
+        return 0;
+    }
+    if !found.known {
+        return 15;
+    }
+    let row = found.row;
+    if row.may_write(role) {
+        return 0;
+    }
+    16
+}
+
+// Why a READ is refused by the rows: 15 and 16 of a named table and, with only 1, 17 to 19 of its key. The query stands in 149
+// bytes from its table on.
+pub fn query_reason(rows: Rows, role: u8, table: u64, only: u8, query: &[u8]) -> u8
+    requires { ⌜ length (now query) ≡ 149 ⌝ }
+    ensures { λ r. ⌜ r ≡ queryReason (rowsOf rows) role table only (keyIn (now (query .entry))) ⌝ }
+{
+    let found = rows.find(table);
+    let barred = table_reason(found, role, table);
+    if barred != 0 {
+        return barred;
+    }
+    if only != 1 {
+        return 0;
+    }
+    key_reason(found.row, query)
+}
+
+// Copies the key of a READ to the start of key: its table, and what follows `only`.
+fn copy_key(query: &[u8], key: &mut [u8])
+    requires { ⌜ (length (now query) ≡ 149) × (148 ≤ length (now key)) ⌝ }
+    ensures { λ _. ⌜ now (key .exit) ≡ splice (now (key .entry)) 0 (keyIn (now (query .entry))) ⌝ }
+{
+    buffers::copy(&query[0..4], key);
+    buffers::copy(&query[5..149], &mut key[4..]);
+}
+
+// Writes the entry of the key of a READ, if it is there; the number of entries written.
+fn read_key(query: &[u8], store: &[u8], count: usize, answer: &mut [u8]) -> usize
+    requires { ⌜ (length (now query) ≡ 149) × (220 * count ≤ length (now store)) × (220 ≤ length (now answer)) ⌝ }
+    ensures count { λ r. ⌜ (Tidy count (now (store .entry)) → r ≡ length (keep (hasKey (shortKey (keyIn (now (query .entry))))) (entriesIn count (now (store .entry))))) ⌝ }
+    ensures records { λ _. ⌜ (Tidy count (now (store .entry)) → now (answer .exit) ≡ splice (now (answer .entry)) 0 (concat (keep (hasKey (shortKey (keyIn (now (query .entry))))) (entriesIn count (now (store .entry)))))) ⌝ }
+{
+    let mut key = [0; 148];
+    copy_key(query, &mut key);
+    let mut short = [0; 148];
+    values::shorten_key(&key, &mut short);
+    read_one(store, count, &short, answer)
+}
+
+// Writes the entries that a READ asks for; their number.
+pub fn read(
+    rows: Rows,
+    role: u8,
+    table: u64,
+    only: u8,
+    query: &[u8],
+    store: &[u8],
+    count: usize,
+    answer: &mut [u8],
+) -> usize
+    requires { ⌜ (length (now query) ≡ 149) × (220 * count ≤ length (now store)) × (220 ≤ length (now answer)) ⌝ }
+    ensures { λ r. ⌜ (Tidy count (now (store .entry)) → Reads (readIn (rowsOf rows) role table only (keyIn (now (query .entry))) (tablesIn count (now (store .entry)))) (now (answer .entry)) (now (answer .exit)) r) ⌝ }
+{
+    if only == 1 {
+        return read_key(query, store, count, answer);
+    }
+    read_all(rows, role, table, store, count, answer)
 }

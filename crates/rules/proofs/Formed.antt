@@ -1,15 +1,17 @@
 -- What a frame reads as has operands in range and parts of full length, since the reader tests length and counts.
 -- Assumes nothing.
 use Prim.Native.Nat.{ℕ, zero, suc, _+_, _-_, _*_, _≤_}
-use mathlib.Core.Path.{_≡_, refl}
-use mathlib.Core.Bool.{Bool, true, false, _&&_}
+use mathlib.Core.Path.{_≡_, refl, ap}
+use mathlib.Core.Bool.{Bool, true, false, _&&_, _||_, not, false≢true}
 use mathlib.Core.List.{List, [], _∷_, _++_, map}
 use native.Mathlib.Omega.{arith}
 use lib.Dec.{eqb}
 use lib.ListN.{length, drop, length-take, length-drop, length-append, length-map}
+use lib.Seq.{take-at}
 use borrow.Author.Tests.{eqb-true, leb-true}
-use Rattle.rules.specs.Bytes.{if_then_else_, byte, part, parts}
-use Rattle.rules.specs.Frame.{Update, Command, cramped, malformed, OPEN, CLOSE, ARBITRATE, CONFIGURE, WRITE, READ, updateOf, flagFits, streamFits, streamFormed, arbitrateFormed, configureFormed, writeFormed, readFormed, configureOf, writeOf, byCommand, readFrame}
+use Rattle.rules.specs.Bytes.{if_then_else_, byte, part, parts, int, number, allZero}
+use Rattle.rules.specs.Frame.{Update, Command, cramped, malformed, OPEN, CLOSE, ARBITRATE, CONFIGURE, WRITE, READ, updateOf, queryOf, flagFits, streamFits, streamFormed, arbitrateFormed, configureFormed, writeFormed, readFormed, configureOf, writeOf, byCommand, readFrame}
+use Rattle.rules.specs.Key.{tableOf}
 use Rattle.rules.specs.Call.{Call, roomy, commandOf}
 use Rattle.rules.proofs.Tests.{and-true}
 
@@ -32,7 +34,7 @@ Formed (CLOSE n) = n ≤ 31
 Formed (ARBITRATE n h) = n ≤ 31
 Formed (CONFIGURE h rows) = EveryLength 53 rows
 Formed (WRITE h atomicity us) = (length us ≤ 64) × Whole us
-Formed (READ q) = length (q .key) ≡ 148
+Formed (READ q) = (length (q .key) ≡ 148) × (tableOf (q .key) ≡ q .table) × (q .only ≡ 1 → q .table ≡ 0 → ⊥)
 
 abbrev pub EveryFormed : List Command → Type 0
 EveryFormed [] = Unit {0}
@@ -90,11 +92,20 @@ updates-fit n f h =
       whole-updates (parts n 221 (drop 29 f)) (parts-lengths n 221 (drop 29 f) (omega (arith, length-drop 29 f))),
     )
 
-key-fits : (f : List ℕ) → readFormed f ≡ true → length (part 10 4 f ++ part 15 144 f) ≡ 148
+-- a READ of one key names its table: only 1 with table 0 is malformed
+one-named : (only table : ℕ) (blank : Bool) → (eqb only 0 && blank) || (eqb only 1 && not (eqb table 0)) ≡ true
+    → only ≡ 1 → table ≡ 0 → ⊥
+one-named only table blank h o t = false≢true (rw (o, t) at h)
+
+query-fits : (f : List ℕ) → readFormed f ≡ true → Formed (READ (queryOf f))
 unfolding readFormed
-key-fits f h =
-    let e : length f ≡ 159 = eqb-true _ _ (and-true _ _ h .0) in
-    simp (length-append, length-take, length-drop) (omega arith)
+query-fits f h =
+    let a = and-true _ _ h in
+    let e : length f ≡ 159 = eqb-true _ _ (a .0) in
+    let l : length (part 10 4 f) ≡ 4 = simp (length-take, length-drop) (omega arith) in
+    (simp (length-append, length-take, length-drop) (omega arith),
+    ap number (take-at (part 10 4 f) (part 15 144 f) 4 l),
+    one-named (byte 14 f) (int 10 4 f) (allZero (part 15 144 f)) (a .1))
 
 by-command : (c : ℕ) (f : List ℕ) → Formed (byCommand c f)
 by-command c f =
@@ -103,7 +114,7 @@ by-command c f =
     (choose Formed (eqb c 0x03) _ _ (λ h. choose Formed (arbitrateFormed f) _ _ (arbitrate-fits f) tt)
     (choose Formed (eqb c 0x04) _ _ (λ h. choose Formed (configureFormed (byte 27 f) f) _ _ (rows-fit (byte 27 f) f) tt)
     (choose Formed (eqb c 0x05) _ _ (λ h. choose Formed (writeFormed (byte 28 f) f) _ _ (updates-fit (byte 28 f) f) tt)
-    (choose Formed (eqb c 0x06) _ _ (λ h. choose Formed (readFormed f) _ _ (key-fits f) tt) tt)))))
+    (choose Formed (eqb c 0x06) _ _ (λ h. choose Formed (readFormed f) _ _ (query-fits f) tt) tt)))))
 
 pub frame-formed : (f : List ℕ) → Formed (readFrame f)
 unfolding readFrame

@@ -17,6 +17,8 @@ pub mod Refused
 pub mod Sizes
 pub mod Effects
 pub mod LookBack
+pub mod Replies
+pub mod OneKey
 pub mod Primary
 pub mod Members
 pub mod Presence

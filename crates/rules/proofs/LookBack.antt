@@ -107,7 +107,7 @@ keep-none : (es : List (List ℕ)) → keep (λ (e : List ℕ). false) es ≡ []
 keep-none [] = refl
 keep-none (e ∷ es) = keep-none es
 
-keep-keep : (p q : List ℕ → Bool) (es : List (List ℕ)) → keep (λ (e : List ℕ). p e && q e) es ≡ keep q (keep p es)
+pub keep-keep : (p q : List ℕ → Bool) (es : List (List ℕ)) → keep (λ (e : List ℕ). p e && q e) es ≡ keep q (keep p es)
 keep-keep p q [] = refl
 keep-keep p q (e ∷ es) = go (p e) (keep-keep p q es)
   where

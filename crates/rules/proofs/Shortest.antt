@@ -245,7 +245,7 @@ table-of-front n e h = ap number (take-take 4 n e h)
 pub table-of-key : (e : List ℕ) → tableOf (keyOf e) ≡ tableOf e
 table-of-key e = table-of-front 148 e (omega arith)
 
-table-of-short-key : (k : List ℕ) → 148 ≤ length k → tableOf (shortKey k) ≡ tableOf k
+pub table-of-short-key : (k : List ℕ) → 148 ≤ length k → tableOf (shortKey k) ≡ tableOf k
 table-of-short-key k h =
     sym (table-of-front 8 (shortKey k) (omega arith)) ∙ ap tableOf (head-of-short k h) ∙ table-of-front 8 k (omega arith)
 

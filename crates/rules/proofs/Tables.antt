@@ -185,7 +185,7 @@ within-other (r ∷ rows) es x n w =
     (omega (arith, count-snoc (inTable (r .table)) es x false a, w .0), within-other rows es x (q .1) (w .1))
 
 -- the table ids of the rows after one differ from its own
-others : (id : ℕ) (rows : List Row) → some-of (eqb id) (map (λ (r : Row). r .table) rows) ≡ false → known id rows ≡ false
+pub others : (id : ℕ) (rows : List Row) → some-of (eqb id) (map (λ (r : Row). r .table) rows) ≡ false → known id rows ≡ false
 others id [] h = refl
 others id (r ∷ rows) h =
     let q = or-false (eqb id (r .table)) (some-of (eqb id) (map (λ (r : Row). r .table) rows)) h in

@@ -1,0 +1,303 @@
+// The agent: one call hands in a frame and gets its answer (document 01).
+ghost use mathlib.Core.Path.{_≡_};
+ghost use mathlib.Core.Bool.{not};
+ghost use mathlib.Core.List.{List, [], _∷_};
+ghost use Prim.Native.Nat.{ℕ, _+_, _*_, _≤_};
+ghost use lib.Dec.{ltb};
+ghost use lib.ListN.{length};
+ghost use Rattle.rules.specs.Bytes.{parts, bytesOf, if_then_else_};
+ghost use Rattle.rules.specs.Reason.{first, codeOf};
+ghost use Rattle.rules.specs.Frame as rules;
+ghost use Rattle.buffers.specs.Splice.{splice};
+ghost use Rattle.arbitration.specs.Meaning.{headOf, outcomeOf};
+ghost use Rattle.entry_store.specs.Update.{updatesIn};
+ghost use Rattle.agent.specs.Contract.{Fresh, Meets};
+ghost use Rattle.agent.specs.Handlers.{queryIn, Refused, Heard, Obeys, ObeysAny};
+use arbitration::Head;
+use arbitration::Outcome;
+use arbitration::Streams;
+use frames::Command;
+use frames::Frame;
+use frames::Query;
+use rows::Rows;
+
+// The agent's record. Its entries stand in the store that each call lends.
+#[repr(C)]
+pub struct Agent {
+    pub device: u64,
+    pub streams: Streams,
+    pub rows: Rows,
+    pub count: usize,
+}
+
+// What a call hands back: the record as it leaves it, and the reason.
+pub struct Called {
+    pub agent: Agent,
+    pub reason: u8,
+}
+
+impl Agent {
+    // A fresh agent: all streams closed, and no marks, rows or entries.
+    pub fn new(device: u64) -> Agent
+        ensures { λ r. ⌜ Fresh device r ⌝ }
+    {
+        Agent {
+            device,
+            streams: Streams::fresh(),
+            rows: Rows::fresh(),
+            count: 0,
+        }
+    }
+}
+
+// ---- answers
+
+// Writes the head of an answer: reason, code and record count.
+fn write_head(reason: u8, count: usize, answer: &mut [u8])
+    requires { ⌜ 4 ≤ length (now answer) ⌝ }
+    ensures { λ _. ⌜ now (answer .exit) ≡ splice (now (answer .entry)) 0 (reason ∷ codeOf reason ∷ bytesOf 2 count) ⌝ }
+{
+    answer[0] = reason;
+    answer[1] = rules::code(reason);
+    answer[2] = (count / 256 % 256) as u8;
+    answer[3] = (count % 256) as u8;
+}
+
+// A refusal, which leaves the agent as it is: a head, count 0, and nothing else.
+fn refuse(agent: Agent, reason: u8, answer: &mut [u8]) -> Called
+    requires { ⌜ 4 ≤ length (now answer) ⌝ }
+    ensures { λ r. ⌜ Refused agent reason r (now (answer .entry)) (now (answer .exit)) ⌝ }
+{
+    write_head(reason, 0, answer);
+    Called { agent, reason }
+}
+
+// ---- OPEN, CLOSE, ARBITRATE
+
+// Takes over what an event of the streams leaves; its records stand from byte 4 on, and before them the head.
+fn respond(mut agent: Agent, outcome: Outcome, answer: &mut [u8]) -> Called
+    requires { ⌜ 644 ≤ length (now answer) ⌝ }
+    ensures { λ r. ⌜ Heard agent (outcomeOf outcome) r (now (answer .entry)) (now (answer .exit)) ⌝ }
+{
+    let streams = outcome.streams;
+    let notify = outcome.notify;
+    let reason = outcome.reason;
+    let count = streams.write_notifications(notify, &mut answer[4..]);
+    write_head(reason, count, answer);
+    agent.streams = streams;
+    Called { agent, reason }
+}
+
+fn open(agent: Agent, stream: u8, answer: &mut [u8]) -> Called
+    requires { ⌜ 644 ≤ length (now answer) ⌝ }
+    ensures { λ r. ⌜ ObeysAny agent (rules.OPEN stream) r (now (answer .entry)) (now (answer .exit)) ⌝ }
+{
+    let streams = agent.streams;
+    respond(agent, streams.open(stream), answer)
+}
+
+fn close(agent: Agent, stream: u8, answer: &mut [u8]) -> Called
+    requires { ⌜ 644 ≤ length (now answer) ⌝ }
+    ensures { λ r. ⌜ ObeysAny agent (rules.CLOSE stream) r (now (answer .entry)) (now (answer .exit)) ⌝ }
+{
+    let streams = agent.streams;
+    respond(agent, streams.close(stream), answer)
+}
+
+fn arbitrate(agent: Agent, stream: u8, head: Head, answer: &mut [u8]) -> Called
+    requires { ⌜ 644 ≤ length (now answer) ⌝ }
+    ensures { λ r. ⌜ ObeysAny agent (rules.ARBITRATE stream (headOf head)) r (now (answer .entry)) (now (answer .exit)) ⌝ }
+{
+    let streams = agent.streams;
+    respond(agent, streams.arbitrate(agent.device, stream, head), answer)
+}
+
+// ---- CONFIGURE
+
+// 5, 6, 11 and 10 of a CONFIGURE.
+fn configure_reason(here: bool, role: u8, primary: bool) -> u8
+    ensures { λ r. ⌜ r ≡ first ((not here, 5) ∷ (ltb 7 role, 6) ∷ (ltb 0 role, 11) ∷ (not primary, 10) ∷ []) ⌝ }
+{
+    if !here {
+        return 5;
+    }
+    if 7 < role {
+        return 6;
+    }
+    if 0 < role {
+        return 11;
+    }
+    if !primary {
+        return 10;
+    }
+    0
+}
+
+// Replaces all rows and empties the store.
+fn configure(mut agent: Agent, head: Head, t: usize, rows: &[u8], answer: &mut [u8]) -> Called
+    requires { ⌜ (t ≤ 8) × (length (now rows) ≡ 53 * t) × (4 ≤ length (now answer)) ⌝ }
+    ensures { λ r. ⌜ ObeysAny agent (rules.CONFIGURE (headOf head) (parts t 53 (now (rows .entry)))) r (now (answer .entry)) (now (answer .exit)) ⌝ }
+{
+    let streams = agent.streams;
+    let primary = streams.by_primary(head.role, head.id);
+    let reason = configure_reason(head.device == agent.device, head.role, primary);
+    if reason != 0 {
+        return refuse(agent, reason, answer);
+    }
+    let reading = Rows::read(rows, t);
+    if !reading.allowed {
+        return refuse(agent, 14, answer);
+    }
+    write_head(0, 0, answer);
+    let read = reading.rows;
+    agent.rows = read;
+    agent.count = 0;
+    Called { agent, reason: 0 }
+}
+
+// ---- WRITE
+
+// 5, 6, 10, 12 and 13.
+fn write_reason(here: bool, role: u8, primary: bool, unconfigured: bool, atomicity: u8) -> u8
+    ensures { λ r. ⌜ r ≡ first ((not here, 5) ∷ (ltb 7 role, 6) ∷ (not primary, 10) ∷ (unconfigured, 12) ∷ (ltb 0 atomicity, 13) ∷ []) ⌝ }
+{
+    if !here {
+        return 5;
+    }
+    if 7 < role {
+        return 6;
+    }
+    if !primary {
+        return 10;
+    }
+    if unconfigured {
+        return 12;
+    }
+    if 0 < atomicity {
+        return 13;
+    }
+    0
+}
+
+// The reason in the head of a WRITE: 23 if any update failed.
+fn head_reason(failed: bool) -> u8
+    ensures { λ r. ⌜ r ≡ (if «failed» then 23 else 0) ⌝ }
+{
+    if failed {
+        return 23;
+    }
+    0
+}
+
+// Takes the updates in order; their pairs stand from byte 4 on, and before them the head.
+fn write(
+    mut agent: Agent,
+    head: Head,
+    atomicity: u8,
+    n: usize,
+    updates: &[u8],
+    store: &mut [u8],
+    answer: &mut [u8],
+) -> Called
+    requires { ⌜ (n ≤ 64) × (length (now updates) ≡ 221 * n) × (56320 ≤ length (now store)) × (132 ≤ length (now answer)) ⌝ }
+    ensures { λ r. ⌜ Obeys agent (rules.WRITE (headOf head) atomicity (updatesIn n (now (updates .entry)))) (now (store .entry)) (now (answer .entry)) r (now (store .exit)) (now (answer .exit)) ⌝ }
+{
+    let streams = agent.streams;
+    let rows = agent.rows;
+    let primary = streams.by_primary(head.role, head.id);
+    let here = head.device == agent.device;
+    let refused = write_reason(here, head.role, primary, rows.is_empty(), atomicity);
+    if refused != 0 {
+        return refuse(agent, refused, answer);
+    }
+    let done = entry_store::batch(rows, head.role, store, agent.count, updates, n, &mut answer[4..]);
+    let reason = head_reason(done.failed);
+    write_head(reason, n, answer);
+    agent.count = done.count;
+    Called { agent, reason }
+}
+
+// ---- READ
+
+// 5, 6 and 12.
+fn read_reason(here: bool, role: u8, unconfigured: bool) -> u8
+    ensures { λ r. ⌜ r ≡ first ((not here, 5) ∷ (ltb 7 role, 6) ∷ (unconfigured, 12) ∷ []) ⌝ }
+{
+    if !here {
+        return 5;
+    }
+    if 7 < role {
+        return 6;
+    }
+    if unconfigured {
+        return 12;
+    }
+    0
+}
+
+// Writes the entries asked for from byte 4 on, and before them the head. The query stands in 149 bytes, from its table on.
+fn read(agent: Agent, query: Query, bytes: &[u8], store: &[u8], answer: &mut [u8]) -> Called
+    requires { ⌜ (length (now bytes) ≡ 149) × (220 * agent .count ≤ length (now store)) × (57344 ≤ length (now answer)) ⌝ }
+    ensures { λ r. ⌜ Obeys agent (rules.READ (queryIn query (now (bytes .entry)))) (now (store .entry)) (now (answer .entry)) r (now (store .entry)) (now (answer .exit)) ⌝ }
+{
+    let rows = agent.rows;
+    let here = query.device == agent.device;
+    let barred = read_reason(here, query.role, rows.is_empty());
+    if barred != 0 {
+        return refuse(agent, barred, answer);
+    }
+    let refused = entry_store::query_reason(rows, query.role, query.table, query.only, bytes);
+    if refused != 0 {
+        return refuse(agent, refused, answer);
+    }
+    let count = entry_store::read(
+        rows,
+        query.role,
+        query.table,
+        query.only,
+        bytes,
+        store,
+        agent.count,
+        &mut answer[4..],
+    );
+    write_head(0, count, answer);
+    Called { agent, reason: 0 }
+}
+
+// ---- a call
+
+// One call: 2 is tested first, and nothing is written; then 1.
+pub fn call(agent: Agent, frame: &[u8], store: &mut [u8], answer: &mut [u8]) -> Called
+    ensures { λ r. ⌜ Meets agent (now (frame .entry)) (now (store .entry)) (now (answer .entry)) r (now (store .exit)) (now (answer .exit)) ⌝ }
+{
+    if answer.len() < 57344 {
+        return Called { agent, reason: 2 };
+    }
+    if store.len() < 56320 {
+        return Called { agent, reason: 2 };
+    }
+    let count = agent.count;
+    if 256 < count {
+        // no list of calls leaves such a record; the store is too short for it
+        return Called { agent, reason: 2 };
+    }
+    let Frame::Asks(command) = frames::read_frame(frame) else {
+        return refuse(agent, 1, answer);
+    };
+    match command {
+        Command::Open(stream) => open(agent, stream, answer),
+        Command::Close(stream) => close(agent, stream, answer),
+        Command::Arbitrate(stream, head) => arbitrate(agent, stream, head, answer),
+        Command::Configure(head, t) => configure(agent, head, t, &frame[28..], answer),
+        Command::Write(head, atomicity, n) => write(
+            agent,
+            head,
+            atomicity,
+            n,
+            &frame[29..],
+            store,
+            answer,
+        ),
+        Command::Read(query) => read(agent, query, &frame[10..], store, answer),
+    }
+}

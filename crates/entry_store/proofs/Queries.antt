@@ -1,0 +1,113 @@
+-- Why a READ is refused by the rows, and its key: what stands after `only` is the key behind its table. Assumes nothing.
+use Prim.Native.Nat.{ℕ, _+_, _*_, _≤_}
+use native.Mathlib.Omega.{arith}
+use mathlib.Core.Path.{_≡_, refl, sym, ap, ap₂, _∙_}
+use mathlib.Core.Bool.{Bool, true, false, _&&_, not}
+use mathlib.Core.List.{List, [], _∷_, _++_}
+use lib.Dec.{eqb}
+use lib.ListN.{length, take, drop, length-append}
+use lib.Seq.{drop-append-add}
+use borrow.Author.Tests.{ne-eqb}
+use Rattle.rules.specs.Bytes.{if_then_else_, keep, concat, part, parts, int, number}
+use Rattle.rules.specs.Reason.{first}
+use Rattle.rules.specs.Row.{Row, known, rowFor, mayWrite}
+use Rattle.rules.specs.Key.{slotFormed, slotFits, slotRule, alongside, alongsideAll, priorityRule, keyFormed, keyFits, keyRules, shortKey, hasKey}
+use Rattle.rules.specs.Call.{gathered}
+use Rattle.rules.proofs.Lists.{part-part}
+use Rattle.rules.proofs.Shortest.{part-length}
+use Rattle.buffers.specs.Splice.{splice}
+use Rattle.entries.specs.Store.{entriesIn, tablesIn}
+use Rattle.entry_store.specs.Update.{Tidy}
+use Rattle.entry_store.specs.Read.{keyIn, keyReason, tableReason, queryReason, readIn, Reads}
+use Rattle.entry_store.proofs.Judging.{in-order, key-formed-lent, key-fits-lent, key-rules-lent}
+
+-- ---- the key
+
+pub key-length : (b : List ℕ) → length b ≡ 149 → length (keyIn b) ≡ 148
+key-length b l = omega (arith, length-append (part 0 4 b) (part 5 144 b), part-length 0 4 b (omega arith), part-length 5 144 b (omega arith))
+
+key-part : (b : List ℕ) (i n : ℕ) → length b ≡ 149 → i + n ≤ 144 → part (4 + i) n (keyIn b) ≡ part (5 + i) n b
+key-part b i n l h =
+    let e : length (part 0 4 b) ≡ 4 = part-length 0 4 b (omega arith) in
+    ap (take n) (ap (λ (m : ℕ). drop (m + i) (keyIn b)) (sym e) ∙ drop-append-add (part 0 4 b) (part 5 144 b) i)
+    ∙ part-part 5 144 i n b h
+
+module _ (row : Row) (b : List ℕ) (l : length b ≡ 149) where
+  abbrev slotsIn : List (List ℕ)
+  slotsIn = parts 4 35 (part 9 140 b)
+
+  slots-there : parts 4 35 (part 8 140 (keyIn b)) ≡ slotsIn
+  slots-there = ap (parts 4 35) (key-part b 4 140 l (omega arith))
+
+  formed : keyFormed row (keyIn b) ≡ alongsideAll slotFormed (row .fields) slotsIn
+  formed = key-formed-lent row (keyIn b) ∙ ap (alongsideAll slotFormed (row .fields)) slots-there
+
+  fits : keyFits row (keyIn b) ≡ alongside slotFits (row .fields) slotsIn
+  fits = key-fits-lent row (keyIn b) ∙ ap (alongside slotFits (row .fields)) slots-there
+
+  ruled : keyRules row (keyIn b) ≡ (alongside slotRule (row .fields) slotsIn && priorityRule (row .fields) (int 5 4 b))
+  ruled =
+      key-rules-lent row (keyIn b)
+      ∙ ap₂ (λ (s : List (List ℕ)) (p : ℕ). alongside slotRule (row .fields) s && priorityRule (row .fields) p) slots-there
+      (ap number (key-part b 0 4 l (omega arith)))
+
+  -- 17 to 19, where the three tests came out so
+  pub key-judged : (f g h : Bool) → f ≡ alongsideAll slotFormed (row .fields) slotsIn
+      → g ≡ alongside slotFits (row .fields) slotsIn
+      → h ≡ (alongside slotRule (row .fields) slotsIn && priorityRule (row .fields) (int 5 4 b))
+      → (if f then if g then if h then 0 else 19 else 18 else 17) ≡ keyReason row (keyIn b)
+  unfolding keyReason
+  key-judged f g h p q r =
+      rw (p, q, r, ← formed, ← fits, ← ruled) (sym (in-order (keyFormed row (keyIn b)) (keyFits row (keyIn b)) (keyRules row (keyIn b))))
+
+-- ---- the order
+
+by-table : (z k w : Bool) → (if z then 0 else if k then if w then 0 else 16 else 15)
+    ≡ first ((not z && not k, 15) ∷ (not z && not w, 16) ∷ [])
+unfolding first
+by-table true k w = refl
+by-table false false w = refl
+by-table false true false = refl
+by-table false true true = refl
+
+-- where the table was found so, and this refuses it
+module _ (rows : List Row) (role table only : ℕ) (k : List ℕ) {found : Bool} {row : Row} {r : ℕ}
+    (f : found ≡ known table rows) (w : row ≡ rowFor table rows)
+    (b : r ≡ (if eqb table 0 then 0 else if found then if mayWrite role row then 0 else 16 else 15)) where
+  barred : r ≡ tableReason rows role table
+  barred = b ∙ (rw (f, w) (by-table (eqb table 0) (known table rows) (mayWrite role (rowFor table rows))))
+
+  pub by-rows : (r ≡ 0 → ⊥) → r ≡ queryReason rows role table only k
+  unfolding queryReason
+  by-rows n = rw (← barred, ne-eqb r 0 n)
+
+  module _ (z : r ≡ 0) where
+    passed : tableReason rows role table ≡ 0
+    passed = sym barred ∙ z
+
+    pub by-nothing : (only ≡ 1 → ⊥) → 0 ≡ queryReason rows role table only k
+    unfolding queryReason
+    by-nothing n = rw (passed, ne-eqb only 1 n)
+
+    pub by-key : {x : ℕ} → only ≡ 1 → x ≡ keyReason row k → x ≡ queryReason rows role table only k
+    unfolding queryReason
+    by-key o e = e ∙ (rw (passed, o, w))
+
+-- ---- the records
+
+module _ (rows : List Row) (role table : ℕ) {only : ℕ} (k before : List ℕ) {count : ℕ} {s after : List ℕ} {n : ℕ} where
+  -- with only 1 the entry of the key
+  pub key-read : only ≡ 1 → (Tidy count s → n ≡ length (keep (hasKey (shortKey k)) (entriesIn count s)))
+      → (Tidy count s → after ≡ splice before 0 (concat (keep (hasKey (shortKey k)) (entriesIn count s))))
+      → Tidy count s → Reads (readIn rows role table only k (tablesIn count s)) before after n
+  unfolding readIn
+  key-read o c b = rw o (λ t h. (c t, b t))
+
+  -- otherwise those of the rows asked for
+  pub all-read : (only ≡ 1 → ⊥)
+      → (220 * length (gathered role table rows (tablesIn count s)) ≤ length before → n ≡ length (gathered role table rows (tablesIn count s)))
+      → (220 * length (gathered role table rows (tablesIn count s)) ≤ length before
+      → after ≡ splice before 0 (concat (gathered role table rows (tablesIn count s))))
+      → Tidy count s → Reads (readIn rows role table only k (tablesIn count s)) before after n
+  unfolding readIn
+  all-read o c b = rw (ne-eqb only 1 o) (λ t h. (c h, b h))

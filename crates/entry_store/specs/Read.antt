@@ -1,0 +1,44 @@
+-- What the functions of a READ are held to, in the rules' terms. Assumes nothing.
+use mathlib.Core.Path.{_≡_}
+use mathlib.Core.Bool.{_&&_, not}
+use mathlib.Core.List.{List, [], _∷_, _++_}
+use Prim.Native.Nat.{ℕ, _*_, _≤_}
+use lib.Dec.{eqb}
+use lib.ListN.{length}
+use Rattle.rules.specs.Bytes.{if_then_else_, keep, concat, part}
+use Rattle.rules.specs.Reason.{first}
+use Rattle.rules.specs.Row.{Row, known, rowFor, mayWrite}
+use Rattle.rules.specs.Key.{keyFormed, keyFits, keyRules, shortKey, hasKey}
+use Rattle.rules.specs.Update.{Tables}
+use Rattle.rules.specs.Call.{gathered}
+use Rattle.buffers.specs.Splice.{splice}
+
+-- the key of a READ in its 149 bytes from the table on: table 4, only 1, key 144
+abbrev pub keyIn : List ℕ → List ℕ
+keyIn b = part 0 4 b ++ part 5 144 b
+
+-- 17 to 19 of a key
+unfoldable pub keyReason : Row → List ℕ → ℕ
+keyReason row k = first ((not (keyFormed row k), 17) ∷ (not (keyFits row k), 18) ∷ (not (keyRules row k), 19) ∷ [])
+
+-- 15 and 16 of a READ of a table; 0 names none
+abbrev pub tableReason : List Row → ℕ → ℕ → ℕ
+tableReason rows role table =
+    let named = not (eqb table 0) in
+    first ((named && not (known table rows), 15) ∷ (named && not (mayWrite role (rowFor table rows)), 16) ∷ [])
+
+-- 15 to 19 of a READ
+unfoldable pub queryReason : List Row → ℕ → ℕ → ℕ → List ℕ → ℕ
+queryReason rows role table only k =
+    if eqb (tableReason rows role table) 0 then (if eqb only 1 then keyReason (rowFor table rows) k else 0) else
+    tableReason rows role table
+
+-- the entries that a READ asks for: with only 1 that of the key
+unfoldable pub readIn : List Row → ℕ → ℕ → ℕ → List ℕ → Tables → List (List ℕ)
+readIn rows role table only k t =
+    if eqb only 1 then keep (hasKey (shortKey k)) (t .entries) else gathered role table rows t
+
+-- these entries are written to the start of an answer which has room for them, and n is their number
+abbrev pub Reads : List (List ℕ) → List ℕ → List ℕ → ℕ → Type 0
+Reads es before after n =
+    220 * length es ≤ length before → (n ≡ length es) × (after ≡ splice before 0 (concat es))
