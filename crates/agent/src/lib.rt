@@ -12,7 +12,7 @@ ghost use Rattle.buffers.specs.Splice.{splice};
 ghost use Rattle.arbitration.specs.Meaning.{headOf, outcomeOf};
 ghost use Rattle.entry_store.specs.Update.{updatesIn};
 ghost use Rattle.agent.specs.Contract.{Fresh, Meets};
-ghost use Rattle.agent.specs.Handlers.{queryIn, Refused, Heard, Obeys, ObeysAny};
+ghost use Rattle.agent.specs.Handlers.{queryIn, Named, Refused, Heard, Obeys, ObeysAny};
 use arbitration::Head;
 use arbitration::Outcome;
 use arbitration::Streams;
@@ -238,7 +238,7 @@ fn read_reason(here: bool, role: u8, unconfigured: bool) -> u8
 // Writes the entries asked for from byte 4 on, and before them the head. The query stands in 149 bytes, from its table on.
 fn read(agent: Agent, query: Query, bytes: &[u8], store: &[u8], answer: &mut [u8]) -> Called
     requires { ⌜ (length (now bytes) ≡ 149) × (220 * agent .count ≤ length (now store)) × (57344 ≤ length (now answer)) ⌝ }
-    ensures { λ r. ⌜ Obeys agent (rules.READ (queryIn query (now (bytes .entry)))) (now (store .entry)) (now (answer .entry)) r (now (store .entry)) (now (answer .exit)) ⌝ }
+    ensures { λ r. ⌜ (Named (queryIn query (now (bytes .entry))) → Obeys agent (rules.READ (queryIn query (now (bytes .entry)))) (now (store .entry)) (now (answer .entry)) r (now (store .entry)) (now (answer .exit))) ⌝ }
 {
     let rows = agent.rows;
     let here = query.device == agent.device;

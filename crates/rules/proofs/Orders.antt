@@ -1,12 +1,13 @@
--- Laws of an order of refusals: one serves where a call is accepted, the other where a reason cannot be given.
+-- Laws of an order of refusals: one serves where a call is accepted, one where a reason cannot be given, and one where the order is
+-- taken in two parts.
 -- Assumes nothing.
 use Prim.Native.Nat.{ℕ, _<_}
 use mathlib.Core.Path.{_≡_, refl}
 use mathlib.Core.Bool.{Bool, true, false, _&&_, not}
-use mathlib.Core.List.{List, [], _∷_}
+use mathlib.Core.List.{List, [], _∷_, _++_}
 use native.Mathlib.Omega.{arith}
 use lib.Dec.{eqb, ltb}
-use borrow.Author.Tests.{eqb-false, ltb-true, not-true}
+use borrow.Author.Tests.{eqb-false, ne-eqb, ltb-true, not-true}
 use Rattle.rules.specs.Bytes.{if_then_else_}
 use Rattle.rules.specs.Reason.{first}
 use Rattle.rules.proofs.Tests.{and-true}
@@ -47,3 +48,17 @@ first-avoids r (c ∷ cs) pos a e =
     go : (b : Bool) → (c .1 ≡ r → ⊥) → (first cs ≡ r → ⊥) → (if b then c .1 else first cs) ≡ r → ⊥
     go true n ih h = n h
     go false n ih h = ih h
+
+-- the later conditions are asked where none of the earlier ones holds
+pub first-more : (cs ds : List (Bool × ℕ)) → positive cs ≡ true → first (cs ++ ds) ≡ (if eqb (first cs) 0 then first ds else first cs)
+unfolding first
+first-more [] ds p = refl
+first-more (c ∷ cs) ds p =
+    let q = and-true (ltb 0 (c .1)) (positive cs) p in
+    go (c .0) (ltb-true 0 (c .1) (q .0)) (first-more cs ds (q .1))
+  where
+    go : (b : Bool) → 0 < c .1 → first (cs ++ ds) ≡ (if eqb (first cs) 0 then first ds else first cs)
+        → (if b then c .1 else first (cs ++ ds))
+        ≡ (if eqb (if b then c .1 else first cs) 0 then first ds else if b then c .1 else first cs)
+    go true pos ih = rw (ne-eqb (c .1) 0 (λ z. let w : _<_ 0 (c .1) = pos in omega arith))
+    go false pos ih = ih

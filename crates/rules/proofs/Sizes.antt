@@ -101,7 +101,7 @@ bind-small e s h l =
 
 -- ---- pairs
 
-reasons-count : (rows : List Row) (role : ℕ) (t : Tables) (us : List Update) → length (batch rows role t us .reasons) ≡ length us
+pub reasons-count : (rows : List Row) (role : ℕ) (t : Tables) (us : List Update) → length (batch rows role t us .reasons) ≡ length us
 unfolding batch
 reasons-count rows role t [] = refl
 reasons-count rows role t (u ∷ us) = omega (arith, reasons-count rows role (apply (judge rows role t u) u t) us)
@@ -146,9 +146,10 @@ collected-few p (r ∷ rows) t w = go (p r) (collected-few p rows t (w .1))
     go true h = omega (arith, length-append mine (collected p rows (t .entries)), w .0)
     go false h = omega arith
 
-read-small : (s : State) (q : Query) → Sound s → Small (shown s q)
+-- what a READ shows: at most 256 entries, of 220 bytes each
+pub shown-sizes : (s : State) (q : Query) → Sound s → EveryLength 220 (shown s q) × (length (shown s q) ≤ 256)
 unfolding shown
-read-small s q ok = choose (eqb (q .only) 1) _ _ (whole (keep (hasKey (shortKey (q .key))) all) kept fewer) (whole all lengths count)
+shown-sizes s q ok = go (eqb (q .only) 1)
   where
     all : List (List ℕ)
     all = gathered (q .role) (q .table) (s .control .rows) (s .tables)
@@ -165,8 +166,13 @@ read-small s q ok = choose (eqb (q .only) 1) _ _ (whole (keep (hasKey (shortKey 
     fewer : length (keep (hasKey (shortKey (q .key))) all) ≤ 256
     fewer = omega (arith, keep-fewer (hasKey (shortKey (q .key))) all, count)
 
-    whole : (xs : List (List ℕ)) → EveryLength 220 xs → length xs ≤ 256 → Small xs
-    whole xs h c = few-small 220 256 xs h c (omega arith)
+    go : (b : Bool) → EveryLength 220 (if b then keep (hasKey (shortKey (q .key))) all else all)
+        × (length (if b then keep (hasKey (shortKey (q .key))) all else all) ≤ 256)
+    go true = (kept, fewer)
+    go false = (lengths, count)
+
+read-small : (s : State) (q : Query) → Sound s → Small (shown s q)
+read-small s q ok = let z = shown-sizes s q ok in few-small 220 256 (shown s q) (z .0) (z .1) (omega arith)
 
 -- ---- answers
 

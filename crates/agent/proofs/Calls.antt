@@ -1,0 +1,85 @@
+-- From what a command leaves to what a call leaves: a call whose buffers are long enough is the command that its frame reads as.
+-- Assumes nothing.
+use Prim.Native.Nat.{ℕ, _+_, _*_, _<_, _≤_}
+use native.Mathlib.Omega.{arith}
+use mathlib.Core.Path.{_≡_, refl, sym, ap, ap₂, _∙_, subst}
+use mathlib.Core.Bool.{Bool, true, false, _&&_}
+use mathlib.Core.Logic.{_⊎_, inl, inr}
+use mathlib.Core.List.{List, [], _∷_, _++_}
+use lib.Dec.{leb}
+use lib.ListN.{length, drop}
+use borrow.Author.Tests.{le-leb, lt-leb}
+use Rattle.rules.specs.Bytes.{if_then_else_, part}
+use Rattle.rules.specs.Frame.{Command, cramped, READ, readFrame}
+use Rattle.rules.specs.Answer.{replyOf}
+use Rattle.rules.specs.Call.{Call, commandOf, nextControl, nextTables, next, answer, reply}
+use Rattle.rules.specs.Sound.{Sound}
+use Rattle.rules.proofs.Formed.{parts-count, Formed, frame-formed, call-formed}
+use Rattle.rules.proofs.Lists.{part-part}
+use Rattle.rules.proofs.Sound.{next-sound}
+use Rattle.frames.specs.declared.Query.{Query}
+use Rattle.frames.specs.Meaning.{queryOf}
+use Rattle.agent.specs.declared.Agent.{Agent}
+use Rattle.agent.specs.declared.Called.{Called}
+use Rattle.agent.specs.Meaning.{stateOf}
+use Rattle.agent.specs.Contract.{Kept, asked, Obeyed, Meets}
+use Rattle.agent.specs.Handlers.{queryIn, Named, Obeys}
+
+module _ (a : Agent) (frame store d : List ℕ) where
+  -- what the agent is left as is kept, since it is the rules' next state
+  kept-on : (r : Called) (store′ out : List ℕ) → Kept a store → Obeyed a (asked frame store d) store d r store′ out → Kept (r .agent) store′
+  kept-on r store′ out k o =
+      subst Sound (sym (o .state))
+      (next-sound (stateOf a store) (asked frame store d) (call-formed (length store) (record { frame = frame; buffer = length d })) k)
+
+  -- ---- 2
+
+  is-cramped : (length d < 57_344) ⊎ (length store < 56_320) → asked frame store d ≡ cramped
+  unfolding commandOf
+  is-cramped (inl h) = rw (lt-leb 57_344 (length d) h)
+  is-cramped (inr h) = rw (lt-leb 56_320 (length store) h) (none (leb 57_344 (length d)))
+    where
+      none : (b : Bool) → (if b && false then readFrame frame else cramped) ≡ cramped
+      none true = refl
+      none false = refl
+
+  nothing-done : Obeyed a cramped store d (record { agent = a; reason = 2 }) store d
+  unfolding next nextControl nextTables reply replyOf answer
+  nothing-done = record { state = refl; returned = refl; filled = refl; room = refl; beyond = refl; untouched = λ h. refl }
+
+  pub cramped-met : (length d < 57_344) ⊎ (length store < 56_320)
+      → Meets a frame store d (record { agent = a; reason = 2 }) store d
+  cramped-met h k =
+      let o = subst (λ (c : Command). Obeyed a c store d (record { agent = a; reason = 2 }) store d) (sym (is-cramped h)) nothing-done in
+      record { kept = k; obeyed = o }
+
+  -- no list of calls leaves a count over 256
+  pub stray-met : 256 < a .count → Meets a frame store d (record { agent = a; reason = 2 }) store d
+  unfolding stateOf
+  stray-met h k = absurd (omega (arith, k .tables .few, parts-count (a .count) 220 store))
+
+  -- ---- every other call
+
+  module _ (roomy : 57_344 ≤ length d) (enough : 56_320 ≤ length store) where
+    is-read : asked frame store d ≡ readFrame frame
+    unfolding commandOf
+    is-read = rw (le-leb 57_344 (length d) roomy, le-leb 56_320 (length store) enough)
+
+    pub met : (c : Command) (r : Called) (store′ out : List ℕ) → readFrame frame ≡ c → Obeys a c store d r store′ out
+        → Meets a frame store d r store′ out
+    met c r store′ out e h k =
+        let o = subst (λ (c : Command). Obeyed a c store d r store′ out) (sym (is-read ∙ e)) (h k) in
+        record { kept = kept-on r store′ out k o; obeyed = o }
+
+-- ---- READ
+
+-- the query, in the bytes from its table on
+pub query-there : (q : Query) (f b : List ℕ) → b ≡ part 10 149 f → queryIn q b ≡ queryOf q f
+query-there q f b e =
+    ap₂ (λ (x y : List ℕ). record { device = q .device; role = q .role; table = q .table; only = q .only; key = x ++ y })
+    (ap (part 0 4) e ∙ part-part 10 149 0 4 f (omega arith)) (ap (part 5 144) e ∙ part-part 10 149 5 144 f (omega arith))
+
+pub query-named : (q : Query) (f b : List ℕ) → readFrame f ≡ READ (queryOf q f) → b ≡ part 10 149 f → Named (queryIn q b)
+query-named q f b e l =
+    let z : Formed (READ (queryIn q b)) = subst Formed (e ∙ ap READ (sym (query-there q f b l))) (frame-formed f) in
+    (z .1, z .2)

@@ -1,0 +1,230 @@
+-- From what a handler leaves to what its command leaves under the rules. Assumes nothing.
+use Prim.Native.Nat.{ℕ, _*_, _≤_}
+use native.Mathlib.Omega.{arith}
+use mathlib.Core.Path.{_≡_, refl, sym, ap, ap₂, _∙_}
+use mathlib.Core.Bool.{Bool, true, false, not, _&&_, true≢false}
+use mathlib.Core.List.{List, [], _∷_, _++_, map}
+use lib.Dec.{eqb, ltb}
+use lib.ListN.{length, drop}
+use borrow.Author.Tests.{eqb-true, eq-eqb, ne-eqb}
+use Rattle.rules.specs.Bytes.{if_then_else_, parts, every, keep}
+use Rattle.rules.specs.Reason.{first}
+use Rattle.rules.specs.Frame.{Head, Update, Query, Command, cramped, malformed, OPEN, CLOSE, ARBITRATE, CONFIGURE, WRITE, READ}
+use Rattle.rules.specs.Streams as streams
+use Rattle.rules.specs.Row as row
+use Rattle.rules.specs.Key.{keyFormed, keyFits, keyRules}
+use Rattle.rules.specs.Answer.{Answer, answerBytes}
+use Rattle.rules.specs.Call.{Control, State, otherDevice, unconfigured, configureReason, writeReason, readReason, refusal, accepted, withStreams, withRows, nextControl, nextTables, next, batchOf, pairOf, headOf, gathered, shown, heard, plain, answer}
+use Rattle.rules.specs.Sound.{Sound}
+use Rattle.rules.proofs.Formed.{parts-count, Formed}
+use Rattle.rules.proofs.Orders.{first-more}
+use Rattle.rules.proofs.OneKey.{one-key}
+use Rattle.buffers.specs.Splice.{splice}
+use Rattle.entries.specs.Store.{entriesIn, tablesIn}
+use Rattle.entry_store.specs.declared.Written.{Written}
+use Rattle.entry_store.specs.Update.{Tidy, BatchApplied}
+use Rattle.entry_store.specs.Read.{keyReason, queryReason, readIn}
+use Rattle.agent.specs.declared.Agent.{Agent}
+use Rattle.agent.specs.declared.Called.{Called}
+use Rattle.agent.specs.Meaning.{controlOf, stateOf}
+use Rattle.agent.specs.Contract.{Kept, Obeyed}
+use Rattle.agent.specs.Handlers.{Refused, Heard, ObeysAny}
+use Rattle.agent.proofs.Answers.{replies, fills}
+
+-- a command that leaves the store as it is
+module _ (a : Agent) (c : Command) (store d : List ℕ) (r : Called) (out : List ℕ) (roomy : c ≡ cramped → ⊥) where
+  pub store-stays : (x : Answer) → answer (stateOf a store) c ≡ x → stateOf (r .agent) store ≡ next (stateOf a store) c
+      → r .reason ≡ x .reason → out ≡ splice d 0 (answerBytes x) → Obeyed a c store d r store out
+  store-stays x told s e o = record {
+    state = s;
+    returned = replies (stateOf a store) c x told e;
+    filled = fills (stateOf a store) c x told d roomy o;
+    room = refl;
+    beyond = refl;
+    untouched = λ h. refl;
+  }
+
+  -- a refusal that leaves the agent as it is
+  pub refusal-obeyed : (reason : ℕ) → next (stateOf a store) c ≡ stateOf a store → answer (stateOf a store) c ≡ plain reason
+      → Refused a reason r d out → Obeyed a c store d r store out
+  refusal-obeyed reason stays told f =
+      store-stays (plain reason) told (ap (λ (b : Agent). stateOf b store) (f .same) ∙ sym stays) (f .returned) (f .filled)
+
+-- ---- OPEN, CLOSE, ARBITRATE
+
+module _ (a : Agent) (r : Called) (d out : List ℕ) where
+  with-streams : (o : streams.Outcome) (store : List ℕ) → Heard a o r d out
+      → stateOf (r .agent) store ≡ record { control = withStreams (controlOf a) (o .after); tables = tablesIn (a .count) store }
+  unfolding stateOf
+  with-streams o store h =
+      ap₂ (λ (k : Control) (n : ℕ). record { control = k; tables = tablesIn n store }) (h .control) (h .count)
+
+  pub open-obeyed : (n : ℕ) → Heard a (streams.openStream (controlOf a .streams) n) r d out → ObeysAny a (OPEN n) r d out
+  unfolding stateOf next nextControl nextTables answer
+  open-obeyed n h store k =
+      store-stays a (OPEN n) store d r out (λ z. let w : _≡_ {A = ℕ} 0 1 = cc in omega arith) (heard (streams.openStream (controlOf a .streams) n)) refl
+      (with-streams (streams.openStream (controlOf a .streams) n) store h) (h .returned) (h .filled)
+
+  pub close-obeyed : (n : ℕ) → Heard a (streams.closeStream (controlOf a .streams) n) r d out → ObeysAny a (CLOSE n) r d out
+  unfolding stateOf next nextControl nextTables answer
+  close-obeyed n h store k =
+      store-stays a (CLOSE n) store d r out (λ z. let w : _≡_ {A = ℕ} 0 1 = cc in omega arith) (heard (streams.closeStream (controlOf a .streams) n)) refl
+      (with-streams (streams.closeStream (controlOf a .streams) n) store h) (h .returned) (h .filled)
+
+  pub arbitrate-obeyed : (n : ℕ) (head : Head) → Heard a (streams.arbitrate (a .device) (controlOf a .streams) n head) r d out
+      → ObeysAny a (ARBITRATE n head) r d out
+  unfolding stateOf next nextControl nextTables answer
+  arbitrate-obeyed n head h store k =
+      store-stays a (ARBITRATE n head) store d r out (λ z. let w : _≡_ {A = ℕ} 0 1 = cc in omega arith)
+      (heard (streams.arbitrate (a .device) (controlOf a .streams) n head)) refl
+      (with-streams (streams.arbitrate (a .device) (controlOf a .streams) n head) store h) (h .returned) (h .filled)
+
+-- ---- refusals of the other commands
+
+module _ (a : Agent) (store d out : List ℕ) (r : Called) where
+  pub malformed-obeyed : Refused a 1 r d out → Obeyed a malformed store d r store out
+  unfolding stateOf next nextControl nextTables answer
+  malformed-obeyed f =
+      refusal-obeyed a malformed store d r out (λ z. let w : _≡_ {A = ℕ} 0 1 = cc in omega arith) 1 refl refl f
+
+  module _ (reason : ℕ) (n : reason ≡ 0 → ⊥) (f : Refused a reason r d out) where
+    no : {m : ℕ} → m ≡ reason → eqb m 0 ≡ false
+    no {m} e = ne-eqb m 0 (λ z. n (sym e ∙ z))
+
+    pub configure-refused : (h : Head) (rows : List (List ℕ)) → configureReason (controlOf a) h rows ≡ reason
+        → Obeyed a (CONFIGURE h rows) store d r store out
+    unfolding stateOf next nextControl nextTables answer refusal
+    configure-refused h rows e =
+        let z : eqb (configureReason (controlOf a) h rows) 0 ≡ false = no e in
+        refusal-obeyed a (CONFIGURE h rows) store d r out (λ z. let w : _≡_ {A = ℕ} 0 1 = cc in omega arith) reason (rw z) (rw e) f
+
+    pub write-refused : (h : Head) (atomicity : ℕ) (us : List Update) → writeReason (controlOf a) h atomicity ≡ reason
+        → Obeyed a (WRITE h atomicity us) store d r store out
+    unfolding stateOf next nextControl nextTables answer refusal
+    write-refused h atomicity us e =
+        let z : eqb (writeReason (controlOf a) h atomicity) 0 ≡ false = no e in
+        refusal-obeyed a (WRITE h atomicity us) store d r out (λ z. let w : _≡_ {A = ℕ} 0 1 = cc in omega arith) reason (rw z) (rw (z, e)) f
+
+    pub read-refused : (q : Query) → readReason (controlOf a) q ≡ reason → Obeyed a (READ q) store d r store out
+    unfolding stateOf next nextControl nextTables answer refusal
+    read-refused q e =
+        let z : eqb (readReason (controlOf a) q) 0 ≡ false = no e in
+        refusal-obeyed a (READ q) store d r out (λ z. let w : _≡_ {A = ℕ} 0 1 = cc in omega arith) reason refl (rw (z, e)) f
+
+-- ---- CONFIGURE
+
+last : (b : Bool) → first ((not b, 14) ∷ []) ≡ (if b then 0 else 14)
+unfolding first
+last true = refl
+last false = refl
+
+module _ (a : Agent) (h : Head) (rows : List (List ℕ)) where
+  -- the order in two parts: 5, 6, 11, 10; then 14
+  pub configure-order : {here primary : Bool} {r : ℕ} → here ≡ eqb (h .device) (a .device)
+      → primary ≡ streams.byPrimary (controlOf a .streams) (h .role) (h .id)
+      → r ≡ first ((not here, 5) ∷ (ltb 7 (h .role), 6) ∷ (ltb 0 (h .role), 11) ∷ (not primary, 10) ∷ [])
+      → configureReason (controlOf a) h rows ≡ (if eqb r 0 then if row.configurationAllowed rows then 0 else 14 else r)
+  unfolding configureReason
+  configure-order {here} {primary} {r} e p q =
+      rw (q, e, p) (first-more
+      ((not (eqb (h .device) (a .device)), 5) ∷ (ltb 7 (h .role), 6) ∷ (ltb 0 (h .role), 11)
+      ∷ (not (streams.byPrimary (controlOf a .streams) (h .role) (h .id)), 10) ∷ [])
+      ((not (row.configurationAllowed rows), 14) ∷ []) refl ∙ (rw (last (row.configurationAllowed rows))))
+
+  pub configured : (store d out : List ℕ) (r : Called) → configureReason (controlOf a) h rows ≡ 0
+      → controlOf (r .agent) ≡ withRows (controlOf a) (map row.rowOf rows) → r .agent .count ≡ 0 → r .reason ≡ 0
+      → out ≡ splice d 0 (answerBytes (plain 0)) → Obeyed a (CONFIGURE h rows) store d r store out
+  unfolding stateOf next nextControl nextTables answer refusal parts
+  configured store d out r e k c q o =
+      store-stays a (CONFIGURE h rows) store d r out (λ z. let w : _≡_ {A = ℕ} 0 1 = cc in omega arith) (plain 0) (rw e)
+      (rw e (ap₂ (λ (k : Control) (n : ℕ). record { control = k; tables = tablesIn n store }) k c)) q o
+
+-- ---- WRITE
+
+module _ (a : Agent) (h : Head) (atomicity : ℕ) where
+  pub write-order : {here primary empty : Bool} {r : ℕ} → here ≡ eqb (h .device) (a .device)
+      → primary ≡ streams.byPrimary (controlOf a .streams) (h .role) (h .id) → empty ≡ unconfigured (controlOf a .rows)
+      → r ≡ first ((not here, 5) ∷ (ltb 7 (h .role), 6) ∷ (not primary, 10) ∷ (empty, 12) ∷ (ltb 0 atomicity, 13) ∷ [])
+      → writeReason (controlOf a) h atomicity ≡ r
+  unfolding writeReason
+  write-order e p u q = rw (q, e, p, u)
+
+  pub wrote : (us : List Update) (store store′ d out : List ℕ) (r : Called) (w : Written) → writeReason (controlOf a) h atomicity ≡ 0
+      → BatchApplied (controlOf a .rows) (h .role) (a .count) store store′ us w
+      → controlOf (r .agent) ≡ controlOf a → r .agent .count ≡ w .count → r .reason ≡ (if w .failed then 23 else 0)
+      → out ≡ splice d 0 (answerBytes (record { reason = r .reason; records = map pairOf (batchOf (stateOf a store) h us .reasons) }))
+      → Obeyed a (WRITE h atomicity us) store d r store′ out
+  unfolding stateOf next nextControl nextTables answer refusal
+  wrote us store store′ d out r w e b k c q o =
+      let told : r .reason ≡ headOf (batchOf (stateOf a store) h us .reasons) = q ∙ head-told (every (eqb 0) (batchOf (stateOf a store) h us .reasons)) (b .failed) in
+      let x : Answer = record { reason = headOf (batchOf (stateOf a store) h us .reasons); records = map pairOf (batchOf (stateOf a store) h us .reasons) } in
+      let y : answer (stateOf a store) (WRITE h atomicity us) ≡ x = rw e in
+      let i : entriesIn (w .count) store′ ≡ batchOf (stateOf a store) h us .tables .entries = b .left .holds in
+      record {
+        state = rw e (ap₂ (λ (k : Control) (l : List (List ℕ)). record { control = k; tables = record { entries = l } }) k (ap (λ (n : ℕ). entriesIn n store′) c ∙ i));
+        returned = replies (stateOf a store) (WRITE h atomicity us) x y told;
+        filled = fills (stateOf a store) (WRITE h atomicity us) x y d (λ z. let w : _≡_ {A = ℕ} 0 1 = cc in omega arith)
+            (o ∙ ap (λ (m : ℕ). splice d 0 (answerBytes (record { reason = m; records = map pairOf (batchOf (stateOf a store) h us .reasons) }))) told);
+        room = b .left .room;
+        beyond = b .left .beyond;
+        untouched = λ z. absurd (true≢false (sym (eq-eqb (writeReason (controlOf a) h atomicity) 0 e) ∙ z));
+      }
+    where
+      head-told : {f : Bool} (every : Bool) → f ≡ not every → _≡_ {A = ℕ} (if f then 23 else 0) (if every then 0 else 23)
+      head-told true p = rw p
+      head-told false p = rw p
+
+-- what a kept store is to the functions over it
+pub tidy : (a : Agent) (store : List ℕ) → Kept a store → Tidy (a .count) store
+unfolding stateOf
+tidy a store k = record {
+  few = omega (arith, k .tables .few, parts-count (a .count) 220 store);
+  distinct = k .tables .distinct;
+}
+
+-- ---- READ
+
+only-one : (one x y z : Bool) → first ((one && x, 17) ∷ (one && y, 18) ∷ (one && z, 19) ∷ [])
+    ≡ (if one then first ((x, 17) ∷ (y, 18) ∷ (z, 19) ∷ []) else 0)
+unfolding first
+only-one true x y z = refl
+only-one false x y z = refl
+
+module _ (a : Agent) (q : Query) where
+  pub read-order : {here empty : Bool} {r : ℕ} → here ≡ eqb (q .device) (a .device) → empty ≡ unconfigured (controlOf a .rows)
+      → r ≡ first ((not here, 5) ∷ (ltb 7 (q .role), 6) ∷ (empty, 12) ∷ [])
+      → readReason (controlOf a) q
+      ≡ (if eqb r 0 then queryReason (controlOf a .rows) (q .role) (q .table) (q .only) (q .key) else r)
+  unfolding readReason queryReason keyReason
+  read-order e u p =
+      let named : Bool = not (eqb (q .table) 0) in
+      let one : Bool = eqb (q .only) 1 in
+      let rw′ : row.Row = row.rowFor (q .table) (controlOf a .rows) in
+      let x : Bool = not (keyFormed rw′ (q .key)) in
+      let y : Bool = not (keyFits rw′ (q .key)) in
+      let z : Bool = not (keyRules rw′ (q .key)) in
+      let tables : List (Bool × ℕ) = (named && not (row.known (q .table) (controlOf a .rows)), 15) ∷ (named && not (row.mayWrite (q .role) rw′), 16) ∷ [] in
+      let keys : List (Bool × ℕ) = (one && x, 17) ∷ (one && y, 18) ∷ (one && z, 19) ∷ [] in
+      rw (p, e, u) (first-more
+      ((not (eqb (q .device) (a .device)), 5) ∷ (ltb 7 (q .role), 6) ∷ (unconfigured (controlOf a .rows), 12) ∷ []) (tables ++ keys) refl
+      ∙ (rw (first-more tables keys refl, only-one one x y z)))
+
+  pub was-read : (store d out : List ℕ) (r : Called) → Formed (READ q) → Kept a store → readReason (controlOf a) q ≡ 0
+      → r .agent ≡ a → r .reason ≡ 0
+      → out ≡ splice d 0 (answerBytes (record { reason = 0; records = shown (stateOf a store) q }))
+      → Obeyed a (READ q) store d r store out
+  unfolding stateOf next nextControl nextTables answer refusal
+  was-read store d out r f k e g c o =
+      store-stays a (READ q) store d r out (λ z. let w : _≡_ {A = ℕ} 0 1 = cc in omega arith) (record { reason = 0; records = shown (stateOf a store) q })
+      (rw e) (ap (λ (b : Agent). stateOf b store) g) c o
+
+  -- the entries that the store's reader takes are those shown
+  pub taken : (store : List ℕ) → Formed (READ q) → Kept a store → readReason (controlOf a) q ≡ 0
+      → readIn (controlOf a .rows) (q .role) (q .table) (q .only) (q .key) (tablesIn (a .count) store) ≡ shown (stateOf a store) q
+  unfolding readIn shown stateOf refusal
+  taken store f k e = go (eqb (q .only) 1) refl
+    where
+      go : (b : Bool) → eqb (q .only) 1 ≡ b
+          → readIn (controlOf a .rows) (q .role) (q .table) (q .only) (q .key) (tablesIn (a .count) store) ≡ shown (stateOf a store) q
+      go true o = rw o (sym (one-key (stateOf a store) q f k (eq-eqb (readReason (controlOf a) q) 0 e) (eqb-true (q .only) 1 o)) ∙ (rw o))
+      go false o = rw o

@@ -1,0 +1,29 @@
+-- Right because the outcome of the event is the rules'. Assumes nothing.
+use mathlib.Core.Path.{subst}
+use denote.Ref.{now}
+use Rattle.rules.specs.Streams as streams
+use Rattle.arbitration.specs.Meaning.{headOf, streamsOf}
+use Rattle.agent.specs.Handlers.{Heard}
+use Rattle.agent.proofs.Obeying.{arbitrate-obeyed}
+use borrow.Author.Needs.{needs}
+use Rattle.agent.proofs.arbitrate.Statement.{statement}
+use Rattle.agent.proofs.arbitrate.Tie as tie
+
+arbitrate-requires : tie.Need-arbitrate-requires
+arbitrate-requires c κs = search needs
+
+respond-requires : tie.Need-respond-requires
+respond-requires c κs = search needs
+
+same-length : tie.Need-same-length
+same-length c = search needs
+
+returns : tie.Need-returns
+returns c =
+    let a = c .before .before .before .before .before .before .before .args in
+    let p = c .before .before .respond in
+    arbitrate-obeyed (a .agent) (p .result) (now (a .answer)) (p .last .1 .1 .0) (a .stream) (headOf (a .head))
+    (subst (λ (o : streams.Outcome). Heard (a .agent) o (p .result) (now (a .answer)) (p .last .1 .1 .0)) (c .before .before .before .before .arbitrate .ensures) (p .ensures))
+
+pub arbitrate-spec : {M : Type 1} → statement M
+arbitrate-spec = tie.close (tie.spec arbitrate-requires respond-requires same-length returns)

@@ -1,0 +1,111 @@
+-- Right because each way out is one way through the order, and the batch is the rules'. Assumes nothing.
+use native.Mathlib.Omega.{arith}
+use mathlib.Core.Path.{_≡_, refl, sym, _∙_}
+use mathlib.Core.List.{map}
+use lib.ListN.{length, length-map}
+use denote.Ref.{now}
+use Rattle.rules.specs.Bytes.{parts}
+use Rattle.rules.specs.Frame.{updateOf}
+use Rattle.rules.specs.Call.{writeReason, batchOf, pairOf}
+use Rattle.rules.proofs.Formed.{parts-count}
+use Rattle.rules.proofs.Sizes.{reasons-count}
+use Rattle.arbitration.specs.Meaning.{headOf}
+use Rattle.rows.specs.Meaning.{rowsOf}
+use Rattle.entries.specs.Store.{tablesIn}
+use Rattle.entry_store.specs.Update.{updatesIn}
+use Rattle.agent.specs.Meaning.{controlOf, stateOf}
+use Rattle.agent.proofs.Answers.{records-then-head}
+use Rattle.agent.proofs.Obeying.{write-refused, write-order, wrote, tidy}
+use borrow.Author.Needs.{needs}
+use Rattle.agent.proofs.write.Statement.{statement}
+use Rattle.agent.proofs.write.Tie as tie
+
+by-primary-requires : tie.Need-by-primary-requires
+by-primary-requires c κs = search needs
+
+is-empty-requires : tie.Need-is-empty-requires
+is-empty-requires c κs = search needs
+
+write-reason-requires : tie.Need-write-reason-requires
+write-reason-requires c κs = search needs
+
+refuse-requires : tie.Need-refuse-requires
+refuse-requires c κs = search needs
+
+same-length : tie.Need-same-length
+same-length c = search needs
+
+order : (e : tie.After-write-reason) →
+    let a = e .before .before .before .before .before .before .before .before .before .before .args in
+    writeReason (controlOf (a .agent)) (headOf (a .head)) (a .atomicity) ≡ e .write-reason .result
+order e =
+    let a = e .before .before .before .before .before .before .before .before .before .before .args in
+    write-order (a .agent) (headOf (a .head)) (a .atomicity) refl (e .before .before .before .before .by-primary .ensures) (e .before .is-empty .ensures) (e .write-reason .ensures)
+
+returns : tie.Need-returns
+returns c k =
+    let a = c .before .before .before .before .before .before .before .before .before .before .before .before .before .before .before .args in
+    let r = c .before .before .refuse in
+    write-refused (a .agent) (now (a .store)) (now (a .answer)) (r .last .1 .1 .0) (r .result) (c .before .before .before .before .before .write-reason .result) (c .before .before .before .before .if1 .taken) (r .ensures)
+    (headOf (a .head)) (a .atomicity) (updatesIn (a .n) (now (a .updates))) (order (c .before .before .before .before .before))
+
+sub-batch : tie.Need-sub-batch
+sub-batch c = search needs
+
+part-batch-start : tie.Need-part-batch-start
+part-batch-start c = search needs
+
+part-batch-end : tie.Need-part-batch-end
+part-batch-end c = search needs
+
+batch-requires : tie.Need-batch-requires
+batch-requires c κs = search needs
+
+head-reason-requires : tie.Need-head-reason-requires
+head-reason-requires c κs = search needs
+
+write-head-requires : tie.Need-write-head-requires
+write-head-requires c κs = search needs
+
+same-length-2 : tie.Need-same-length-2
+same-length-2 c = search needs
+
+same-length-3 : tie.Need-same-length-3
+same-length-3 c = search needs
+
+returns-2 : tie.Need-returns-2
+unfolding stateOf
+returns-2 c k =
+    let a = c .before .before .before .before .before .before .before .before .before .before .before .before .before .before .before .before .before .before .before .before .before .before .before .args in
+    let b = c .before .before .before .before .before .before .before .before .before .batch in
+    let h = c .before .before .write-head in
+    let us = updatesIn (a .n) (now (a .updates)) in
+    let t = tidy (a .agent) (now (a .store)) k in
+    let rs = batchOf (stateOf (a .agent) (now (a .store))) (headOf (a .head)) us .reasons in
+    let n : a .n ≡ length (map pairOf rs) =
+    sym (length-map rs pairOf ∙ reasons-count (rowsOf (a .agent .rows)) (a .head .role) (tablesIn (a .agent .count) (now (a .store))) us
+    ∙ length-map (parts (a .n) 221 (now (a .updates))) updateOf ∙ parts-count (a .n) 221 (now (a .updates))) in
+    wrote (a .agent) (headOf (a .head)) (a .atomicity) us (now (a .store)) (b .last .1 .1 .0) (now (a .answer)) (h .last .1 .1 .0) (record { agent = _; reason = _ }) (b .result)
+    (order (c .before .before .before .before .before .before .before .before .before .before .before .before .before) ∙ c .before .before .before .before .before .before .before .before .before .before .before .before .if1 .left) (b .ensures .0 t) refl refl (c .before .before .before .before .head-reason .ensures)
+    (records-then-head (c .before .before .before .before .head-reason .result) (a .n) (map pairOf rs) (now (a .answer)) (b .last .1 .1 .1 .1 .1 .1 .0) (h .last .1 .1 .0) (omega (arith, c .before .before .before .before .before .before .before .before .before .before .before .before .before .before .before .before .before .before .before .before .before .before .before .pre .3))
+    n (b .kept .1 .1 .1 .1 .1 .1 .0) (b .ensures .1 t) (h .ensures))
+
+pub write-spec : {M : Type 1} → statement M
+write-spec =
+    tie.close
+    (tie.spec
+    by-primary-requires
+    is-empty-requires
+    write-reason-requires
+    refuse-requires
+    same-length
+    returns
+    sub-batch
+    part-batch-start
+    part-batch-end
+    batch-requires
+    head-reason-requires
+    write-head-requires
+    same-length-2
+    same-length-3
+    returns-2)
