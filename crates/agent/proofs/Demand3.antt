@@ -45,6 +45,7 @@ pairs-length : (p : Past) (role : ℕ) (us : List Update) → length (concat (pa
 unfolding pairsSeen
 pairs-length p role [] = refl
 pairs-length p role (u ∷ us) = omega (arith, pairs-length (noteUpdate p role u) role us)
+
 -- LOCAL END
 
 -- ---- where a list has come to
@@ -201,9 +202,10 @@ module _ (device : ℕ) (start : Agent) (store : List ℕ) (f : Fresh device sta
       let ax = replied (arrives room (fresh device) before (x ∷ []) (starts device start store (before ++ x ∷ []) f lx)) in
       let ay = replied (onward (arrives room (fresh device) before (w ∷ y ∷ []) (starts device start store (before ++ w ∷ y ∷ []) f ly))) in
       let ey : commandOf room (callOf y) ≡ READ q = ap₂ (λ (g m : List ℕ). commandOf room (record { frame = g; buffer = length m })) f′ b′ ∙ e in
-      let r : reply s (commandOf room (callOf x)) ≡ reply (next s c) (commandOf room (callOf y)) = ap (reply s) e ∙ same ∙ ap (reply (next s c)) (sym ey) in
-      (ax .0 ∙ ap (λ (t : Reply). t .returned) r ∙ sym (ay .0),
-      ax .1 ∙ ap₂ (λ (t : Reply) (m : List ℕ). t .written ++ drop (length (t .written)) m) r (sym b′) ∙ sym (ay .1))
+      let r : reply s (commandOf room (callOf x)) ≡ reply (next s c) (commandOf room (callOf y)) = ap (reply s) e ∙ same ∙ ap (reply (next s c)) (sym ey) in (
+        ax .0 ∙ ap (λ (t : Reply). t .returned) r ∙ sym (ay .0),
+        ax .1 ∙ ap₂ (λ (t : Reply) (m : List ℕ). t .written ++ drop (length (t .written)) m) r (sym b′) ∙ sym (ay .1),
+      )
 
 -- ---- the claim
 
@@ -246,10 +248,11 @@ free-bytes a frame buffer s t x y s′ t′ m n k l e mx my =
     let to-y : commandOf (length s) (record { frame = frame; buffer = length buffer }) ≡ commandOf (length t) (record { frame = frame; buffer = length buffer }) =
     ap (λ (j : ℕ). commandOf j (record { frame = frame; buffer = length buffer })) l in
     let r : reply (stateOf a s) (commandOf (length s) (record { frame = frame; buffer = length buffer }))
-        ≡ reply (stateOf a t) (commandOf (length t) (record { frame = frame; buffer = length buffer })) = ap₂ reply same to-y in
-    (ox .returned ∙ ap (λ (z : Reply). z .returned) r ∙ sym (oy .returned),
-    ox .filled ∙ ap (λ (z : Reply). z .written ++ drop (length (z .written)) buffer) r ∙ sym (oy .filled),
-    ox .state ∙ ap₂ next same to-y ∙ sym (oy .state))
+    ≡ reply (stateOf a t) (commandOf (length t) (record { frame = frame; buffer = length buffer })) = ap₂ reply same to-y in (
+      ox .returned ∙ ap (λ (z : Reply). z .returned) r ∙ sym (oy .returned),
+      ox .filled ∙ ap (λ (z : Reply). z .written ++ drop (length (z .written)) buffer) r ∙ sym (oy .filled),
+      ox .state ∙ ap₂ next same to-y ∙ sym (oy .state),
+    )
 
 pub demand-3 : Demand3
 demand-3 = record { lists = all-lists; free = free-bytes }

@@ -210,7 +210,15 @@ fn write(
     if refused != 0 {
         return refuse(agent, refused, answer);
     }
-    let done = entry_store::batch(rows, head.role, store, agent.count, updates, n, &mut answer[4..]);
+    let done = entry_store::batch(
+        rows,
+        head.role,
+        store,
+        agent.count,
+        updates,
+        n,
+        &mut answer[4..],
+    );
     let reason = head_reason(done.failed);
     write_head(reason, n, answer);
     agent.count = done.count;
@@ -246,10 +254,11 @@ fn read(agent: Agent, query: Query, bytes: &[u8], store: &[u8], answer: &mut [u8
     if barred != 0 {
         return refuse(agent, barred, answer);
     }
-    let refused = entry_store::query_reason(rows, query.role, query.table, query.only, bytes);
-    if refused != 0 {
-        return refuse(agent, refused, answer);
+    let wrong = entry_store::query_reason(rows, query.role, query.table, query.only, bytes);
+    if wrong != 0 {
+        return refuse(agent, wrong, answer);
     }
+    let held = agent.count;
     let count = entry_store::read(
         rows,
         query.role,
@@ -257,7 +266,7 @@ fn read(agent: Agent, query: Query, bytes: &[u8], store: &[u8], answer: &mut [u8
         query.only,
         bytes,
         store,
-        agent.count,
+        held,
         &mut answer[4..],
     );
     write_head(0, count, answer);

@@ -69,12 +69,6 @@ in-order true false c = refl
 in-order true true false = refl
 in-order true true true = refl
 
-pub entry-asked : (row : Row) (e : List ℕ) → entryReason row e
-    ≡ (if keyFormed row e && actionFormed row e then
-    if keyFits row e && actionFits row e then if keyRules row e then 0 else 19 else 18 else 17)
-unfolding entryReason
-entry-asked row e = in-order (keyFormed row e && actionFormed row e) (keyFits row e && actionFits row e) (keyRules row e)
-
 -- ---- the whole order: an entry's reasons stand as one test in it
 
 split : (a b c d e f : Bool) (cs : List (Bool × ℕ))

@@ -19,7 +19,7 @@ use Rattle.buffers.specs.Splice.{splice}
 use Rattle.entries.specs.Store.{entriesIn, tablesIn}
 use Rattle.entry_store.specs.Update.{Tidy}
 use Rattle.entry_store.specs.Read.{keyIn, keyReason, tableReason, queryReason, readIn, Reads}
-use Rattle.entry_store.proofs.Judging.{in-order, key-formed-lent, key-fits-lent, key-rules-lent}
+use Rattle.entry_store.proofs.Judging.{key-formed-lent, key-fits-lent, key-rules-lent}
 
 -- ---- the key
 
@@ -55,10 +55,9 @@ module _ (row : Row) (b : List ℕ) (l : length b ≡ 149) where
   pub key-judged : (f g h : Bool) → f ≡ alongsideAll slotFormed (row .fields) slotsIn
       → g ≡ alongside slotFits (row .fields) slotsIn
       → h ≡ (alongside slotRule (row .fields) slotsIn && priorityRule (row .fields) (int 5 4 b))
-      → (if f then if g then if h then 0 else 19 else 18 else 17) ≡ keyReason row (keyIn b)
+      → first ((not f, 17) ∷ (not g, 18) ∷ (not h, 19) ∷ []) ≡ keyReason row (keyIn b)
   unfolding keyReason
-  key-judged f g h p q r =
-      rw (p, q, r, ← formed, ← fits, ← ruled) (sym (in-order (keyFormed row (keyIn b)) (keyFits row (keyIn b)) (keyRules row (keyIn b))))
+  key-judged f g h p q r = rw (p, q, r, ← formed, ← fits, ← ruled)
 
 -- ---- the order
 

@@ -1,11 +1,12 @@
 // The entry store: one update judged and applied, batches of them, and the records of a READ
 // (document 01, "Configuration and entries" and "The maker of an update").
 ghost use mathlib.Core.Path.{_≡_};
-ghost use mathlib.Core.Bool.{false, _&&_};
+ghost use mathlib.Core.Bool.{false, _&&_, not};
 ghost use mathlib.Core.List.{[], _∷_, _++_, map};
 ghost use Prim.Native.Nat.{_+_, _*_, _≤_, _<_};
 ghost use lib.ListN.{length, drop, getD, set};
 ghost use Rattle.rules.specs.Bytes.{if_then_else_, byte, keep, concat};
+ghost use Rattle.rules.specs.Reason.{first};
 ghost use Rattle.rules.specs.Frame.{updateOf};
 ghost use lib.Dec.{eqb};
 ghost use Rattle.rules.specs.Row.{mayWrite};
@@ -24,7 +25,7 @@ use rows::Row;
 use rows::Rows;
 
 // What is to become of an update.
-pub enum Verdict {
+enum Verdict {
     Refused(u8),
     Insert,
     Modify(usize),
@@ -32,7 +33,7 @@ pub enum Verdict {
 }
 
 // What an update leaves: its reason (0: it took effect) and the number of entries.
-pub struct Updated {
+struct Updated {
     pub reason: u8,
     pub count: usize,
 }
@@ -71,7 +72,14 @@ fn unless(passed: bool, reason: u8, later: u8) -> u8
     reason
 }
 
-// 17 to 19 of a whole entry, in that order.
+// 17, 18 and 19, in that order, by what their tests gave.
+fn in_order(formed: bool, fits: bool, ruled: bool) -> u8
+    ensures { λ r. ⌜ r ≡ first ((not formed, 17) ∷ (not fits, 18) ∷ (not ruled, 19) ∷ []) ⌝ }
+{
+    unless(formed, 17, unless(fits, 18, unless(ruled, 19, 0)))
+}
+
+// 17 to 19 of a whole entry.
 fn entry_reason(row: Row, entry: &[u8]) -> u8
     requires { ⌜ length (now entry) ≡ 220 ⌝ }
     ensures { λ r. ⌜ r ≡ entryReason (rowOf row) (now (entry .entry)) ⌝ }
@@ -79,7 +87,7 @@ fn entry_reason(row: Row, entry: &[u8]) -> u8
     let formed = entry_formed(row, entry);
     let fits = entry_fits(row, entry);
     let ruled = checks::key_rules(row, integer(entry, 4, 4), &entry[8..148]);
-    unless(formed, 17, unless(fits, 18, unless(ruled, 19, 0)))
+    in_order(formed, fits, ruled)
 }
 
 // Where the entry of an update's key is.
@@ -213,7 +221,7 @@ fn perform(verdict: Verdict, store: &mut [u8], count: usize, entry: &[u8]) -> us
 }
 
 // One update of 221 bytes, judged and applied. A count over 256, which no list of calls leaves, is refused with 24.
-pub fn update(rows: Rows, role: u8, store: &mut [u8], count: usize, update: &[u8]) -> Updated
+fn update(rows: Rows, role: u8, store: &mut [u8], count: usize, update: &[u8]) -> Updated
     requires { ⌜ (56320 ≤ length (now store)) × (length (now update) ≡ 221) ⌝ }
     ensures { λ r. ⌜ (Tidy count (now (store .entry)) → Applied (rowsOf rows) role count (now (store .entry)) (now (store .exit)) (updateOf (now (update .entry))) r) ⌝ }
 {
@@ -228,7 +236,7 @@ pub fn update(rows: Rows, role: u8, store: &mut [u8], count: usize, update: &[u8
 
 impl Verdict {
     // The reason of a verdict, 0 where the update takes effect.
-    pub fn reason(self) -> u8
+    fn reason(self) -> u8
         ensures { λ r. ⌜ r ≡ reasonOf self ⌝ }
     {
         match self {
@@ -243,7 +251,7 @@ impl Verdict {
 // ---- a batch
 
 // Writes the pair of an update: a record of 2 bytes.
-pub fn write_pair(reason: u8, out: &mut [u8])
+fn write_pair(reason: u8, out: &mut [u8])
     requires { ⌜ 2 ≤ length (now out) ⌝ }
     ensures { λ _. ⌜ now (out .exit) ≡ splice (now (out .entry)) 0 (pairOf reason) ⌝ }
 {
@@ -299,7 +307,7 @@ fn asks(row: Row, role: u8, table: u64) -> bool
 }
 
 // Writes the entries that a READ of all asks for, by configuration row and then in order of insertion; their number.
-pub fn read_all(
+fn read_all(
     rows: Rows,
     role: u8,
     table: u64,
@@ -329,7 +337,7 @@ pub fn read_all(
 }
 
 // Writes the entry of a key of 148 bytes in shortest form, if it is there; the number of entries written.
-pub fn read_one(store: &[u8], count: usize, key: &[u8], answer: &mut [u8]) -> usize
+fn read_one(store: &[u8], count: usize, key: &[u8], answer: &mut [u8]) -> usize
     requires { ⌜ (220 * count ≤ length (now store)) × (length (now key) ≡ 148) × (220 ≤ length (now answer)) ⌝ }
     ensures count { λ r. ⌜ (Tidy count (now (store .entry)) → r ≡ length (keep (hasKey (now (key .entry))) (entriesIn count (now (store .entry))))) ⌝ }
     ensures records { λ _. ⌜ (Tidy count (now (store .entry)) → now (answer .exit) ≡ splice (now (answer .entry)) 0 (concat (keep (hasKey (now (key .entry))) (entriesIn count (now (store .entry)))))) ⌝ }
@@ -349,7 +357,7 @@ pub fn read_one(store: &[u8], count: usize, key: &[u8], answer: &mut [u8]) -> us
     }
 }
 
-// 17 to 19 of the key of a READ, in that order.
+// 17 to 19 of the key of a READ.
 fn key_reason(row: Row, query: &[u8]) -> u8
     requires { ⌜ length (now query) ≡ 149 ⌝ }
     ensures { λ r. ⌜ r ≡ keyReason (rowOf row) (keyIn (now (query .entry))) ⌝ }
@@ -357,7 +365,7 @@ fn key_reason(row: Row, query: &[u8]) -> u8
     let formed = checks::key_formed(row, &query[9..149]);
     let fits = checks::key_fits(row, &query[9..149]);
     let ruled = checks::key_rules(row, integer(query, 5, 4), &query[9..149]);
-    unless(formed, 17, unless(fits, 18, unless(ruled, 19, 0)))
+    in_order(formed, fits, ruled)
 }
 
 // 15 and 16 of a READ, where its table was found so; table 0 names none.

@@ -102,10 +102,11 @@ unfolding readFormed
 query-fits f h =
     let a = and-true _ _ h in
     let e : length f ≡ 159 = eqb-true _ _ (a .0) in
-    let l : length (part 10 4 f) ≡ 4 = simp (length-take, length-drop) (omega arith) in
-    (simp (length-append, length-take, length-drop) (omega arith),
-    ap number (take-at (part 10 4 f) (part 15 144 f) 4 l),
-    one-named (byte 14 f) (int 10 4 f) (allZero (part 15 144 f)) (a .1))
+    let l : length (part 10 4 f) ≡ 4 = simp (length-take, length-drop) (omega arith) in (
+      simp (length-append, length-take, length-drop) (omega arith),
+      ap number (take-at (part 10 4 f) (part 15 144 f) 4 l),
+      one-named (byte 14 f) (int 10 4 f) (allZero (part 15 144 f)) (a .1),
+    )
 
 by-command : (c : ℕ) (f : List ℕ) → Formed (byCommand c f)
 by-command c f =

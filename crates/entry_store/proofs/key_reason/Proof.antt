@@ -1,6 +1,5 @@
--- Right because the slots and the priority lent are those of the key, and each test gives its reason or what the later ones give.
--- Assumes nothing.
-use mathlib.Core.Path.{sym, _∙_}
+-- Right because the slots and the priority lent are those of the key. Assumes nothing.
+use mathlib.Core.Path.{_∙_}
 use denote.Ref.{now}
 use Rattle.rows.specs.Meaning.{rowOf}
 use Rattle.entry_store.proofs.Queries.{key-judged}
@@ -47,22 +46,15 @@ part-key-rules-end c = search needs
 key-rules-requires : tie.Need-key-rules-requires
 key-rules-requires c κs = search needs
 
-unless-requires : tie.Need-unless-requires
-unless-requires c κs = search needs
-
-unless-requires-2 : tie.Need-unless-requires-2
-unless-requires-2 c κs = search needs
-
-unless-requires-3 : tie.Need-unless-requires-3
-unless-requires-3 c κs = search needs
+in-order-requires : tie.Need-in-order-requires
+in-order-requires c κs = search needs
 
 returns : tie.Need-returns
 returns c =
-    let a = c .before .before .before .before .before .before .before .before .before .before .before .args in
-    let k = c .before .before .before .key-rules in
-    let p = rw (c .before .before .before .before .before .integer .ensures) at (k .ensures) in
-    rw (c .unless3 .ensures, c .before .unless2 .ensures, c .before .before .unless .ensures)
-    (key-judged (rowOf (a .row)) (now (a .query)) (search needs) _ _ _ (c .before .before .before .before .before .before .before .before .key-formed .ensures) (c .before .before .before .before .before .before .key-fits .ensures) p)
+    let a = c .before .before .before .before .before .before .before .before .before .args in
+    let p = rw (c .before .before .before .integer .ensures) at (c .before .key-rules .ensures) in
+    c .in-order .ensures
+    ∙ key-judged (rowOf (a .row)) (now (a .query)) (search needs) _ _ _ (c .before .before .before .before .before .before .key-formed .ensures) (c .before .before .before .before .key-fits .ensures) p
 
 pub key-reason-spec : {M : Type 1} → statement M
 key-reason-spec =
@@ -81,7 +73,5 @@ key-reason-spec =
     part-key-rules-start
     part-key-rules-end
     key-rules-requires
-    unless-requires
-    unless-requires-2
-    unless-requires-3
+    in-order-requires
     returns)
