@@ -1,25 +1,25 @@
 -- Demand 3: each call of a list finds the agent that the rules make of the calls before it, since every call leaves what the rules
 -- leave; the rules agree with looking back. Assumes nothing.
-use Prim.Native.Nat.{ℕ, zero, suc, _+_, _*_, _≤_}
+use Prim.Native.Nat.{ℕ, _+_, _*_, _≤_}
 use native.Mathlib.Omega.{arith}
-use native.Mathlib.Nat.{zero-add, suc-add}
 use mathlib.Core.Path.{_≡_, refl, sym, ap, ap₂, _∙_, subst}
 use mathlib.Core.Bool.{Bool, true, false}
 use mathlib.Core.Logic.{_⊎_, _↔_}
 use mathlib.Core.List.{List, [], _∷_, _++_, map}
 use lib.ListN.{length, take, drop, length-append, length-drop}
-use lib.Seq.{take-append-le, drop-append-le, take-take, take-nil}
+use lib.Seq.{take-append-le, drop-append-le}
 use Rattle.rules.specs.Bytes.{if_then_else_, bytesOf, concat, parts}
 use Rattle.rules.specs.Reason.{codeOf, pairs}
 use Rattle.rules.specs.Frame.{Head, Update, Query, Command, WRITE, READ}
 use Rattle.rules.specs.Answer.{Answer, Reply, answerBytes, replyOf}
 use Rattle.rules.specs.Call.{Call, State, fresh, accepted, refusal, plain, commandOf, next, reply, run}
-use Rattle.rules.specs.LookBack.{Past, present, shows, tookEffect, noteUpdate, noteUpdates, pairsSeen, someFailed, readSeen, answerSeen, replySeen}
+use Rattle.rules.specs.LookBack.{Past, present, shows, tookEffect, noteUpdates, pairsSeen, someFailed, readSeen, answerSeen, replySeen}
 use Rattle.rules.specs.Agreement.{commandsOf, replyAfter, pastOf, pairAt}
 use Rattle.rules.specs.Authority.{Gives, Held}
 use Rattle.rules.specs.Sound.{Sound, EveryStored}
 use Rattle.rules.proofs.Sound.{fresh-agent, sound}
-use Rattle.rules.proofs.LookBack.{fresh-shows, agreement}
+use Rattle.rules.proofs.Lists.{parts-lent}
+use Rattle.rules.proofs.LookBack.{fresh-shows, agreement, pairs-length}
 use Rattle.rules.proofs.Primary.{authority}
 use Rattle.rules.proofs.Presence.{presence}
 use Rattle.agent.specs.declared.Agent.{Agent}
@@ -27,26 +27,6 @@ use Rattle.agent.specs.declared.Called.{Called}
 use Rattle.agent.specs.Meaning.{controlOf, stateOf}
 use Rattle.agent.specs.Contract.{Kept, Fresh, Outcome, Meets}
 use Rattle.agent.specs.Claim.{Went, Linked, callOf, commandIn, pastIn, eventsIn, Answered, Demand3}
-
--- LOCAL: to rules
-drop-take : (w m : ℕ) (l : List ℕ) → drop w (take (w + m) l) ≡ take m (drop w l)
-drop-take zero m l = rw (zero-add m)
-drop-take (suc w) m [] = rw (suc-add w m, take-nil m)
-drop-take (suc w) m (x ∷ l) = rw (suc-add w m) (drop-take w m l)
-
-parts-lent : (n w : ℕ) (l : List ℕ) → parts n w (take (n * w) l) ≡ parts n w l
-unfolding parts
-parts-lent zero w l = refl
-parts-lent (suc n) w l =
-    let m : suc n * w ≡ w + n * w = omega arith in
-    rw (m, take-take w (w + n * w) l (omega arith), drop-take w (n * w) l, parts-lent n w (drop w l))
-
-pairs-length : (p : Past) (role : ℕ) (us : List Update) → length (concat (pairsSeen p role us)) ≡ 2 * length us
-unfolding pairsSeen
-pairs-length p role [] = refl
-pairs-length p role (u ∷ us) = omega (arith, pairs-length (noteUpdate p role u) role us)
-
--- LOCAL END
 
 -- ---- where a list has come to
 

@@ -2,7 +2,7 @@
 -- Assumes nothing.
 use Prim.Native.Nat.{ℕ}
 use mathlib.Core.Path.{_≡_, refl, sym}
-use mathlib.Core.Bool.{Bool, true, false, _&&_, _||_, not}
+use mathlib.Core.Bool.{Bool, true, false, _&&_, _||_, not, and-true as and-unit, and-false as and-none}
 use mathlib.Core.List.{List, [], _∷_}
 use mathlib.Core.Option.{Option}
 use lib.Dec.{eqb}
@@ -153,16 +153,8 @@ accepted-alone e s device h p = go (streamAt e s) (sym p)
 
 module _ (e e′ : Streams) (r : ℕ) where
   pub pair-marks : eqb (markOf e r) (markOf e′ r) ≡ false → false ≡ samePair e e′ r
-  pair-marks m = rw m (go (sameOption (primary e r) (primary e′ r)))
-    where
-      go : (b : Bool) → false ≡ b && false
-      go true = refl
-      go false = refl
+  pair-marks m = rw m (sym (and-none (sameOption (primary e r) (primary e′ r))))
 
   pub pair-primaries : {p q : Option ℕ} → p ≡ primary e r → q ≡ primary e′ r → eqb (markOf e r) (markOf e′ r) ≡ true
       → sameOption p q ≡ samePair e e′ r
-  pair-primaries {p} {q} x y m = rw (m, ← x, ← y) (go (sameOption p q))
-    where
-      go : (b : Bool) → b ≡ b && true
-      go true = refl
-      go false = refl
+  pair-primaries {p} {q} x y m = rw (m, ← x, ← y) (sym (and-unit (sameOption p q)))

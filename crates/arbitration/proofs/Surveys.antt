@@ -3,7 +3,7 @@ use Prim.Native.Nat.{ℕ, _+_, _%_, _<_, _≤_}
 use native.Mathlib.Nat.{mod-eq-of-lt}
 use native.Mathlib.Omega.{arith}
 use mathlib.Core.Path.{_≡_, refl, sym, ap, _∙_}
-use mathlib.Core.Bool.{Bool, true, false, _&&_, _||_, not}
+use mathlib.Core.Bool.{Bool, true, false, _&&_, _||_, not, or-assoc, or-false as or-none}
 use mathlib.Core.List.{List, _∷_}
 use mathlib.Core.Option.{Option, some}
 use lib.Dec.{eqb, ltb}
@@ -45,10 +45,6 @@ some-next P false k l = go (P k)
     go : (c : Bool) → some-of P l ≡ (c && false) || some-of P l
     go true = refl
     go false = refl
-
-or-assoc : (a b c : Bool) → a || (b || c) ≡ (a || b) || c
-or-assoc true b c = refl
-or-assoc false b c = refl
 
 -- the first that was hit, 32 while none was
 abbrev firstOf : ℕ → Bool → ℕ → ℕ
@@ -99,7 +95,7 @@ module _ (self : Streams) {s r i m n : ℕ} {held : Bool} {holder k : ℕ} (size
         ∙ ap (λ (z : Bool). held || z)
         (ap (some-of (other s)) (left-next self size (holds r i) k h e g b refl)
         ∙ some-next (other s) b k (left (holds r i) (streamsOf self) (k + 1)))
-        ∙ or-assoc held (other s k && b) (some-of (other s) (left (holds r i) (streamsOf self) (k + 1)))
+        ∙ sym (or-assoc held (other s k && b) (some-of (other s) (left (holds r i) (streamsOf self) (k + 1))))
         ∙ ap (λ (z : Bool). z || some-of (other s) (left (holds r i) (streamsOf self) (k + 1))) (sym eh);
     first =
         w .first
@@ -115,11 +111,7 @@ module _ (self : Streams) {s r i m n : ℕ} {held : Bool} {holder k : ℕ} (size
         omega (arith, w .count)
 
     pub walked-clash : held ≡ some-of (other s) (numbers (holds r i) 0 (streamsOf self .streams))
-    walked-clash = sym (w .clash ∙ ap (λ (l : List ℕ). held || some-of (other s) l) (left-none self size (holds r i) k h) ∙ go held)
-      where
-        go : (b : Bool) → b || false ≡ b
-        go true = refl
-        go false = refl
+    walked-clash = sym (w .clash ∙ ap (λ (l : List ℕ). held || some-of (other s) l) (left-none self size (holds r i) k h) ∙ or-none held)
 
     pub walked-first : numbered holder ≡ head (numbers (holds r m) 0 (streamsOf self .streams))
     walked-first = sym (w .first ∙ ap (foundOr holder) (left-none self size (holds r m) k h))

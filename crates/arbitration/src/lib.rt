@@ -434,7 +434,10 @@ impl Streams {
         let place = (role % 8) as usize;
         let read = self.marks[place];
         let mark = mark_of(role, read);
-        if !id.equals(mark) {
+        if id.below(mark) {
+            return false;
+        }
+        if mark.below(id) {
             return false;
         }
         let p = self.primary(role);
@@ -561,7 +564,7 @@ impl Streams {
         self.quiet(4)
     }
 
-    // The one walk of an ARBITRATE.
+    // The walk of an ARBITRATE; a bound stream that is refused takes one more, for the primary.
     fn survey(self, stream: u8, role: u8, id: ElectionId) -> Survey
         ensures { λ r. ⌜ Shows r (streamsOf self) stream role (idOf id) ⌝ }
     {

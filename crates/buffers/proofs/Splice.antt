@@ -122,13 +122,3 @@ length-window a k d h = simp (length-take, length-drop) (omega arith)
 pub window-splice : (d : List ℕ) (at : ℕ) (ys : List ℕ) → at ≤ length d → drop at (splice d at ys) ≡ ys ++ drop (at + length ys) d
 unfolding splice
 window-splice d at ys h = drop-at (take at d) (ys ++ drop (at + length ys) d) at (length-take-le at d h)
-
--- a piece may be written from further ahead, with what is there
-pub splice-keep : (d : List ℕ) (a j : ℕ) (ys : List ℕ) → a + j ≤ length d → splice d (a + j) ys ≡ splice d a (take j (drop a d) ++ ys)
-unfolding splice
-splice-keep d a j ys h =
-    let l : length (take j (drop a d)) ≡ j = length-window a j d h in
-    ap (λ (x : List ℕ). x ++ (ys ++ drop (a + j + length ys) d)) (take-add a j d)
-    ∙ append-assoc (take a d) (take j (drop a d)) (ys ++ drop (a + j + length ys) d)
-    ∙ ap (λ (x : List ℕ). take a d ++ x) (sym (append-assoc (take j (drop a d)) ys (drop (a + j + length ys) d)))
-    ∙ ap (λ (n : ℕ). take a d ++ (take j (drop a d) ++ ys ++ drop n d)) (add-assoc a j (length ys) ∙ ap (λ (n : ℕ). a + n) (ap (λ (n : ℕ). n + length ys) (sym l) ∙ sym (length-append (take j (drop a d)) ys)))

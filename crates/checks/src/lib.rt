@@ -1,7 +1,7 @@
 // Checks of a key and of a whole entry against a row: reasons 17, 18 and 19 (document 01, "Configuration and entries").
 ghost use mathlib.Core.Path.{_≡_};
 ghost use mathlib.Core.Bool.{_&&_};
-ghost use Prim.Native.Nat.{_+_, _≤_};
+ghost use Prim.Native.Nat.{_+_};
 ghost use lib.ListN.{length, take};
 ghost use Rattle.rules.specs.Bytes.{between, some-of, parts};
 ghost use Rattle.rules.specs.Key.{slotFormed, slotFits, lpmRule, ternaryRule, rangeRule, slotRule, alongside, alongsideAll, priorityRule};
@@ -10,7 +10,6 @@ ghost use Rattle.numbers.specs.Whole.{wholeOf};
 ghost use Rattle.rows.specs.Meaning.{fieldOf, rowOf};
 use numbers::Number;
 use numbers::integer;
-use rows::Action;
 use rows::Field;
 use rows::Row;
 

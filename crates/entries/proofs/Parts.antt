@@ -19,15 +19,6 @@ use Rattle.entries.specs.Store.{without}
 pub parts-at : (i n w : ℕ) (l : List ℕ) → i < n → getD (parts n w l) i [] ≡ part (w * i) w l
 parts-at i n w l h = sym (rw (parts-from i n w l h, add-zero i) at (getD-drop i (parts n w l) 0 []))
 
--- the first a parts, and the b after them
-pub parts-add : (a b w : ℕ) (l : List ℕ) → parts (a + b) w l ≡ parts a w l ++ parts b w (drop (w * a) l)
-unfolding parts
-parts-add zero b w l = let e : w * 0 ≡ 0 = omega arith in let z : 0 + b ≡ b = omega arith in rw (e, z)
-parts-add (suc a) b w l =
-    let e : w + w * a ≡ w * suc a = omega arith in
-    let s : suc a + b ≡ suc (a + b) = omega arith in
-    rw (s, ← e, ← drop-drop (w * a) w l, parts-add a b w (drop w l))
-
 -- the first n parts are in the first w * n bytes
 parts-front : (n w : ℕ) (l rest : List ℕ) → w * n ≤ length l → parts n w (take (w * n) l ++ rest) ≡ parts n w l
 unfolding parts

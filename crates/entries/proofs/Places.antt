@@ -13,11 +13,8 @@ use Rattle.rules.specs.Key.{keyOf, hasKey}
 use Rattle.rules.specs.Update.{stored}
 use Rattle.rules.specs.Sound.{Distinct}
 use Rattle.rules.proofs.Tests.{or-false, same-true}
+use Rattle.rules.proofs.Tables.{Free}
 use Rattle.entries.specs.Store.{placeFrom, place, without}
-
--- no entry has the key
-abbrev Free : List ℕ → List (List ℕ) → Type 0
-Free k es = some-of (hasKey k) es ≡ false
 
 -- entry i is the first that has the key
 data At (k : List ℕ) : List (List ℕ) → ℕ → Type 0 where

@@ -1,9 +1,8 @@
 // The store of entries in shortest form: key search, counting, deletion, and gathering for READ.
 ghost use mathlib.Core.Path.{_≡_};
-ghost use Prim.Native.Nat.{suc, _+_, _*_, _-_, _≤_, _<_};
+ghost use Prim.Native.Nat.{_+_, _*_, _-_, _≤_, _<_};
 ghost use lib.ListN.{length};
 ghost use Rattle.rules.specs.Bytes.{keep, concat};
-ghost use Rattle.rules.specs.Key.{hasKey};
 ghost use Rattle.rules.specs.Update.{inTable, held as heldIn};
 ghost use Rattle.buffers.specs.Splice.{splice};
 ghost use Rattle.entries.specs.Store.{entriesIn, tablesIn, place, placeOf, without, Left};
@@ -64,11 +63,7 @@ pub fn write_entry(entry: &[u8], dst: &mut [u8])
     requires { ⌜ (length (now entry) ≡ 220) × (220 ≤ length (now dst)) ⌝ }
     ensures { λ _. ⌜ now (dst .exit) ≡ splice (now (dst .entry)) 0 (now (entry .entry)) ⌝ }
 {
-    let mut i: usize = 0;
-    while i < 220 {
-        dst[i] = entry[i];
-        i += 1;
-    }
+    buffers::copy(entry, dst);
 }
 
 // Writes the entries of a table to the start of the answer, in order of insertion, as far as it has room; their number.

@@ -1,14 +1,12 @@
 -- Why an update is refused, read off in the order in which the tests are made: those of the entry stand between those of its
 -- table and those of its place. Assumes nothing.
-use Prim.Native.Nat.{ℕ, zero, suc, _+_, _*_, _-_, _≤_, _<_}
-use native.Mathlib.Nat.{zero-add, suc-add}
+use Prim.Native.Nat.{ℕ, _-_, _≤_, _<_}
 use native.Mathlib.Omega.{arith}
 use mathlib.Core.Path.{_≡_, refl, sym, ap, _∙_}
 use mathlib.Core.Bool.{Bool, true, false, _&&_, not}
 use mathlib.Core.List.{List, [], _∷_}
 use lib.Dec.{eqb}
-use lib.ListN.{length, take, drop, length-drop}
-use lib.Seq.{take-nil, take-take, take-all}
+use lib.ListN.{length, take, drop}
 use borrow.Author.Tests.{le-leb, lt-leb, ne-eqb}
 use Rattle.rules.specs.Bytes.{if_then_else_, between, byte, part, parts, int}
 use Rattle.rules.specs.Reason.{first}
@@ -17,23 +15,12 @@ use Rattle.rules.specs.Row.{Row, known, rowFor, mayWrite}
 use Rattle.rules.specs.Key.{slots, slotFormed, slotFits, slotRule, alongside, alongsideAll, priorityRule, keyFormed, keyFits, keyRules}
 use Rattle.rules.specs.Entry.{actionFormed, actionFits}
 use Rattle.rules.specs.Update.{Tables, judge}
+use Rattle.rules.proofs.Lists.{parts-lent}
+use Rattle.values.proofs.Digits.{rest-all}
 use Rattle.entry_store.specs.declared.Verdict.{Verdict}
 use Rattle.entry_store.specs.Update.{entryReason, placeReason, reasonOf, Meant}
 
 -- ---- what is lent
-
-drop-take : (w m : ℕ) (l : List ℕ) → drop w (take (w + m) l) ≡ take m (drop w l)
-drop-take zero m l = rw (zero-add m)
-drop-take (suc w) m [] = rw (suc-add w m, take-nil m)
-drop-take (suc w) m (x ∷ l) = rw (suc-add w m) (drop-take w m l)
-
--- n parts stand in the first n * w bytes
-parts-lent : (n w : ℕ) (l : List ℕ) → parts n w (take (n * w) l) ≡ parts n w l
-unfolding parts
-parts-lent zero w l = refl
-parts-lent (suc n) w l =
-    let m : suc n * w ≡ w + n * w = omega arith in
-    rw (m, take-take w (w + n * w) l (omega arith), drop-take w (n * w) l, parts-lent n w (drop w l))
 
 -- the slots of an entry, as the 140 bytes that hold them give them
 abbrev pub lent : List ℕ → List (List ℕ)
@@ -44,7 +31,7 @@ slots-lent e = sym (parts-lent 4 35 (drop 8 e))
 
 -- the entry of an update is all of it but the first byte
 pub entry-lent : (u : List ℕ) → take (length u - 1) (drop 1 u) ≡ drop 1 u
-entry-lent u = take-all (length u - 1) (drop 1 u) (omega (arith, length-drop 1 u))
+entry-lent u = rest-all 1 u
 
 pub key-formed-lent : (row : Row) (e : List ℕ) → keyFormed row e ≡ alongsideAll slotFormed (row .fields) (lent e)
 unfolding keyFormed

@@ -1,6 +1,6 @@
 -- Right because each reader tests the conjuncts of its command's form in the rules: one law for each way out. Assumes nothing.
 use mathlib.Core.Path.{_≡_, refl, sym, ap, _∙_}
-use mathlib.Core.Bool.{Bool, true, false, _&&_, _||_, not}
+use mathlib.Core.Bool.{Bool, true, false, _&&_, _||_, not, or-false as or-none, Bool·not-not as not-not}
 use mathlib.Core.List.{List, [], _∷_}
 use Prim.Native.Nat.{ℕ, _≤_, _<_, _+_, _*_}
 use native.Mathlib.Omega.{arith}
@@ -31,11 +31,7 @@ asked {test} {x} {c} e q = rw e q
 
 module _ (n : ℕ) (p q : Bool) where
   by-zero : n ≡ 0 → p ≡ ((eqb n 0 && p) || (eqb n 1 && q))
-  by-zero e = rw (eq-eqb n 0 e, ne-eqb n 1 (λ (o : n ≡ 1). omega arith)) (or-none p)
-    where
-      or-none : (b : Bool) → b ≡ (b || false)
-      or-none true = refl
-      or-none false = refl
+  by-zero e = rw (eq-eqb n 0 e, ne-eqb n 1 (λ (o : n ≡ 1). omega arith)) (sym (or-none p))
 
   by-one : n ≡ 1 → q ≡ ((eqb n 0 && p) || (eqb n 1 && q))
   by-one e = rw (eq-eqb n 1 e, ne-eqb n 0 (λ (o : n ≡ 0). omega arith))
@@ -51,11 +47,7 @@ module _ (a : ℕ) (f : List ℕ) where
   unset = eqb (int (a + 10) 16 f) 0
 
   pub flag-unset : (set : Bool) → set ≡ not unset → byte (a + 9) f ≡ 0 → not set ≡ rules.flagFits a f
-  flag-unset set e z = ap not e ∙ twice unset ∙ by-zero (byte (a + 9) f) unset (not unset) z
-    where
-      twice : (b : Bool) → not (not b) ≡ b
-      twice true = refl
-      twice false = refl
+  flag-unset set e z = ap not e ∙ not-not unset ∙ by-zero (byte (a + 9) f) unset (not unset) z
 
   pub flag-set : (set : Bool) → set ≡ not unset → byte (a + 9) f ≡ 1 → set ≡ rules.flagFits a f
   flag-set set e z = e ∙ by-one (byte (a + 9) f) unset (not unset) z

@@ -30,7 +30,7 @@ abbrev pub frameOf : Frame → List ℕ → rules.Command
 frameOf (Asks c) f = commandOf c f
 frameOf Malformed f = rules.malformed
 
--- the frame is as long as what was read of it says
+-- the stream and the counts are in range, and the frame is as long as they say
 abbrev pub Fits : Command → List ℕ → Type 0
 Fits (Open s) f = s ≤ 31
 Fits (Close s) f = s ≤ 31

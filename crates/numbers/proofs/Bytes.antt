@@ -7,7 +7,7 @@ use mathlib.Core.Path.{_≡_, refl, sym, ap, subst, _∙_}
 use mathlib.Core.List.{List, [], _∷_, _++_, append-nil, append-assoc}
 use lib.Arith.{lt-one}
 use lib.Dec.{lit<}
-use lib.ListN.{length, getD, take, drop, length-append, length-drop, take-append-drop}
+use lib.ListN.{length, getD, take, drop, length-drop, take-append-drop}
 use lib.Seq.{take-suc, take-all, getD-drop}
 use Rattle.rules.specs.Bytes.{numberFrom, number, int, bytesOf}
 
@@ -64,11 +64,6 @@ number-halves l h =
     ∙ ap (λ (m : ℕ). number (take 8 l) * 256 ^ m + number (drop 8 l)) n))
 
 -- ---- writing
-
-pub length-bytesOf : (n x : ℕ) → length (bytesOf n x) ≡ n
-unfolding bytesOf
-length-bytesOf zero x = refl
-length-bytesOf (suc n) x = omega (arith, length-append (bytesOf n (x / 256)) (x % 256 ∷ []), length-bytesOf n (x / 256))
 
 move-up : (h p l : ℕ) → h * (p * 256) + l ≡ (h * p) * 256 + l
 move-up h p l = omega arith

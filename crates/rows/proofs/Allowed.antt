@@ -1,30 +1,23 @@
 -- 14 decided on a row's bytes is 14 of the rules: the fields, widths and actions are parts of the bytes, asked one after another,
 -- and the order of the tests changes nothing. Assumes nothing.
 use Prim.Native.Nat.{ℕ, zero, suc, _+_, _*_, _-_, _≤_, _<_}
-use native.Mathlib.Nat.{sub-zero, zero-sub, suc-sub-suc}
 use native.Mathlib.Omega.{arith}
 use mathlib.Core.Path.{_≡_, refl, sym}
 use mathlib.Core.Bool.{Bool, true, false, _&&_, and-assoc, and-comm, and-true, and-false}
 use mathlib.Core.List.{List, [], _∷_, map, map-map}
 use lib.Dec.{eqb, leb, lit≤}
 use lib.ListN.{length, take, drop, drop-of-length-le, length-map}
-use lib.Seq.{take-nil, take-take, drop-drop}
+use lib.Seq.{take-take, drop-drop}
 use borrow.Author.Tests.{le-leb, lt-leb}
 use Rattle.rules.specs.Bytes.{between, every, some-of, distinct, byte, part, parts, int, allZero}
 use Rattle.rules.specs.Row as rules
 use Rattle.rules.proofs.Formed.{parts-count}
-use Rattle.rules.proofs.Lists.{every-map, drop-map, parts-from, part-part, byte-part}
+use Rattle.rules.proofs.Lists.{every-map, drop-map, parts-from, part-part, byte-part, drop-take}
 use Rattle.buffers.proofs.Words.{Bytes}
 use Rattle.numbers.proofs.Bytes.{int-none, int-next}
 use Rattle.rows.specs.Meaning.{fieldsPass, actionPasses, actionIds, actionsPass}
 
 -- ---- parts of parts
-
-drop-take : (k n : ℕ) (l : List ℕ) → drop k (take n l) ≡ take (n - k) (drop k l)
-drop-take zero n l = rw sub-zero
-drop-take (suc k) zero l = rw zero-sub
-drop-take (suc k) (suc n) [] = sym (take-nil (suc n - suc k))
-drop-take (suc k) (suc n) (x ∷ l) = rw suc-sub-suc (drop-take k n l)
 
 drop-part : (k a n : ℕ) (l : List ℕ) → drop k (part a n l) ≡ part (a + k) (n - k) l
 drop-part k a n l = rw (drop-take k n (drop a l), drop-drop k a l)

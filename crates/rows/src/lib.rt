@@ -1,11 +1,11 @@
 // Configuration rows: their type, reading them from 53 bytes each, and reason 14 (document 01, "Frames" and 14).
 ghost use mathlib.Core.Path.{_≡_};
-ghost use mathlib.Core.Bool.{true, _&&_};
+ghost use mathlib.Core.Bool.{true, false, _&&_};
 ghost use mathlib.Core.List.{[], map};
 ghost use Prim.Native.Nat.{_+_, _*_, _≤_, _<_};
 ghost use lib.ListN.{length, drop};
 ghost use lib.Dec.{eqb};
-ghost use Rattle.rules.specs.Bytes.{some-of, distinct, part, parts, sum};
+ghost use Rattle.rules.specs.Bytes.{if_then_else_, some-of, distinct, part, parts, sum};
 ghost use Rattle.rules.specs.Call.{unconfigured};
 ghost use Rattle.rules.specs.Row as rules;
 ghost use Rattle.rows.specs.Meaning.{fieldOf, actionOf, rowOf, rowsOf, tablesOf, sizesOf, countsFit, fieldsPass, actionPasses, actionIds, actionsPass};
@@ -51,10 +51,21 @@ pub struct Found {
     pub row: Row,
 }
 
-// Rows read from a frame, and whether 14 allows them.
+// Whether 14 allows the rows of a frame, and the rows where it does.
 pub struct Reading {
     pub rows: Rows,
     pub allowed: bool,
+}
+
+impl Reading {
+    fn refused() -> Reading
+        ensures { λ r. ⌜ (r .allowed ≡ false) × (rowsOf (r .rows) ≡ []) ⌝ }
+    {
+        Reading {
+            rows: Rows::fresh(),
+            allowed: false,
+        }
+    }
 }
 
 impl Field {
@@ -337,11 +348,11 @@ impl Rows {
         total
     }
 
-    // The t rows of 53 bytes each, and whether 14 allows them.
+    // The t rows of 53 bytes each where 14 allows them, otherwise none.
     pub fn read(b: &[u8], t: usize) -> Reading
         requires { ⌜ (t ≤ 8) × (length (now b) ≡ 53 * t) ⌝ }
         ensures verdict { λ r. ⌜ r .allowed ≡ rules.configurationAllowed (parts t 53 (now (b .entry))) ⌝ }
-        ensures read { λ r. ⌜ (r .allowed ≡ true → rowsOf (r .rows) ≡ map rules.rowOf (parts t 53 (now (b .entry)))) ⌝ }
+        ensures read { λ r. ⌜ rowsOf (r .rows) ≡ (if r .allowed then map rules.rowOf (parts t 53 (now (b .entry))) else []) ⌝ }
     {
         let mut rows = [Row::NONE; 8];
         let mut i: usize = 0;
@@ -349,10 +360,7 @@ impl Rows {
             let at = 53 * i;
             let end = at + 53;
             if !row_allowed(&b[at..end]) {
-                return Reading {
-                    rows: Rows::fresh(),
-                    allowed: false,
-                };
+                return Reading::refused();
             }
             rows[i] = Row::read(&b[at..end]);
             i += 1;
@@ -361,8 +369,16 @@ impl Rows {
             rows,
             count: t as u8,
         };
-        let allowed = all.tables_distinct() && all.sizes() <= 256;
-        Reading { rows: all, allowed }
+        if !all.tables_distinct() {
+            return Reading::refused();
+        }
+        if 256 < all.sizes() {
+            return Reading::refused();
+        }
+        Reading {
+            rows: all,
+            allowed: true,
+        }
     }
 
     // The row of a table, if it is known.

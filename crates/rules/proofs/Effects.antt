@@ -1,7 +1,7 @@
 -- One effect more at the end does to the entries present what the rules do to the entries stored. Assumes nothing.
 use Prim.Native.Nat.{ℕ}
 use mathlib.Core.Path.{_≡_, refl, sym, _∙_, ap}
-use mathlib.Core.Bool.{Bool, true, false, _||_, not}
+use mathlib.Core.Bool.{Bool, true, false, _||_, not, or-assoc, or-false as or-none}
 use mathlib.Core.List.{List, [], _∷_, _++_, map}
 use Rattle.rules.specs.Bytes.{if_then_else_, keep, same}
 use Rattle.rules.specs.Key.{keyOf}
@@ -16,14 +16,6 @@ takeEffect (deleted k) es = keep (λ (e : List ℕ). not (same k (keyOf e))) es
 takeEffect cleared es = []
 
 -- ---- one effect more
-
-or-none : (b : Bool) → b || false ≡ b
-or-none true = refl
-or-none false = refl
-
-or-assoc : (a b c : Bool) → (a || b) || c ≡ a || (b || c)
-or-assoc true b c = refl
-or-assoc false b c = refl
 
 latest-snoc : (e : List ℕ) (later : List Effect) (f : Effect) → latest e (later ++ (f ∷ [])) ≡ revise f (latest e later)
 unfolding latest

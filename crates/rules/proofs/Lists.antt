@@ -1,11 +1,12 @@
 -- Laws of lists, and of the parts of a list of bytes, that the proofs of every layer cite. Assumes nothing.
-use Prim.Native.Nat.{ℕ, zero, suc, _+_, _*_, _≤_, _<_}
+use Prim.Native.Nat.{ℕ, zero, suc, _+_, _*_, _-_, _≤_, _<_}
+use native.Mathlib.Nat.{sub-zero, zero-sub, suc-sub-suc}
 use native.Mathlib.Omega.{arith}
 use mathlib.Core.Path.{_≡_, refl, sym, ap, _∙_}
 use mathlib.Core.Bool.{Bool}
 use mathlib.Core.List.{List, [], _∷_, _++_, map, append-assoc}
 use lib.ListN.{length, take, drop, length-map}
-use lib.Seq.{drop-drop, take-take, getD-take, getD-drop}
+use lib.Seq.{drop-drop, take-take, take-nil, getD-take, getD-drop}
 use Rattle.rules.specs.Bytes.{every, concat, byte, part, parts}
 
 -- ---- lists
@@ -52,3 +53,18 @@ part-part at n k m l h = part-front k m n (drop at l) h ∙ ap (take m) (drop-dr
 
 pub byte-part : (at n k : ℕ) (l : List ℕ) → k < n → byte k (part at n l) ≡ byte (at + k) l
 byte-part at n k l h = getD-take n (drop at l) k 0 h ∙ getD-drop at l k 0
+
+pub drop-take : (k n : ℕ) (l : List ℕ) → drop k (take n l) ≡ take (n - k) (drop k l)
+drop-take zero n l = rw sub-zero
+drop-take (suc k) zero l = rw zero-sub
+drop-take (suc k) (suc n) [] = sym (take-nil (suc n - suc k))
+drop-take (suc k) (suc n) (x ∷ l) = rw suc-sub-suc (drop-take k n l)
+
+-- n parts stand in the first n * w bytes
+pub parts-lent : (n w : ℕ) (l : List ℕ) → parts n w (take (n * w) l) ≡ parts n w l
+unfolding parts
+parts-lent zero w l = refl
+parts-lent (suc n) w l =
+    let m : suc n * w ≡ w + n * w = omega arith in
+    let k : w + n * w - w ≡ n * w = omega arith in
+    rw (m, take-take w (w + n * w) l (omega arith), drop-take w (w + n * w) l, k, parts-lent n w (drop w l))

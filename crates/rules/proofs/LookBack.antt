@@ -2,7 +2,7 @@
 -- Assumes nothing.
 use Prim.Native.Nat.{ℕ, _+_, _*_}
 use mathlib.Core.Path.{_≡_, refl, sym, _∙_, ap, ap₂, fun-ext, subst}
-use mathlib.Core.Bool.{Bool, true, false, _&&_, _||_, not, and-true}
+use mathlib.Core.Bool.{Bool, true, false, _&&_, _||_, not, and-true, or-false as or-none}
 use mathlib.Core.Logic.{_⊎_, inl, inr, ⊎-elim, _↔_}
 use mathlib.Core.List.{List, [], _∷_, _++_, map}
 use native.Mathlib.Omega.{arith}
@@ -130,10 +130,6 @@ keep-append p (x ∷ xs) ys = go (p x) (keep-append p xs ys)
 same-rows : (q : Query) (row : Row) → (named q && eqb (row .table) (q .table)) || (not (named q) && mayWrite (q .role) row) ≡ asked (q .role) (q .table) row
 same-rows q row = go (eqb (q .table) 0)
   where
-    or-none : (b : Bool) → b || false ≡ b
-    or-none true = refl
-    or-none false = refl
-
     go : (b : Bool) → (not b && eqb (row .table) (q .table)) || (not (not b) && mayWrite (q .role) row)
         ≡ (if b then mayWrite (q .role) row else eqb (row .table) (q .table))
     go true = refl
@@ -313,7 +309,7 @@ unfolding pairsSeen noteUpdates
 pairs-split p role [] u later = refl
 pairs-split p role (v ∷ earlier) u later = ap (λ l. pairOf (reasonAt p role v) ∷ l) (pairs-split (noteUpdate p role v) role earlier u later)
 
-pairs-length : (p : Past) (role : ℕ) (us : List Update) → length (concat (pairsSeen p role us)) ≡ 2 * length us
+pub pairs-length : (p : Past) (role : ℕ) (us : List Update) → length (concat (pairsSeen p role us)) ≡ 2 * length us
 unfolding pairsSeen
 pairs-length p role [] = refl
 pairs-length p role (u ∷ us) = omega (arith, pairs-length (noteUpdate p role u) role us)

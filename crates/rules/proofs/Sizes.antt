@@ -4,7 +4,7 @@ use Prim.Native.Nat.{ℕ, zero, suc, _+_, _*_, _/_, _%_, _≤_}
 use mathlib.Core.Path.{_≡_, refl, _∙_}
 use mathlib.Core.Bool.{Bool, true, false}
 use mathlib.Core.List.{List, [], _∷_, _++_, map}
-use native.Mathlib.Nat.{le-trans, le-of-eq, mul-le-mul-left}
+use native.Mathlib.Nat.{le-trans, le-of-eq, mul-le-mul}
 use native.Mathlib.Omega.{arith}
 use lib.Dec.{eqb}
 use lib.ListN.{length, getD, length-append, length-map, length-set}
@@ -44,19 +44,16 @@ keep-lengths n p (x ∷ xs) h = go (p x) (keep-lengths n p xs (h .1))
     go true r = (h .0, r)
     go false r = r
 
--- the bytes of an answer, where its records have few
-abbrev Small : List (List ℕ) → Type 0
-Small records = length (concat records) ≤ 56_320
+-- records of n bytes each, at most 256 of them
+abbrev pub Sized : ℕ → List (List ℕ) → Type 0
+Sized n rs = EveryLength n rs × (length rs ≤ 256)
 
-few-small : (n count : ℕ) (xs : List (List ℕ)) → EveryLength n xs → length xs ≤ count → n * count ≤ 56_320 → Small xs
-few-small n count xs h c b = le-trans (le-of-eq (concat-length n xs h)) (le-trans (mul-le-mul-left n c) b)
+none-sized : (n : ℕ) → Sized n []
+none-sized n = (tt, omega arith)
 
-choose : (b : Bool) (xs ys : List (List ℕ)) → Small xs → Small ys → Small (if b then xs else ys)
-choose true xs ys h k = h
-choose false xs ys h k = k
-
-none-small : Small []
-none-small = omega arith
+choose : (n : ℕ) (b : Bool) (xs ys : List (List ℕ)) → Sized n xs → Sized n ys → Sized n (if b then xs else ys)
+choose n true xs ys h k = h
+choose n false xs ys h k = k
 
 -- ---- notifications
 
@@ -65,7 +62,7 @@ unfolding bytesOf
 bytes-length zero x = refl
 bytes-length (suc n) x = omega (arith, length-append (bytesOf n (x / 256)) (x % 256 ∷ []), bytes-length n (x / 256))
 
-notification-length : (e : Streams) (r s : ℕ) → length (notification e r s) ≡ 20
+pub notification-length : (e : Streams) (r s : ℕ) → length (notification e r s) ≡ 20
 unfolding noticeOf
 notification-length e r s = omega (arith, bytes-length 16 (getD (e .marks) r 0))
 
@@ -77,27 +74,28 @@ numbers-few p k (x ∷ l) = go (p x) (numbers-few p (suc k) l)
     go true h = omega arith
     go false h = omega arith
 
-all-small : (e : Streams) (r : ℕ) → length (e .streams) ≡ 32 → Small (notifyAll e r)
+all-sized : (e : Streams) (r : ℕ) → length (e .streams) ≡ 32 → Sized 20 (notifyAll e r)
 unfolding notifyAll
-all-small e r l =
-    few-small 20 32 (map (notification e r) (members e r)) (map-lengths 20 (notification e r) (notification-length e r) (members e r))
-    (omega (arith, length-map (members e r) (notification e r), numbers-few (inRole r) 0 (e .streams))) (omega arith)
+all-sized e r l = (
+  map-lengths 20 (notification e r) (notification-length e r) (members e r),
+  omega (arith, length-map (members e r) (notification e r), numbers-few (inRole r) 0 (e .streams)),
+)
 
-close-small : (e : Streams) (s : ℕ) → length (e .streams) ≡ 32 → Small (closeRecords e s)
+close-sized : (e : Streams) (s : ℕ) → length (e .streams) ≡ 32 → Sized 20 (closeRecords e s)
 unfolding closeRecords
-close-small e s l = go (streamAt e s)
+close-sized e s l = go (streamAt e s)
   where
-    go : (x : Stream) → Small (leaving e s x)
-    go closed = none-small
-    go unbound = none-small
-    go (bound r i) = choose (is s (primary e r)) _ _ (all-small (become e s closed) r (length-set (e .streams) s closed ∙ l)) none-small
+    go : (x : Stream) → Sized 20 (leaving e s x)
+    go closed = none-sized 20
+    go unbound = none-sized 20
+    go (bound r i) = choose 20 (is s (primary e r)) _ _ (all-sized (become e s closed) r (length-set (e .streams) s closed ∙ l)) (none-sized 20)
 
-bind-small : (e : Streams) (s : ℕ) (h : Head) → length (e .streams) ≡ 32 → Small (bindRecords e (binds e s h) s (h .role))
+bind-sized : (e : Streams) (s : ℕ) (h : Head) → length (e .streams) ≡ 32 → Sized 20 (bindRecords e (binds e s h) s (h .role))
 unfolding bindRecords binds
-bind-small e s h l =
-    choose (samePair e (binds e s h) (h .role)) _ _
-    (few-small 20 1 (notification (binds e s h) (h .role) s ∷ []) (notification-length (binds e s h) (h .role) s, tt) (omega arith) (omega arith))
-    (all-small (binds e s h) (h .role) (length-set (e .streams) s (bound (h .role) (h .id)) ∙ l))
+bind-sized e s h l =
+    choose 20 (samePair e (binds e s h) (h .role)) _ _
+    ((notification-length (binds e s h) (h .role) s, tt), omega arith)
+    (all-sized (binds e s h) (h .role) (length-set (e .streams) s (bound (h .role) (h .id)) ∙ l))
 
 -- ---- pairs
 
@@ -106,11 +104,12 @@ unfolding batch
 reasons-count rows role t [] = refl
 reasons-count rows role t (u ∷ us) = omega (arith, reasons-count rows role (apply (judge rows role t u) u t) us)
 
-pairs-small : (s : State) (h : Head) (us : List Update) → length us ≤ 64 → Small (map pairOf (batchOf s h us .reasons))
-pairs-small s h us few =
-    let rs = batchOf s h us .reasons in
-    few-small 2 64 (map pairOf rs) (map-lengths 2 pairOf (λ (r : ℕ). refl) rs)
-    (omega (arith, length-map rs pairOf, reasons-count (s .control .rows) (h .role) (s .tables) us)) (omega arith)
+pairs-sized : (s : State) (h : Head) (us : List Update) → length us ≤ 64 → Sized 2 (map pairOf (batchOf s h us .reasons))
+pairs-sized s h us few =
+    let rs = batchOf s h us .reasons in (
+      map-lengths 2 pairOf (λ (r : ℕ). refl) rs,
+      omega (arith, length-map rs pairOf, reasons-count (s .control .rows) (h .role) (s .tables) us),
+    )
 
 -- ---- entries
 
@@ -146,10 +145,9 @@ collected-few p (r ∷ rows) t w = go (p r) (collected-few p rows t (w .1))
     go true h = omega (arith, length-append mine (collected p rows (t .entries)), w .0)
     go false h = omega arith
 
--- what a READ shows: at most 256 entries, of 220 bytes each
-pub shown-sizes : (s : State) (q : Query) → Sound s → EveryLength 220 (shown s q) × (length (shown s q) ≤ 256)
+pub shown-sized : (s : State) (q : Query) → Sound s → Sized 220 (shown s q)
 unfolding shown
-shown-sizes s q ok = go (eqb (q .only) 1)
+shown-sized s q ok = choose 220 (eqb (q .only) 1) _ _ (kept, fewer) (lengths, count)
   where
     all : List (List ℕ)
     all = gathered (q .role) (q .table) (s .control .rows) (s .tables)
@@ -166,39 +164,57 @@ shown-sizes s q ok = go (eqb (q .only) 1)
     fewer : length (keep (hasKey (shortKey (q .key))) all) ≤ 256
     fewer = omega (arith, keep-fewer (hasKey (shortKey (q .key))) all, count)
 
-    go : (b : Bool) → EveryLength 220 (if b then keep (hasKey (shortKey (q .key))) all else all)
-        × (length (if b then keep (hasKey (shortKey (q .key))) all else all) ≤ 256)
-    go true = (kept, fewer)
-    go false = (lengths, count)
-
-read-small : (s : State) (q : Query) → Sound s → Small (shown s q)
-read-small s q ok = let z = shown-sizes s q ok in few-small 220 256 (shown s q) (z .0) (z .1) (omega arith)
-
 -- ---- answers
 
-answer-small : (s : State) (c : Command) → Formed c → Sound s → Small (answer s c .records)
+-- the size of the records that a command is answered with: notifications, pairs, entries
+abbrev pub sizeOf : Command → ℕ
+sizeOf cramped = 0
+sizeOf malformed = 0
+sizeOf (OPEN n) = 20
+sizeOf (CLOSE n) = 20
+sizeOf (ARBITRATE n h) = 20
+sizeOf (CONFIGURE h rows) = 0
+sizeOf (WRITE h atomicity us) = 2
+sizeOf (READ q) = 220
+
+pub answer-sized : (s : State) (c : Command) → Formed c → Sound s → Sized (sizeOf c) (answer s c .records)
 unfolding answer openStream closeStream arbitrate
-answer-small s cramped f ok = none-small
-answer-small s malformed f ok = none-small
-answer-small s (OPEN n) f ok = none-small
-answer-small s (CLOSE n) f ok =
-    choose (eqb (closeReason (s .control .streams) n) 0) _ _ (close-small (s .control .streams) n (ok .streams .thirty-two)) none-small
-answer-small s (ARBITRATE n h) f ok =
+answer-sized s cramped f ok = none-sized 0
+answer-sized s malformed f ok = none-sized 0
+answer-sized s (OPEN n) f ok = none-sized 20
+answer-sized s (CLOSE n) f ok =
+    choose 20 (eqb (closeReason (s .control .streams) n) 0) _ _ (close-sized (s .control .streams) n (ok .streams .thirty-two)) (none-sized 20)
+answer-sized s (ARBITRATE n h) f ok =
     let r = arbitrateReason (s .control .device) (s .control .streams) n h in
-    choose (eqb r 0) _ _ (bind-small (s .control .streams) n h (ok .streams .thirty-two))
-    (choose (between 5 9 r) _ _ (close-small (s .control .streams) n (ok .streams .thirty-two)) none-small)
-answer-small s (CONFIGURE h rows) f ok = none-small
-answer-small s (WRITE h atomicity us) f ok = go (accepted s (WRITE h atomicity us))
+    choose 20 (eqb r 0) _ _ (bind-sized (s .control .streams) n h (ok .streams .thirty-two))
+    (choose 20 (between 5 9 r) _ _ (close-sized (s .control .streams) n (ok .streams .thirty-two)) (none-sized 20))
+answer-sized s (CONFIGURE h rows) f ok = none-sized 0
+answer-sized s (WRITE h atomicity us) f ok = go (accepted s (WRITE h atomicity us))
   where
-    go : (b : Bool) → Small ((if b then record { reason = headOf (batchOf s h us .reasons); records = map pairOf (batchOf s h us .reasons) } else
+    go : (b : Bool) → Sized 2 ((if b then record { reason = headOf (batchOf s h us .reasons); records = map pairOf (batchOf s h us .reasons) } else
         plain (refusal s (WRITE h atomicity us))) .records)
-    go true = pairs-small s h us (f .0)
-    go false = none-small
-answer-small s (READ q) f ok = go (accepted s (READ q))
+    go true = pairs-sized s h us (f .0)
+    go false = none-sized 2
+answer-sized s (READ q) f ok = go (accepted s (READ q))
   where
-    go : (b : Bool) → Small ((if b then record { reason = 0; records = shown s q } else plain (refusal s (READ q))) .records)
-    go true = read-small s q ok
-    go false = none-small
+    go : (b : Bool) → Sized 220 ((if b then record { reason = 0; records = shown s q } else plain (refusal s (READ q))) .records)
+    go true = shown-sized s q ok
+    go false = none-sized 220
+
+pub size-small : (c : Command) → sizeOf c ≤ 220
+size-small cramped = omega arith
+size-small malformed = omega arith
+size-small (OPEN n) = omega arith
+size-small (CLOSE n) = omega arith
+size-small (ARBITRATE n h) = omega arith
+size-small (CONFIGURE h rows) = omega arith
+size-small (WRITE h atomicity us) = omega arith
+size-small (READ q) = omega arith
+
+answer-small : (s : State) (c : Command) → Formed c → Sound s → length (concat (answer s c .records)) ≤ 56_320
+answer-small s c f ok =
+    let z = answer-sized s c f ok in
+    le-trans (le-of-eq (concat-length (sizeOf c) (answer s c .records) (z .0))) (mul-le-mul (size-small c) (z .1))
 
 pub reply-fits : (s : State) (c : Command) → Formed c → Sound s → length (reply s c .written) ≤ 56_324
 unfolding reply replyOf answerBytes bytesOf

@@ -82,7 +82,7 @@ returns-3 c store k =
     let n : row.configurationAllowed rows ≡ true = sym (c .before .before .before .before .before .before .before .read .ensures .0) ∙ y in
     configured (a .agent) (headOf (a .head)) rows store (now (a .answer)) (h .last .1 .1 .0) (record { agent = _; reason = 0 })
     (order e ∙ (rw (eq-eqb _ 0 (c .before .before .before .before .before .before .before .before .if1 .left), n)))
-    (ap (withRows (controlOf (a .agent))) (c .before .before .before .before .before .before .before .read .ensures .1 y)) refl refl (head-alone 0 (now (a .answer)) _ (h .ensures))
+    (ap (withRows (controlOf (a .agent))) (c .before .before .before .before .before .before .before .read .ensures .1 ∙ (rw y))) refl refl (head-alone 0 (now (a .answer)) _ (h .ensures))
 
 pub configure-spec : {M : Type 1} → statement M
 configure-spec =

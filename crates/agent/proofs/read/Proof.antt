@@ -11,7 +11,7 @@ use Rattle.rules.specs.Bytes.{if_then_else_}
 use Rattle.rules.specs.Frame.{READ}
 use Rattle.rules.specs.Call.{readReason, shown}
 use Rattle.rules.proofs.Formed.{Formed}
-use Rattle.rules.proofs.Sizes.{shown-sizes}
+use Rattle.rules.proofs.Sizes.{shown-sized}
 use Rattle.buffers.proofs.Splice.{length-window}
 use Rattle.entry_store.specs.Read.{keyIn, queryReason, Reads}
 use Rattle.entry_store.proofs.Queries.{key-length}
@@ -99,7 +99,7 @@ returns-3 c m k =
     let e : readReason (controlOf (a .agent)) q ≡ 0 =
     order (c .before .before .before .before .before .before .before .before .before .before .before) ∙ (rw (eq-eqb _ 0 (c .before .before .before .before .before .before .before .before .before .before .if1 .left))) ∙ sym (c .before .before .before .before .before .before .before .before .before .query-reason .ensures) ∙ c .before .before .before .before .before .before .before .before .if2 .left in
     let es = shown (stateOf (a .agent) s) q in
-    let z = shown-sizes (stateOf (a .agent) s) q k in
+    let z = shown-sized (stateOf (a .agent) s) q k in
     let t : Reads es (take (length d - 4) (drop 4 d)) (r .last .1 .1 .1 .1 .1 .1 .1 .0) (r .result) =
     subst (λ (x : List (List ℕ)). Reads x (take (length d - 4) (drop 4 d)) (r .last .1 .1 .1 .1 .1 .1 .1 .0) (r .result))
     (taken (a .agent) q s f k e) (r .ensures (tidy (a .agent) s k)) in

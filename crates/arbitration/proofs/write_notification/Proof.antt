@@ -9,7 +9,7 @@ use borrow.Rule.Slice.PartMut.{same-len-mid}
 use borrow.Author.Needs.{needs}
 use Rattle.rules.specs.Bytes.{bytesOf}
 use Rattle.rules.specs.Streams.{noticeOf}
-use Rattle.numbers.proofs.Bytes.{length-bytesOf}
+use Rattle.rules.proofs.Sizes.{bytes-length}
 use Rattle.buffers.specs.Splice.{splice}
 use Rattle.buffers.proofs.Splice.{part-copied, splice-front, splice-next}
 use Rattle.arbitration.specs.Meaning.{idOf}
@@ -72,7 +72,7 @@ returns c =
     let d : List ℕ = a .out .now in
     let xs : List ℕ = four c in
     let ys : List ℕ = bytesOf 16 (idOf (a .mark)) in
-    let n : length ys ≡ 16 = length-bytesOf 16 (idOf (a .mark)) in
+    let n : length ys ≡ 16 = bytes-length 16 (idOf (a .mark)) in
     let l : length (front c) ≡ length d = length-sets d 0 xs in
     part-copied (front c) (w .write .last .1 .0) ys 4 (length (front c) - 4) (w .write .ensures) (omega arith) (omega arith)
     ∙ ap (λ (x : List ℕ). splice x 4 ys) (sets-eq xs d 0 (omega arith) ∙ sym (splice-front d xs))

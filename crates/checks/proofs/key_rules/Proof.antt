@@ -1,6 +1,5 @@
 -- Right because the rule is the conjunction of the two. Assumes nothing.
 use borrow.Author.Needs.{needs}
-use Rattle.checks.proofs.Alongside.{left}
 use Rattle.checks.proofs.key_rules.Statement.{statement}
 use Rattle.checks.proofs.key_rules.Tie as tie
 

@@ -3,7 +3,6 @@ use Prim.Native.Nat.{ℕ}
 use borrow.Author.Needs.{needs}
 use borrow.Author.Tests.{le-leb, lt-leb}
 use Rattle.rules.specs.Key.{priorityRule}
-use Rattle.checks.proofs.Alongside.{left}
 use Rattle.checks.proofs.priority_rule.Statement.{statement}
 use Rattle.checks.proofs.priority_rule.Tie as tie
 

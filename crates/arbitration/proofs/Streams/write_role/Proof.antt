@@ -7,14 +7,15 @@ use mathlib.Core.Logic.{⊎-elim}
 use mathlib.Core.List.{List, map}
 use lib.ListN.{length, length-take, length-drop}
 use borrow.Author.Needs.{needs}
-use Rattle.rules.specs.Streams.{Streams, inRole, markOf, primary, noticeOf, notification, notifyAll}
+use Rattle.rules.specs.Streams.{Streams, inRole, markOf, noticeOf, notification, notifyAll}
 use Rattle.buffers.specs.Splice.{splice}
 use Rattle.buffers.proofs.Splice.{part-copied}
 use Rattle.arbitration.specs.Meaning.{idOf, primaryOf, streamsOf}
 use Rattle.rules.proofs.Lists.{length-mapped}
 use Rattle.arbitration.proofs.Listing.{left, left-next, left-none}
 use Rattle.arbitration.proofs.Surveys.{mark-read}
-use Rattle.arbitration.proofs.Notices.{notice-length, notice-is}
+use Rattle.rules.proofs.Sizes.{notification-length}
+use Rattle.arbitration.proofs.Notices.{notice-is}
 use Rattle.buffers.proofs.Written.{Written, written-none, written-next, written-same, written-length, written-all}
 use Rattle.arbitration.proofs.Streams.write_role.Statement.{statement}
 use Rattle.arbitration.proofs.Streams.write_role.Tie as tie
@@ -122,7 +123,7 @@ loop-again c =
     let q = ap (map (notification e r)) (next true (w .0 .taken)) in
     let x = notification e r k in
     let y = noticeOf (primaryOf (d .before .before .before .primary .result)) (idOf (d .before .mark-of .result)) r k in
-    let l : length x ≡ 20 = notice-length (primary e r) (markOf e r) r k in
+    let l : length x ≡ 20 = notification-length e r k in
     let z : y ≡ x = notice-is e r k (d .before .before .before .primary .ensures) (mark d) in
     let g : length y ≡ 20 = ap length z ∙ l in
     let f = w .2 in

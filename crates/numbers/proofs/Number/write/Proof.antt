@@ -7,7 +7,8 @@ use lib.ListN.{length}
 use Rattle.rules.specs.Bytes.{bytesOf}
 use Rattle.buffers.specs.Splice.{splice}
 use Rattle.buffers.proofs.Splice.{length-splice, part-copied, splice-next}
-use Rattle.numbers.proofs.Bytes.{length-bytesOf, bytesOf-append}
+use Rattle.rules.proofs.Sizes.{bytes-length}
+use Rattle.numbers.proofs.Bytes.{bytesOf-append}
 use borrow.Author.Needs.{needs}
 use Rattle.numbers.proofs.Number.write.Statement.{statement}
 use Rattle.numbers.proofs.Number.write.Tie as tie
@@ -37,8 +38,8 @@ returns c =
     let d : List ℕ = a .out .now in
     let hs : List ℕ = bytesOf 8 (a .self .high) in
     let ls : List ℕ = bytesOf 8 (a .self .low) in
-    let lh : length hs ≡ 8 = length-bytesOf 8 (a .self .high) in
-    let ll : length ls ≡ 8 = length-bytesOf 8 (a .self .low) in
+    let lh : length hs ≡ 8 = bytes-length 8 (a .self .high) in
+    let ll : length ls ≡ 8 = bytes-length 8 (a .self .low) in
     let ys : List ℕ = w .write-word .last .1 .0 in
     let e : ys ≡ splice d 0 hs = w .write-word .ensures in
     let n : length ys ≡ length d = ap length e ∙ length-splice d 0 hs (omega arith) in

@@ -1,17 +1,18 @@
--- Right because each turn tests a row by itself and reads it, and tables and sizes are tested at the end. Assumes nothing.
+-- Right because each turn tests and reads a row, tables and sizes are tested last, and a refusal has no rows. Assumes nothing.
 use Prim.Native.Nat.{ℕ, _+_, _*_, _-_, _≤_, _<_}
 use native.Mathlib.Omega.{arith}
-use mathlib.Core.Path.{_≡_, refl, sym, ap, _∙_}
-use mathlib.Core.Bool.{true, false, _&&_, false≢true}
-use mathlib.Core.List.{map}
+use mathlib.Core.Path.{_≡_, refl, sym, _∙_}
+use mathlib.Core.Bool.{true, false, _&&_}
+use mathlib.Core.List.{List, [], map}
 use lib.Dec.{leb}
 use lib.ListN.{length, length-set, length-take, length-drop}
 use borrow.Author.Needs.{needs}
-use borrow.Author.Tests.{not-true, not-false}
-use Rattle.rules.specs.Bytes.{every, sum, distinct, part, parts}
+use borrow.Author.Tests.{le-leb, lt-leb, not-true, not-false}
+use Rattle.rules.specs.Bytes.{if_then_else_, every, sum, distinct, part, parts}
 use Rattle.rules.specs.Row as rules
 use Rattle.rows.specs.declared.Rows.{Rows}
-use Rattle.rows.specs.Meaning.{rowOf, rowsOf, tablesOf, sizesOf}
+use Rattle.rows.specs.declared.Reading.{Reading}
+use Rattle.rows.specs.Meaning.{rowsOf, tablesOf, sizesOf}
 use Rattle.rows.proofs.Configuration.{alone, refused, decided, Taken, taken-next, taken-all}
 use Rattle.rows.proofs.Rows.read.Statement.{statement}
 use Rattle.rows.proofs.Rows.read.Tie as tie
@@ -54,6 +55,20 @@ verdict c =
     let a = d .before .before .args in
     decided (record { rows = d .loop .rows; count = a .t }) (parts (a .t) 53 (a .b .now)) (whole c .1) (whole c .0)
 
+-- no table is repeated
+once : (c : tie.Else2 Inv-loop μ-loop) →
+    let d = c .before .before .before in
+    distinct (tablesOf (record { rows = d .loop .rows; count = d .before .before .args .t })) ≡ true
+once c =
+    let g = c .before in
+    sym (g .tables-distinct .ensures) ∙ not-false (g .tables-distinct .result) (c .if2 .left)
+
+-- a refusal has no rows
+no-rows : (r : Reading) (ps : List (List ℕ)) → (r .allowed ≡ false) × (rowsOf (r .rows) ≡ [])
+    → false ≡ rules.configurationAllowed ps
+    → (r .allowed ≡ rules.configurationAllowed ps) × (rowsOf (r .rows) ≡ (if r .allowed then map rules.rowOf ps else []))
+no-rows r ps e f = (e .0 ∙ f, rw (e .0) (e .1))
+
 loop-holds : tie.Need-loop-holds Inv-loop μ-loop
 loop-holds c = (search needs, refl, λ k h. absurd (omega arith))
 
@@ -75,8 +90,8 @@ part-row-allowed-end c = search needs
 row-allowed-requires : tie.Need-row-allowed-requires Inv-loop μ-loop
 row-allowed-requires c κs = simp (length-take, length-drop) (omega arith)
 
-fresh-requires : tie.Need-fresh-requires Inv-loop μ-loop
-fresh-requires c κs = search needs
+refused-requires : tie.Need-refused-requires Inv-loop μ-loop
+refused-requires c κs = search needs
 
 returns : tie.Need-returns Inv-loop μ-loop
 returns c =
@@ -84,7 +99,8 @@ returns c =
     let d = e .before .before .before in
     let a = d .before .before .args in
     let own = sym (tested e) ∙ not-true (e .row-allowed .result) (c .before .if1 .taken) in
-    (refused (a .t) (d .loop .i) (a .b .now) (omega arith) own, λ q. absurd (false≢true q))
+    no-rows (c .refused .result) (parts (a .t) 53 (a .b .now)) (c .refused .ensures)
+    (refused (a .t) (d .loop .i) (a .b .now) (omega arith) own)
 
 sub-read : tie.Need-sub-read Inv-loop μ-loop
 sub-read c = search needs
@@ -125,32 +141,48 @@ loop-again c =
       taken-next b rows i (c .read .result) (omega arith) (d .loop .inv .2) own (rw w at (c .read .ensures)),
     )
 
-cast-t30 : tie.Need-cast-t30 Inv-loop μ-loop
-cast-t30 c = search needs
+cast-t28 : tie.Need-cast-t28 Inv-loop μ-loop
+cast-t28 c = search needs
 
 tables-distinct-requires : tie.Need-tables-distinct-requires Inv-loop μ-loop
 tables-distinct-requires c κs = search needs
 
-sizes-requires : tie.Need-sizes-requires Inv-loop μ-loop
-sizes-requires c κs = search needs
+refused-requires-2 : tie.Need-refused-requires-2 Inv-loop μ-loop
+refused-requires-2 c κs = search needs
 
 returns-2 : tie.Need-returns-2 Inv-loop μ-loop
 returns-2 c =
     let g = c .before .before in
     let e = g .before in
-    let d = e .before in
-    let all : Rows = record { rows = d .loop .rows; count = d .before .before .args .t } in
-    let once : distinct (tablesOf all) ≡ true = sym (g .tables-distinct .ensures) ∙ c .before .if2 .taken in
-    (ap (λ (n : ℕ). leb n 256) (c .sizes .ensures) ∙ rw once at (verdict e), λ _. whole e .1)
+    let a = e .before .before .before .args in
+    let all : Rows = record { rows = e .before .loop .rows; count = a .t } in
+    let twice : distinct (tablesOf all) ≡ false =
+    sym (g .tables-distinct .ensures) ∙ not-true (g .tables-distinct .result) (c .before .if2 .taken) in
+    no-rows (c .refused2 .result) (parts (a .t) 53 (a .b .now)) (c .refused2 .ensures) (rw twice at (verdict e))
+
+sizes-requires : tie.Need-sizes-requires Inv-loop μ-loop
+sizes-requires c κs = search needs
+
+refused-requires-3 : tie.Need-refused-requires-3 Inv-loop μ-loop
+refused-requires-3 c κs = search needs
 
 returns-3 : tie.Need-returns-3 Inv-loop μ-loop
 returns-3 c =
-    let g = c .before in
-    let e = g .before in
-    let d = e .before in
-    let all : Rows = record { rows = d .loop .rows; count = d .before .before .args .t } in
-    let twice : distinct (tablesOf all) ≡ false = sym (g .tables-distinct .ensures) ∙ c .if2 .left in
-    (c .if2 .left ∙ rw twice at (verdict e), λ _. whole e .1)
+    let z = c .before .before in
+    let e = z .before .before .before in
+    let a = e .before .before .before .args in
+    let all : Rows = record { rows = e .before .loop .rows; count = a .t } in
+    let over : leb (sum (sizesOf all)) 256 ≡ false = rw (z .sizes .ensures) at (lt-leb (z .sizes .result) 256 (c .before .if3 .taken)) in
+    no-rows (c .refused3 .result) (parts (a .t) 53 (a .b .now)) (c .refused3 .ensures) (rw (once (z .before), over) at (verdict e))
+
+returns-4 : tie.Need-returns-4 Inv-loop μ-loop
+returns-4 c =
+    let z = c .before in
+    let e = z .before .before .before in
+    let a = e .before .before .before .args in
+    let all : Rows = record { rows = e .before .loop .rows; count = a .t } in
+    let fit : leb (sum (sizesOf all)) 256 ≡ true = rw (z .sizes .ensures) at (le-leb (z .sizes .result) 256 (c .if3 .left)) in
+    (rw (once (z .before), fit) at (verdict e), whole e .1)
 
 pub read-spec : {M : Type 1} → statement M
 read-spec =
@@ -165,7 +197,7 @@ read-spec =
     part-row-allowed-start
     part-row-allowed-end
     row-allowed-requires
-    fresh-requires
+    refused-requires
     returns
     sub-read
     part-read-start
@@ -176,8 +208,11 @@ read-spec =
     add-i
     loop-less
     loop-again
-    cast-t30
+    cast-t28
     tables-distinct-requires
-    sizes-requires
+    refused-requires-2
     returns-2
-    returns-3)
+    sizes-requires
+    refused-requires-3
+    returns-3
+    returns-4)

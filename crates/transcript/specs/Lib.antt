@@ -1,0 +1,3 @@
+-- What `play` reads and prints, as bytes.
+pub mod Input
+pub mod Line
