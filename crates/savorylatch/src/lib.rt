@@ -1,0 +1,27 @@
+// The agent's way in for a host in C or Rust: the host holds the record and lends it to each call.
+ghost use Rattle.agent.specs.Contract.{Fresh, Meets};
+ghost use Rattle.savorylatch.specs.Host.{called};
+use agent::Agent;
+
+// Makes the record that the host holds fresh, for a device id.
+#[no_mangle]
+pub extern "C" fn savorylatch_new(agent: &mut Agent, device: u64)
+    ensures { λ _. ⌜ Fresh device (now (agent .exit)) ⌝ }
+{
+    *agent = Agent::new(device);
+}
+
+// One call over the record that the host holds: it becomes the one that the call by value returns.
+#[no_mangle]
+pub extern "C" fn savorylatch_call(
+    agent: &mut Agent,
+    frame: &[u8],
+    store: &mut [u8],
+    answer: &mut [u8],
+) -> u8
+    ensures { λ r. ⌜ Meets (now (agent .entry)) (now (frame .entry)) (now (store .entry)) (now (answer .entry)) (called (now (agent .exit)) r) (now (store .exit)) (now (answer .exit)) ⌝ }
+{
+    let called = agent::call(*agent, frame, store, answer);
+    *agent = called.agent;
+    called.reason
+}
