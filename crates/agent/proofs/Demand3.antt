@@ -1,23 +1,26 @@
 -- Demand 3: each call of a list finds the agent that the rules make of the calls before it, since every call leaves what the rules
 -- leave; the rules agree with looking back. Assumes nothing.
-use Prim.Native.Nat.{ℕ, _+_, _*_, _≤_}
+use Prim.Native.Nat.{ℕ, suc, _+_, _*_, _≤_, _<_}
 use native.Mathlib.Omega.{arith}
 use mathlib.Core.Path.{_≡_, refl, sym, ap, ap₂, _∙_, subst}
-use mathlib.Core.Bool.{Bool, true, false}
+use mathlib.Core.Bool.{Bool, true, false, _&&_, false≢true}
 use mathlib.Core.Logic.{_⊎_, _↔_}
 use mathlib.Core.List.{List, [], _∷_, _++_, map}
 use lib.ListN.{length, take, drop, length-append, length-drop}
 use lib.Seq.{take-append-le, drop-append-le}
-use Rattle.rules.specs.Bytes.{if_then_else_, bytesOf, concat, parts}
+use Rattle.rules.specs.Bytes.{if_then_else_, int, bytesOf, concat, parts}
 use Rattle.rules.specs.Reason.{codeOf, pairs}
-use Rattle.rules.specs.Frame.{Head, Update, Query, Command, WRITE, READ}
+use Rattle.rules.specs.Frame.{Head, Update, Query, Command, cramped, WRITE, READ}
 use Rattle.rules.specs.Answer.{Answer, Reply, answerBytes, replyOf}
-use Rattle.rules.specs.Call.{Call, State, fresh, accepted, refusal, plain, commandOf, next, reply, run}
+use Rattle.rules.specs.Call.{Call, State, fresh, accepted, refusal, plain, answer, commandOf, next, reply, run}
 use Rattle.rules.specs.LookBack.{Past, present, shows, tookEffect, noteUpdates, pairsSeen, someFailed, readSeen, answerSeen, replySeen}
 use Rattle.rules.specs.Agreement.{commandsOf, replyAfter, pastOf, pairAt}
 use Rattle.rules.specs.Authority.{Gives, Held}
 use Rattle.rules.specs.Sound.{Sound, EveryStored}
+use Rattle.rules.proofs.Formed.{call-formed}
 use Rattle.rules.proofs.Sound.{fresh-agent, sound}
+use Rattle.rules.proofs.Sizes.{answer-sized, count-read, write-count}
+use Rattle.rules.proofs.Replies.{written-whole}
 use Rattle.rules.proofs.Lists.{parts-lent}
 use Rattle.rules.proofs.LookBack.{fresh-shows, agreement, pairs-length}
 use Rattle.rules.proofs.Primary.{authority}
@@ -156,21 +159,51 @@ module _ (device : ℕ) (start : Agent) (store : List ℕ) (f : Fresh device sta
         is-filled ∙ ap (λ (x : List ℕ). x ++ drop (length x) (w .buffer)) b
         ∙ ap (λ (n : ℕ). (0 ∷ 0 ∷ bytesOf 2 (length asked) ++ concat asked) ++ drop n (w .buffer)) (head-length 0 0 (length asked) (concat asked))
 
+    -- the count in the answer's head
+    counts : (c ≡ cramped → ⊥) → int 2 2 (w .answer) ≡ length (answer s c .records)
+    counts n =
+        ap (int 2 2) (replied here .1 ∙ ap (λ (b : List ℕ). b ++ drop (length b) (w .buffer)) (written-whole s c n))
+        ∙ count-read (answer s c) _ (answer-sized s c (call-formed room (callOf w)) (sound room device calls) .1)
+
     takes-effect : (h : Head) (atomicity : ℕ) (earlier : List Update) (u : Update) (later : List Update)
-        → c ≡ WRITE h atomicity (earlier ++ u ∷ later) → accepted (shows p) c ≡ true
-        → (pairAt (length earlier) (w .answer) ≡ 0 ∷ 0 ∷ []) ↔ (tookEffect (noteUpdates p (h .role) earlier) (h .role) u ≡ true)
+        → c ≡ WRITE h atomicity (earlier ++ u ∷ later)
+        → ((length earlier < int 2 2 (w .answer)) × (pairAt (length earlier) (w .answer) ≡ 0 ∷ 0 ∷ []))
+        ↔ (accepted (shows p) c && tookEffect (noteUpdates p (h .role) earlier) (h .role) u ≡ true)
     unfolding replyAfter
-    takes-effect h atomicity earlier u later e a =
-        let us : List Update = earlier ++ u ∷ later in
-        let n : length (replySeen p c .written) ≡ 4 + 2 * length us =
-        ap (λ (x : Command). length (replySeen p x .written)) e
-        ∙ write-length p h atomicity us (subst (λ (x : Command). accepted (shows p) x ≡ true) e a) in
-        let b : pairAt (length earlier) (w .answer) ≡ pairAt (length earlier) (reply s c .written) =
-        ap (pairAt (length earlier)) is-filled
-        ∙ pair-in (length earlier) (replySeen p c .written) _ (omega (arith, length-append earlier (u ∷ later)))
-        ∙ ap (λ (r : Reply). pairAt (length earlier) (r .written)) (sym agrees) in
-        subst (λ (x : List ℕ). (x ≡ 0 ∷ 0 ∷ []) ↔ (tookEffect (noteUpdates p (h .role) earlier) (h .role) u ≡ true)) (sym b)
-        (agreement room device calls (callOf w) .updates h atomicity earlier u later e a)
+    takes-effect h atomicity earlier u later e = go (accepted (shows p) c) refl
+      where
+        us : List Update
+        us = earlier ++ u ∷ later
+
+        T : Bool
+        T = tookEffect (noteUpdates p (h .role) earlier) (h .role) u
+
+        write : (x : Command) → x ≡ WRITE h atomicity us → x ≡ cramped → ⊥
+        write x q z = let w : _≡_ {A = ℕ} 0 1 = cc in omega arith
+
+        -- a pair for each update where the WRITE is accepted, and none where it is refused
+        number : int 2 2 (w .answer) ≡ (if accepted (shows p) c then length us else 0)
+        number =
+            counts (write c e) ∙ ap (λ (x : Command). length (answer s x .records)) e ∙ write-count s h atomicity us
+            ∙ ap₂ (λ (t : State) (x : Command). if accepted t x then length us else 0) (fresh-shows device (commandsOf room calls)) (sym e)
+
+        go : (b : Bool) → accepted (shows p) c ≡ b
+            → ((length earlier < int 2 2 (w .answer)) × (pairAt (length earlier) (w .answer) ≡ 0 ∷ 0 ∷ [])) ↔ (b && T ≡ true)
+        go true a =
+            let n : length (replySeen p c .written) ≡ 4 + 2 * length us =
+            ap (λ (x : Command). length (replySeen p x .written)) e
+            ∙ write-length p h atomicity us (subst (λ (x : Command). accepted (shows p) x ≡ true) e a) in
+            let k : length us ≡ length earlier + suc (length later) = length-append earlier (u ∷ later) in
+            let m : int 2 2 (w .answer) ≡ length us = number ∙ (rw a) in
+            let b : pairAt (length earlier) (w .answer) ≡ pairAt (length earlier) (reply s c .written) =
+            ap (pairAt (length earlier)) is-filled
+            ∙ pair-in (length earlier) (replySeen p c .written) _ (omega arith)
+            ∙ ap (λ (r : Reply). pairAt (length earlier) (r .written)) (sym agrees) in
+            let i = agreement room device calls (callOf w) .updates h atomicity earlier u later e a in
+            (λ z. i .0 (sym b ∙ z .1), λ t. (omega arith, b ∙ i .1 t))
+        go false a =
+            let m : int 2 2 (w .answer) ≡ 0 = number ∙ (rw a) in
+            (λ z. absurd (let l = z .0 in omega (arith, l)), λ t. absurd (false≢true t))
 
   -- a READ in its stead and after it
   reads-alike : ((role id : ℕ) → Gives role id c → Held role id (eventsIn device store before) → ⊥)

@@ -7,12 +7,12 @@
 -- claimed is told from the frames and the lengths alone, in the words of the rules: accepted, took effect, present, holds,
 -- highest. Assumes nothing.
 use mathlib.Core.Path.{_≡_}
-use mathlib.Core.Bool.{true}
+use mathlib.Core.Bool.{true, _&&_}
 use mathlib.Core.Logic.{_⊎_, _↔_}
 use mathlib.Core.List.{List, [], _∷_, _++_, map}
-use Prim.Native.Nat.{ℕ, _+_, _*_}
+use Prim.Native.Nat.{ℕ, _+_, _*_, _<_}
 use lib.ListN.{length, take, drop}
-use Rattle.rules.specs.Bytes.{bytesOf, concat}
+use Rattle.rules.specs.Bytes.{int, bytesOf, concat}
 use Rattle.rules.specs.Frame.{Head, Update, Query, Command, WRITE, READ}
 use Rattle.rules.specs.Call.{Call, accepted, commandOf}
 use Rattle.rules.specs.LookBack.{Past, present, shows, tookEffect, noteUpdates, readSeen, replySeen}
@@ -77,12 +77,13 @@ pub record Answered (device : ℕ) (start : Agent) (store : List ℕ) (before : 
   -- The entries present are those that document 01 describes, in its order; each is 220 bytes in shortest form.
   pub described : Describes (pastIn device store before .effects) (present (pastIn device store before .effects))
   pub shortest : EveryStored (present (pastIn device store before .effects))
-  -- 3. An update of an accepted WRITE is answered (0, 0) exactly when it took effect.
+  -- 3. An update of a WRITE is answered (0, 0), its pair being one of those that the answer counts, exactly when it took effect:
+  -- the WRITE is accepted, and the update is refused under no reason after the updates before it.
   pub updates : (h : Head) (atomicity : ℕ) (earlier : List Update) (u : Update) (later : List Update)
       → commandIn store w ≡ WRITE h atomicity (earlier ++ u ∷ later)
-      → accepted (shows (pastIn device store before)) (commandIn store w) ≡ true
-      → (pairAt (length earlier) (w .answer) ≡ 0 ∷ 0 ∷ [])
-      ↔ (tookEffect (noteUpdates (pastIn device store before) (h .role) earlier) (h .role) u ≡ true)
+      → ((length earlier < int 2 2 (w .answer)) × (pairAt (length earlier) (w .answer) ≡ 0 ∷ 0 ∷ []))
+      ↔ (accepted (shows (pastIn device store before)) (commandIn store w)
+      && tookEffect (noteUpdates (pastIn device store before) (h .role) earlier) (h .role) u ≡ true)
   -- 4. An accepted CONFIGURE, and an accepted WRITE, which every update that takes effect stands in, gave the highest id accepted
   -- until then for its role, while exactly one open stream of that role, the live primary, held it.
   pub given : (role id : ℕ) → Gives role id (commandIn store w)

@@ -8,13 +8,13 @@ use native.Mathlib.Nat.{le-trans, le-of-eq, mul-le-mul}
 use native.Mathlib.Omega.{arith}
 use lib.Dec.{eqb}
 use lib.ListN.{length, getD, length-append, length-map, length-set}
-use Rattle.rules.specs.Bytes.{if_then_else_, keep, concat, sum, between, bytesOf}
+use Rattle.rules.specs.Bytes.{if_then_else_, keep, concat, sum, between, numberFrom, int, bytesOf}
 use Rattle.rules.specs.Frame.{Head, Update, Query, Command, cramped, malformed, OPEN, CLOSE, ARBITRATE, CONFIGURE, WRITE, READ}
 use Rattle.rules.specs.Streams.{Stream, closed, unbound, bound, Streams, numbers, inRole, members, noticeOf, notification, notifyAll, is, primary, become, streamAt, leaving, closeReason, openStream, closeRecords, closeStream, arbitrateReason, binds, samePair, bindRecords, arbitrate}
 use Rattle.rules.specs.Row.{Row}
 use Rattle.rules.specs.Key.{hasKey, shortKey}
 use Rattle.rules.specs.Update.{Tables, inTable, held, judge, apply, batch}
-use Rattle.rules.specs.Answer.{answerBytes, replyOf}
+use Rattle.rules.specs.Answer.{Answer, answerBytes, replyOf}
 use Rattle.rules.specs.Call.{State, Call, fresh, refusal, accepted, plain, pairOf, headOf, batchOf, asked, gathered, shown, answer, commandOf, reply, run}
 use Rattle.rules.specs.Agreement.{commandsOf, replyAfter}
 use Rattle.rules.specs.Sound.{EveryStored, Within, Sound}
@@ -215,6 +215,25 @@ answer-small : (s : State) (c : Command) → Formed c → Sound s → length (co
 answer-small s c f ok =
     let z = answer-sized s c f ok in
     le-trans (le-of-eq (concat-length (sizeOf c) (answer s c .records) (z .0))) (mul-le-mul (size-small c) (z .1))
+
+-- the count in an answer's head is that of its records
+pub count-read : (a : Answer) (rest : List ℕ) → length (a .records) ≤ 256 → int 2 2 (answerBytes a ++ rest) ≡ length (a .records)
+unfolding answerBytes bytesOf numberFrom
+count-read a rest h = omega arith
+
+-- a WRITE has a pair for each update where it is accepted, and none where it is refused
+pub write-count : (s : State) (h : Head) (atomicity : ℕ) (us : List Update)
+    → length (answer s (WRITE h atomicity us) .records) ≡ (if accepted s (WRITE h atomicity us) then length us else 0)
+unfolding answer
+write-count s h atomicity us = go (accepted s (WRITE h atomicity us))
+  where
+    rs : List ℕ
+    rs = batchOf s h us .reasons
+
+    go : (b : Bool) → length ((if b then record { reason = headOf rs; records = map pairOf rs } else plain (refusal s (WRITE h atomicity us))) .records)
+        ≡ (if b then length us else 0)
+    go true = length-map rs pairOf ∙ reasons-count (s .control .rows) (h .role) (s .tables) us
+    go false = refl
 
 pub reply-fits : (s : State) (c : Command) → Formed c → Sound s → length (reply s c .written) ≤ 56_324
 unfolding reply replyOf answerBytes bytesOf

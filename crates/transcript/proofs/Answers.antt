@@ -10,14 +10,14 @@ use lib.Dec.{eqb, lit≤}
 use lib.ListN.{length, drop, length-append}
 use lib.Seq.{take-at, drop-at}
 use borrow.Author.Tests.{le-leb}
-use Rattle.rules.specs.Bytes.{if_then_else_, concat, byte, int, parts, numberFrom, bytesOf}
+use Rattle.rules.specs.Bytes.{if_then_else_, concat, byte, int, parts, bytesOf}
 use Rattle.rules.specs.Frame.{Head, Command, malformed, OPEN, CLOSE, ARBITRATE, CONFIGURE, WRITE, READ, headAt, queryOf, updateOf, streamFormed, arbitrateFormed, configureFormed, writeFormed, readFormed, formed, configureOf, writeOf, readFrame}
 use Rattle.rules.specs.Reason.{codeOf}
 use Rattle.rules.specs.Answer.{Answer, answerBytes}
 use Rattle.rules.specs.Call.{State, answer}
 use Rattle.rules.specs.Sound.{Sound}
 use Rattle.rules.proofs.Formed.{EveryLength, Formed, frame-formed}
-use Rattle.rules.proofs.Sizes.{concat-length, Sized, sizeOf, answer-sized}
+use Rattle.rules.proofs.Sizes.{concat-length, count-read, Sized, sizeOf, answer-sized}
 use Rattle.transcript.specs.Line.{printed, lineOf, recordSize, fits, lineIn}
 use Rattle.transcript.proofs.Fitting.{by-room, lineIn-whole}
 
@@ -41,16 +41,12 @@ module _ (a : Answer) (rest : List ℕ) where
   unfolding answerBytes bytesOf
   head = refl
 
-  counted : count ≤ 256 → int 2 2 (answerBytes a ++ rest) ≡ count
-  unfolding numberFrom
-  counted h = rw head (omega arith)
-
 pub line-of-answer : (room ordinal size : ℕ) (a : Answer) (rest : List ℕ) → size ≤ 220 → EveryLength size (a .records) → length (a .records) ≤ 256
     → 112_980 ≤ room → lineIn room ordinal size (answerBytes a ++ rest) ≡ lineOf ordinal a
 line-of-answer room ordinal size a rest narrow h few space =
     let bytes : List ℕ = answerBytes a ++ rest in
     let n : ℕ = length (a .records) in
-    let e : int 2 2 bytes ≡ n = counted a rest few in
+    let e : int 2 2 bytes ≡ n = count-read a rest few in
     let l : length bytes ≡ 4 + (length (concat (a .records)) + length rest) = omega (arith, ap length (head a rest), length-append (concat (a .records)) rest) in
     let k : length (concat (a .records)) ≡ size * n = concat-length size (a .records) h in
     let m : (1 + 2 * size) * n ≤ 112_896 = mul-le-mul {n₁ = 1 + 2 * size} {m₁ = n} {n₂ = 441} {m₂ = 256} (omega arith) few in
