@@ -169,7 +169,7 @@ module _ (device : ℕ) (start : Agent) (store : List ℕ) (f : Fresh device sta
         → c ≡ WRITE h atomicity (earlier ++ u ∷ later)
         → ((length earlier < int 2 2 (w .answer)) × (pairAt (length earlier) (w .answer) ≡ 0 ∷ 0 ∷ []))
         ↔ (accepted (shows p) c && tookEffect (noteUpdates p (h .role) earlier) (h .role) u ≡ true)
-    unfolding replyAfter
+    unfolding replyAfter pastOf
     takes-effect h atomicity earlier u later e = go (accepted (shows p) c) refl
       where
         us : List Update
