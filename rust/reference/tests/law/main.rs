@@ -1,0 +1,14 @@
+//! Document 01 as tests. Expected answers are written out from the text; every
+//! call is played to the agent and to the look-back evaluator alike.
+
+mod bench_cases;
+mod configuration;
+mod forms;
+mod frames;
+mod lists;
+mod looking_back;
+mod reads;
+mod reasons;
+mod streams;
+mod support;
+mod writes;

@@ -1,0 +1,420 @@
+//! Entries, and what they are made of.
+
+use std::fmt;
+
+use crate::bytes::take;
+
+/// An entry of a table.
+///
+/// ```
+/// use savorylatch::frame::{Entry, Slot, Value};
+///
+/// // 10.0.0.0/8 goes to port 7.
+/// let entry = Entry::new(0x0200_0001, 0, [Slot::lpm(0x0a00_0000, 8)], 0x0100_0001, [Value::new(7)]);
+/// assert_eq!(entry.slots[1], Slot::Omitted);
+/// assert_eq!(entry.parameters, [Some(Value::new(7)), None, None, None]);
+/// ```
+#[derive(Clone, Copy, Debug, PartialEq, Eq)]
+pub struct Entry {
+    /// The table's id.
+    pub table: u32,
+    /// 1 to 2,147,483,647 in a table with a ternary, range or optional field, else 0.
+    pub priority: u32,
+    /// A slot for each field of the table; those after the last field are omitted.
+    pub slots: [Slot; 4],
+    /// The id of one of the row's actions.
+    pub action: u32,
+    /// A value for each parameter of the action, and `None` after the last.
+    pub parameters: [Option<Value>; 4],
+}
+
+impl Entry {
+    /// With up to four slots and up to four parameters, the others not used. More do not compile:
+    ///
+    /// ```compile_fail
+    /// # use savorylatch::frame::{Entry, Slot};
+    /// Entry::new(0x0200_0001, 0, [Slot::Omitted; 5], 0x0100_0001, []);
+    /// ```
+    pub fn new<const S: usize, const P: usize>(
+        table: u32,
+        priority: u32,
+        slots: [Slot; S],
+        action: u32,
+        parameters: [Value; P],
+    ) -> Entry {
+        const { assert!(S <= 4 && P <= 4, "four slots and four parameters at most") };
+        let mut entry = Entry {
+            table,
+            priority,
+            slots: [Slot::Omitted; 4],
+            action,
+            parameters: [None; 4],
+        };
+        entry.slots[..S].copy_from_slice(&slots);
+        entry.parameters[..P].copy_from_slice(&parameters.map(Some));
+        entry
+    }
+
+    fn put(&self, frame: &mut Vec<u8>) {
+        frame.extend(self.table.to_be_bytes());
+        put_key(self.priority, &self.slots, frame);
+        frame.extend(self.action.to_be_bytes());
+        for parameter in self.parameters {
+            put_value(parameter, frame);
+        }
+    }
+
+    /// Reads the 220 bytes of a record; `None` if they are not such.
+    pub(crate) fn read(mut record: &[u8]) -> Option<Entry> {
+        let from = &mut record;
+        let entry = Entry {
+            table: u32::from_be_bytes(take(from)?),
+            priority: u32::from_be_bytes(take(from)?),
+            slots: [
+                Slot::read(from)?,
+                Slot::read(from)?,
+                Slot::read(from)?,
+                Slot::read(from)?,
+            ],
+            action: u32::from_be_bytes(take(from)?),
+            parameters: [
+                read_value(from)?,
+                read_value(from)?,
+                read_value(from)?,
+                read_value(from)?,
+            ],
+        };
+        from.is_empty().then_some(entry)
+    }
+}
+
+/// Writes a key without its table.
+pub(super) fn put_key(priority: u32, slots: &[Slot; 4], frame: &mut Vec<u8>) {
+    frame.extend(priority.to_be_bytes());
+    for slot in slots {
+        slot.put(frame);
+    }
+}
+
+/// An update of a WRITE.
+#[derive(Clone, Copy, Debug, PartialEq, Eq)]
+pub struct Update {
+    /// What is done.
+    pub kind: UpdateKind,
+    /// With which entry.
+    pub entry: Entry,
+}
+
+/// The types of updates; the discriminant is the number in a frame.
+#[derive(Clone, Copy, Debug, PartialEq, Eq, Hash)]
+#[repr(u8)]
+pub enum UpdateKind {
+    /// Puts a new entry after the others.
+    Insert = 1,
+    /// Replaces action and parameters of the entry that has the key.
+    Modify = 2,
+    /// Removes the entry that has the key. Action and parameters must be allowed too.
+    Delete = 3,
+}
+
+impl Update {
+    /// INSERT of an entry.
+    pub fn insert(entry: Entry) -> Update {
+        let kind = UpdateKind::Insert;
+        Update { kind, entry }
+    }
+
+    /// MODIFY of the entry that has this one's key.
+    pub fn modify(entry: Entry) -> Update {
+        let kind = UpdateKind::Modify;
+        Update { kind, entry }
+    }
+
+    /// DELETE of the entry that has this one's key.
+    pub fn delete(entry: Entry) -> Update {
+        let kind = UpdateKind::Delete;
+        Update { kind, entry }
+    }
+
+    pub(super) fn put(&self, frame: &mut Vec<u8>) {
+        frame.push(self.kind as u8);
+        self.entry.put(frame);
+    }
+}
+
+/// What an entry asks of one field. The kind is the field's, or the slot is omitted.
+///
+/// The functions with lowercase names take numbers as they are:
+///
+/// ```
+/// use savorylatch::frame::{Slot, Value};
+///
+/// assert_eq!(Slot::range(0, 0xfe), Slot::Range(Value::new(0), Value::new(0xfe)));
+/// ```
+#[derive(Clone, Copy, Debug, Default, PartialEq, Eq)]
+pub enum Slot {
+    /// Nothing is asked. Not for an exact field.
+    #[default]
+    Omitted,
+    /// The value.
+    Exact(Value),
+    /// A value and the length of its prefix, 1 to the field's width.
+    Lpm(Value, u8),
+    /// A value and a mask.
+    Ternary(Value, Value),
+    /// The lowest and the highest value.
+    Range(Value, Value),
+    /// The value, of an optional field.
+    Optional(Value),
+}
+
+impl Slot {
+    /// An exact value.
+    pub fn exact(value: impl Into<Value>) -> Slot {
+        Slot::Exact(value.into())
+    }
+
+    /// A value and the length of its prefix.
+    pub fn lpm(value: impl Into<Value>, prefix: u8) -> Slot {
+        Slot::Lpm(value.into(), prefix)
+    }
+
+    /// A value and a mask.
+    pub fn ternary(value: impl Into<Value>, mask: impl Into<Value>) -> Slot {
+        Slot::Ternary(value.into(), mask.into())
+    }
+
+    /// The lowest and the highest value.
+    pub fn range(low: impl Into<Value>, high: impl Into<Value>) -> Slot {
+        Slot::Range(low.into(), high.into())
+    }
+
+    /// The value of an optional field.
+    pub fn optional(value: impl Into<Value>) -> Slot {
+        Slot::Optional(value.into())
+    }
+
+    fn put(&self, frame: &mut Vec<u8>) {
+        let (kind, first, second) = match *self {
+            Slot::Omitted => (0, None, None),
+            Slot::Exact(value) => (1, Some(value), None),
+            Slot::Lpm(value, prefix) => (2, Some(value), Some(Value::new(prefix.into()))),
+            Slot::Ternary(value, mask) => (3, Some(value), Some(mask)),
+            Slot::Range(low, high) => (4, Some(low), Some(high)),
+            Slot::Optional(value) => (5, Some(value), None),
+        };
+        frame.push(kind);
+        put_value(first, frame);
+        put_value(second, frame);
+    }
+
+    fn read(from: &mut &[u8]) -> Option<Slot> {
+        let [kind] = take(from)?;
+        match (kind, read_value(from)?, read_value(from)?) {
+            (0, None, None) => Some(Slot::Omitted),
+            (1, Some(value), None) => Some(Slot::Exact(value)),
+            (2, Some(value), Some(prefix)) => {
+                let prefix = prefix.number().try_into().ok()?;
+                Some(Slot::Lpm(value, prefix))
+            }
+            (3, Some(value), Some(mask)) => Some(Slot::Ternary(value, mask)),
+            (4, Some(low), Some(high)) => Some(Slot::Range(low, high)),
+            (5, Some(value), None) => Some(Slot::Optional(value)),
+            _ => None,
+        }
+    }
+}
+
+/// A number in one to sixteen bytes, the highest first.
+///
+/// Two values are equal if they have the same bytes. The agent goes by the number: it takes leading
+/// zero bytes, stores values in shortest form, and answers so.
+///
+/// ```
+/// use savorylatch::frame::Value;
+///
+/// let shortest = Value::new(0x1ff);
+/// assert_eq!(shortest.as_bytes(), [0x01, 0xff]);
+///
+/// let padded = Value::from_bytes(&[0x00, 0x01, 0xff]).unwrap();
+/// assert_ne!(padded, shortest);
+/// assert_eq!(padded.number(), shortest.number());
+/// assert_eq!(padded.to_string(), "0x0001ff");
+/// ```
+#[derive(Clone, Copy, PartialEq, Eq, Hash)]
+pub struct Value {
+    /// 1 to 16.
+    length: u8,
+    /// 0 after the first `length`.
+    bytes: [u8; 16],
+}
+
+impl Value {
+    /// In shortest form: without leading zero bytes, and zero as one.
+    pub const fn new(number: u128) -> Value {
+        let length = match number {
+            0 => 1,
+            _ => 16 - number.leading_zeros() / 8,
+        };
+        Value {
+            length: length as u8,
+            bytes: (number << (8 * (16 - length))).to_be_bytes(),
+        }
+    }
+
+    /// One to sixteen bytes as they are, with leading zeros; `None` for no bytes or more.
+    pub fn from_bytes(bytes: &[u8]) -> Option<Value> {
+        let mut value = Value {
+            length: u8::try_from(bytes.len())
+                .ok()
+                .filter(|&length| length > 0)?,
+            bytes: [0; 16],
+        };
+        value.bytes.get_mut(..bytes.len())?.copy_from_slice(bytes);
+        Some(value)
+    }
+
+    /// The number.
+    pub const fn number(&self) -> u128 {
+        u128::from_be_bytes(self.bytes) >> (8 * (16 - self.length))
+    }
+
+    /// The bytes, leading zeros included.
+    pub fn as_bytes(&self) -> &[u8] {
+        &self.bytes[..usize::from(self.length)]
+    }
+}
+
+impl From<u128> for Value {
+    /// In shortest form.
+    fn from(number: u128) -> Value {
+        Value::new(number)
+    }
+}
+
+impl fmt::Display for Value {
+    fn fmt(&self, f: &mut fmt::Formatter<'_>) -> fmt::Result {
+        f.write_str("0x")?;
+        self.as_bytes()
+            .iter()
+            .try_for_each(|byte| write!(f, "{byte:02x}"))
+    }
+}
+
+impl fmt::Debug for Value {
+    fn fmt(&self, f: &mut fmt::Formatter<'_>) -> fmt::Result {
+        fmt::Display::fmt(self, f)
+    }
+}
+
+/// Writes a value, or 17 zero bytes where none is due.
+fn put_value(value: Option<Value>, frame: &mut Vec<u8>) {
+    let (length, bytes) = value.map_or((0, [0; 16]), |value| (value.length, value.bytes));
+    frame.push(length);
+    frame.extend(bytes);
+}
+
+/// Reads a value; the outer `None` is for bytes that are none, the inner one for 17 zero bytes.
+fn read_value(from: &mut &[u8]) -> Option<Option<Value>> {
+    let [length] = take(from)?;
+    let bytes: [u8; 16] = take(from)?;
+    let (number, padding) = bytes.split_at_checked(usize::from(length))?;
+    let clean = padding.iter().all(|&byte| byte == 0);
+    clean.then(|| Value::from_bytes(number))
+}
+
+#[cfg(test)]
+mod tests {
+    use super::*;
+
+    fn bytes_of(entry: &Entry) -> Vec<u8> {
+        let mut bytes = Vec::new();
+        entry.put(&mut bytes);
+        bytes
+    }
+
+    /// One entry with a slot of each of four kinds, and one with the other two.
+    fn entries() -> [Entry; 2] {
+        let slots = [
+            Slot::exact(u128::MAX),
+            Slot::lpm(0x0a00_0000, 8),
+            Slot::ternary(0, 1),
+            Slot::range(0, 0xfe),
+        ];
+        let padded = Value::from_bytes(&[0, 0, 3]).unwrap();
+        let parameters = [1, 2, 300, 1 << 120].map(Value::new);
+        [
+            Entry::new(0x0200_0001, u32::MAX, slots, 0x0100_0001, parameters),
+            Entry::new(
+                0x02ff_ffff,
+                0,
+                [Slot::Omitted, Slot::optional(padded)],
+                0x01ff_ffff,
+                [padded],
+            ),
+        ]
+    }
+
+    #[test]
+    fn what_is_written_is_read() {
+        for entry in entries() {
+            let bytes = bytes_of(&entry);
+            assert_eq!(bytes.len(), 220);
+            assert_eq!(Entry::read(&bytes), Some(entry));
+            assert_eq!(Entry::read(&bytes[..219]), None);
+            assert_eq!(Entry::read(&[&bytes[..], &[0]].concat()), None);
+        }
+    }
+
+    #[test]
+    fn what_is_no_entry_is_not_read() {
+        // Where a byte is changed, and to what.
+        let slot = |k: usize| 8 + 35 * k;
+        for (at, byte) in [
+            (slot(0), 6),      // no such kind
+            (slot(0), 0),      // omitted, with a value
+            (slot(0) + 18, 1), // exact, with a second value
+            (slot(1) + 1, 0),  // a length that does not cover the bytes
+            (slot(1) + 1, 17), // a length over 16
+            (slot(1) + 17, 1), // padding
+            (slot(1) + 18, 2), // a prefix length over 255
+            (152, 17),         // a parameter's length over 16
+            (152 + 16, 1),     // a parameter's padding
+        ] {
+            let mut bytes = bytes_of(&entries()[0]);
+            bytes[at] = byte;
+            assert_eq!(Entry::read(&bytes), None, "{at}: {byte}");
+        }
+        let mut missing = bytes_of(&entries()[0]);
+        missing[slot(3) + 18..slot(3) + 35].fill(0);
+        assert_eq!(Entry::read(&missing), None, "a range without its highest");
+    }
+
+    #[test]
+    fn values_in_shortest_form() {
+        for (number, bytes) in [
+            (0, &[0][..]),
+            (1, &[1]),
+            (0xff, &[0xff]),
+            (0x100, &[1, 0]),
+            (1 << 64, &[1, 0, 0, 0, 0, 0, 0, 0, 0]),
+            (u128::MAX, &[0xff; 16]),
+            (u128::MAX >> 8, &[0xff; 15]),
+        ] {
+            let value = Value::new(number);
+            assert_eq!(value.as_bytes(), bytes);
+            assert_eq!(value.number(), number);
+            assert_eq!(Value::from_bytes(bytes), Some(value));
+        }
+    }
+
+    #[test]
+    fn values_from_bytes() {
+        assert_eq!(Value::from_bytes(&[]), None);
+        assert_eq!(Value::from_bytes(&[0; 17]), None);
+        assert_eq!(Value::from_bytes(&[0; 256]), None);
+        assert_eq!(Value::from_bytes(&[0; 16]).unwrap().number(), 0);
+        let padded = Value::from_bytes(&[0, 1, 0]).unwrap();
+        assert_eq!((padded.number(), padded.as_bytes()), (256, &[0, 1, 0][..]));
+    }
+}
