@@ -20,6 +20,9 @@ use Rattle.rules.proofs.Formed.{parts-count, Formed}
 use Rattle.rules.proofs.Orders.{first-more}
 use Rattle.rules.proofs.OneKey.{one-key}
 use Rattle.buffers.specs.Splice.{splice}
+use Rattle.arbitration.specs.declared.Streams.{Streams}
+use Rattle.arbitration.specs.declared.Notify.{Notify}
+use Rattle.arbitration.specs.Meaning.{streamsOf, recordsOf}
 use Rattle.entries.specs.Store.{entriesIn, tablesIn}
 use Rattle.entry_store.specs.declared.Written.{Written}
 use Rattle.entry_store.specs.Update.{Tidy, BatchApplied}
@@ -28,7 +31,7 @@ use Rattle.agent.specs.declared.Agent.{Agent}
 use Rattle.agent.specs.declared.Called.{Called}
 use Rattle.agent.specs.Meaning.{controlOf, stateOf}
 use Rattle.agent.specs.Contract.{Kept, Obeyed}
-use Rattle.agent.specs.Handlers.{Refused, Heard, ObeysAny}
+use Rattle.agent.specs.Handlers.{Refused, ObeysAny}
 use Rattle.agent.proofs.Answers.{replies, fills}
 
 -- a command that leaves the store as it is
@@ -52,32 +55,38 @@ module _ (a : Agent) (c : Command) (store d : List ℕ) (r : Called) (out : List
 
 -- ---- OPEN, CLOSE, ARBITRATE
 
-module _ (a : Agent) (r : Called) (d out : List ℕ) where
-  with-streams : (o : streams.Outcome) (store : List ℕ) → Heard a o r d out
-      → stateOf (r .agent) store ≡ record { control = withStreams (controlOf a) (o .after); tables = tablesIn (a .count) store }
-  unfolding stateOf
-  with-streams o store h =
-      ap₂ (λ (k : Control) (n : ℕ). record { control = k; tables = tablesIn n store }) (h .control) (h .count)
+-- the record with other streams, and the answer of the event that left them
+module _ (a : Agent) (left : Streams) (reason : ℕ) (d out : List ℕ) where
+  abbrev after : Called
+  after = record { agent = record { device = a .device; streams = left; rows = a .rows; count = a .count }; reason = reason }
 
-  pub open-obeyed : (n : ℕ) → Heard a (streams.openStream (controlOf a .streams) n) r d out → ObeysAny a (OPEN n) r d out
-  unfolding stateOf next nextControl nextTables answer
-  open-obeyed n h store k =
-      store-stays a (OPEN n) store d r out (λ z. let w : _≡_ {A = ℕ} 0 1 = cc in omega arith) (heard (streams.openStream (controlOf a .streams) n)) refl
-      (with-streams (streams.openStream (controlOf a .streams) n) store h) (h .returned) (h .filled)
+  module _ (notify : Notify) (f : out ≡ splice d 0 (answerBytes (record { reason = reason; records = recordsOf notify (streamsOf left) }))) where
+    -- the outcome of the event, as it was computed
+    abbrev outcome : streams.Outcome
+    outcome = record { after = streamsOf left; reason = reason; records = recordsOf notify (streamsOf left) }
 
-  pub close-obeyed : (n : ℕ) → Heard a (streams.closeStream (controlOf a .streams) n) r d out → ObeysAny a (CLOSE n) r d out
-  unfolding stateOf next nextControl nextTables answer
-  close-obeyed n h store k =
-      store-stays a (CLOSE n) store d r out (λ z. let w : _≡_ {A = ℕ} 0 1 = cc in omega arith) (heard (streams.closeStream (controlOf a .streams) n)) refl
-      (with-streams (streams.closeStream (controlOf a .streams) n) store h) (h .returned) (h .filled)
+    event-obeyed : (c : Command) → (c ≡ cramped → ⊥) → (o : streams.Outcome) → outcome ≡ o
+        → ((store : List ℕ) → answer (stateOf a store) c ≡ heard o)
+        → ((store : List ℕ) → next (stateOf a store) c ≡ record { control = withStreams (controlOf a) (o .after); tables = tablesIn (a .count) store })
+        → ObeysAny a c after d out
+    unfolding stateOf
+    event-obeyed c n o e told left′ store k =
+        store-stays a c store d after out n (heard outcome) (told store ∙ ap heard (sym e))
+        (sym (left′ store ∙ ap (λ (x : streams.Outcome). record { control = withStreams (controlOf a) (x .after); tables = tablesIn (a .count) store }) (sym e)))
+        refl f
 
-  pub arbitrate-obeyed : (n : ℕ) (head : Head) → Heard a (streams.arbitrate (a .device) (controlOf a .streams) n head) r d out
-      → ObeysAny a (ARBITRATE n head) r d out
-  unfolding stateOf next nextControl nextTables answer
-  arbitrate-obeyed n head h store k =
-      store-stays a (ARBITRATE n head) store d r out (λ z. let w : _≡_ {A = ℕ} 0 1 = cc in omega arith)
-      (heard (streams.arbitrate (a .device) (controlOf a .streams) n head)) refl
-      (with-streams (streams.arbitrate (a .device) (controlOf a .streams) n head) store h) (h .returned) (h .filled)
+    pub open-obeyed : (n : ℕ) → outcome ≡ streams.openStream (controlOf a .streams) n → ObeysAny a (OPEN n) after d out
+    unfolding stateOf next nextControl nextTables answer
+    open-obeyed n e = event-obeyed (OPEN n) (λ z. let w : _≡_ {A = ℕ} 0 1 = cc in omega arith) _ e (λ s. refl) (λ s. refl)
+
+    pub close-obeyed : (n : ℕ) → outcome ≡ streams.closeStream (controlOf a .streams) n → ObeysAny a (CLOSE n) after d out
+    unfolding stateOf next nextControl nextTables answer
+    close-obeyed n e = event-obeyed (CLOSE n) (λ z. let w : _≡_ {A = ℕ} 0 1 = cc in omega arith) _ e (λ s. refl) (λ s. refl)
+
+    pub arbitrate-obeyed : (n : ℕ) (h : Head) → outcome ≡ streams.arbitrate (a .device) (controlOf a .streams) n h
+        → ObeysAny a (ARBITRATE n h) after d out
+    unfolding stateOf next nextControl nextTables answer
+    arbitrate-obeyed n h e = event-obeyed (ARBITRATE n h) (λ z. let w : _≡_ {A = ℕ} 0 1 = cc in omega arith) _ e (λ s. refl) (λ s. refl)
 
 -- ---- refusals of the other commands
 

@@ -3,16 +3,14 @@ use mathlib.Core.Path.{_≡_}
 use mathlib.Core.List.{List}
 use Prim.Native.Nat.{ℕ}
 use Rattle.rules.specs.Frame as rules
-use Rattle.rules.specs.Streams as streams
 use Rattle.rules.specs.Key.{tableOf}
 use Rattle.rules.specs.Answer.{answerBytes}
-use Rattle.rules.specs.Call.{withStreams, heard, plain}
+use Rattle.rules.specs.Call.{plain}
 use Rattle.buffers.specs.Splice.{splice}
 use Rattle.frames.specs.declared.Query.{Query}
 use Rattle.entry_store.specs.Read.{keyIn}
 use Rattle.agent.specs.declared.Agent.{Agent}
 use Rattle.agent.specs.declared.Called.{Called}
-use Rattle.agent.specs.Meaning.{controlOf, stateOf}
 use Rattle.agent.specs.Contract.{Kept, Obeyed}
 
 -- what a READ asks for, where its bytes from the table on are these
@@ -28,13 +26,6 @@ pub record Refused (a : Agent) (reason : ℕ) (r : Called) (answer answer′ : L
   pub same : r .agent ≡ a
   pub returned : r .reason ≡ reason
   pub filled : answer′ ≡ splice answer 0 (answerBytes (plain reason))
-
--- an event of the streams: the record with the streams that it leaves, and its answer
-pub record Heard (a : Agent) (o : streams.Outcome) (r : Called) (answer answer′ : List ℕ) : Type 0 where
-  pub control : controlOf (r .agent) ≡ withStreams (controlOf a) (o .after)
-  pub count : r .agent .count ≡ a .count
-  pub returned : r .reason ≡ o .reason
-  pub filled : answer′ ≡ splice answer 0 (answerBytes (heard o))
 
 -- a command that is given the store
 abbrev pub Obeys : Agent → rules.Command → List ℕ → List ℕ → Called → List ℕ → List ℕ → Type 0

@@ -8,13 +8,14 @@ ghost use lib.ListN.{length};
 ghost use Rattle.rules.specs.Bytes.{parts, bytesOf, if_then_else_};
 ghost use Rattle.rules.specs.Reason.{first, codeOf};
 ghost use Rattle.rules.specs.Frame as rules;
+ghost use Rattle.rules.specs.Answer.{answerBytes};
 ghost use Rattle.buffers.specs.Splice.{splice};
-ghost use Rattle.arbitration.specs.Meaning.{headOf, outcomeOf};
+ghost use Rattle.arbitration.specs.Meaning.{headOf, streamsOf, recordsOf};
 ghost use Rattle.entry_store.specs.Update.{updatesIn};
 ghost use Rattle.agent.specs.Contract.{Fresh, Meets};
-ghost use Rattle.agent.specs.Handlers.{queryIn, Named, Refused, Heard, Obeys, ObeysAny};
+ghost use Rattle.agent.specs.Handlers.{queryIn, Named, Refused, Obeys, ObeysAny};
 use arbitration::Head;
-use arbitration::Outcome;
+use arbitration::Notify;
 use arbitration::Streams;
 use frames::Command;
 use frames::Frame;
@@ -74,42 +75,55 @@ fn refuse(agent: Agent, reason: u8, answer: &mut [u8]) -> Called
 
 // ---- OPEN, CLOSE, ARBITRATE
 
-// Takes over what an event of the streams leaves; its records stand from byte 4 on, and before them the head.
-fn respond(mut agent: Agent, outcome: Outcome, answer: &mut [u8]) -> Called
+// Writes the answer to an event of the streams: its records from byte 4 on, and before them the head.
+fn respond(streams: Streams, notify: Notify, reason: u8, answer: &mut [u8])
     requires { ⌜ 644 ≤ length (now answer) ⌝ }
-    ensures { λ r. ⌜ Heard agent (outcomeOf outcome) r (now (answer .entry)) (now (answer .exit)) ⌝ }
+    ensures { λ _. ⌜ now (answer .exit) ≡ splice (now (answer .entry)) 0 (answerBytes (record { reason = reason; records = recordsOf notify (streamsOf streams) })) ⌝ }
 {
-    let streams = outcome.streams;
-    let notify = outcome.notify;
-    let reason = outcome.reason;
     let count = streams.write_notifications(notify, &mut answer[4..]);
     write_head(reason, count, answer);
-    agent.streams = streams;
-    Called { agent, reason }
 }
 
-fn open(agent: Agent, stream: u8, answer: &mut [u8]) -> Called
+fn open(mut agent: Agent, stream: u8, answer: &mut [u8]) -> Called
     requires { ⌜ 644 ≤ length (now answer) ⌝ }
     ensures { λ r. ⌜ ObeysAny agent (rules.OPEN stream) r (now (answer .entry)) (now (answer .exit)) ⌝ }
 {
     let streams = agent.streams;
-    respond(agent, streams.open(stream), answer)
+    let outcome = streams.open(stream);
+    let left = outcome.streams;
+    let notify = outcome.notify;
+    let reason = outcome.reason;
+    agent.streams = left;
+    respond(left, notify, reason, answer);
+    Called { agent, reason }
 }
 
-fn close(agent: Agent, stream: u8, answer: &mut [u8]) -> Called
+fn close(mut agent: Agent, stream: u8, answer: &mut [u8]) -> Called
     requires { ⌜ 644 ≤ length (now answer) ⌝ }
     ensures { λ r. ⌜ ObeysAny agent (rules.CLOSE stream) r (now (answer .entry)) (now (answer .exit)) ⌝ }
 {
     let streams = agent.streams;
-    respond(agent, streams.close(stream), answer)
+    let outcome = streams.close(stream);
+    let left = outcome.streams;
+    let notify = outcome.notify;
+    let reason = outcome.reason;
+    agent.streams = left;
+    respond(left, notify, reason, answer);
+    Called { agent, reason }
 }
 
-fn arbitrate(agent: Agent, stream: u8, head: Head, answer: &mut [u8]) -> Called
+fn arbitrate(mut agent: Agent, stream: u8, head: Head, answer: &mut [u8]) -> Called
     requires { ⌜ 644 ≤ length (now answer) ⌝ }
     ensures { λ r. ⌜ ObeysAny agent (rules.ARBITRATE stream (headOf head)) r (now (answer .entry)) (now (answer .exit)) ⌝ }
 {
     let streams = agent.streams;
-    respond(agent, streams.arbitrate(agent.device, stream, head), answer)
+    let outcome = streams.arbitrate(agent.device, stream, head);
+    let left = outcome.streams;
+    let notify = outcome.notify;
+    let reason = outcome.reason;
+    agent.streams = left;
+    respond(left, notify, reason, answer);
+    Called { agent, reason }
 }
 
 // ---- CONFIGURE

@@ -1,9 +1,5 @@
 -- Right because the outcome of the event is the rules'. Assumes nothing.
-use mathlib.Core.Path.{subst}
 use denote.Ref.{now}
-use Rattle.rules.specs.Streams as streams
-use Rattle.arbitration.specs.Meaning.{streamsOf}
-use Rattle.agent.specs.Handlers.{Heard}
 use Rattle.agent.proofs.Obeying.{open-obeyed}
 use borrow.Author.Needs.{needs}
 use Rattle.agent.proofs.open.Statement.{statement}
@@ -20,10 +16,10 @@ same-length c = search needs
 
 returns : tie.Need-returns
 returns c =
-    let a = c .before .before .before .before .before .before .before .args in
+    let a = c .before .before .before .before .before .before .before .before .args in
+    let o = c .before .before .before .before .before .«open» in
     let p = c .before .before .respond in
-    open-obeyed (a .agent) (p .result) (now (a .answer)) (p .last .1 .1 .0) (a .stream)
-    (subst (λ (o : streams.Outcome). Heard (a .agent) o (p .result) (now (a .answer)) (p .last .1 .1 .0)) (c .before .before .before .before .«open» .ensures) (p .ensures))
+    open-obeyed (a .agent) (o .result .streams) (o .result .reason) (now (a .answer)) (p .last .1 .1 .1 .0) (o .result .notify) (p .ensures) (a .stream) (o .ensures)
 
 pub open-spec : {M : Type 1} → statement M
 open-spec = tie.close (tie.spec open-requires respond-requires same-length returns)

@@ -1,5 +1,4 @@
--- Right because the records stand behind the head, and only the streams change. Assumes nothing.
-use mathlib.Core.Path.{refl}
+-- Right because the records stand behind the head. Assumes nothing.
 use denote.Ref.{now}
 use Rattle.arbitration.specs.Meaning.{streamsOf, recordsOf}
 use Rattle.agent.proofs.Answers.{records-then-head}
@@ -27,16 +26,10 @@ same-length c = search needs
 
 returns : tie.Need-returns
 returns c =
-    let a = c .before .before .before .before .before .before .before .before .before .before .args in
-    let o = a .outcome in
+    let a = c .before .before .before .before .before .before .before .before .before .args in
     let w = c .before .before .before .before .before .before .write-notifications in
-    record {
-      control = refl;
-      count = refl;
-      returned = refl;
-      filled = records-then-head (o .reason) (w .result) (recordsOf (o .notify) (streamsOf (o .streams))) (now (a .answer)) (w .last .1 .1 .0)
-          (c .before .before .write-head .last .1 .1 .0) (search needs) (w .ensures .0) (w .kept .1 .1 .0) (w .ensures .1) (c .before .before .write-head .ensures);
-    }
+    records-then-head (a .reason) (w .result) (recordsOf (a .notify) (streamsOf (a .streams))) (now (a .answer)) (w .last .1 .1 .0)
+    (c .before .before .write-head .last .1 .1 .0) (search needs) (w .ensures .0) (w .kept .1 .1 .0) (w .ensures .1) (c .before .before .write-head .ensures)
 
 pub respond-spec : {M : Type 1} → statement M
 respond-spec =
