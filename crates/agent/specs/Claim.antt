@@ -103,7 +103,8 @@ pub record Demand3 : Type 1 where
       → (before : List Went) (w : Went) (after : List Went) → Linked start store (before ++ w ∷ after)
       → Answered device start store before w
   -- Free bytes matter to no answer: where two stores are as long and have the same bytes up to the end of the last entry, a call
-  -- returns and writes the same with either, and leaves the same agent and entries.
+  -- returns and writes the same with either, and leaves the same agent and entries. (`Kept`: the record and the store are such as
+  -- lists of calls leave; `stateOf`: the rules' state that a record and a store stand for.)
   pub free : (a : Agent) (frame buffer s t : List ℕ) (x y : Called) (s′ t′ p q : List ℕ)
       → Kept a s → length s ≡ length t → take (a .count * 220) s ≡ take (a .count * 220) t
       → Meets a frame s buffer x s′ p → Meets a frame t buffer y t′ q
