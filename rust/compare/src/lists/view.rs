@@ -1,0 +1,193 @@
+//! What a host knows of an agent from the calls it made and their answers.
+//!
+//! A [`View`] judges nothing: it writes down what was accepted. The generator
+//! aims by it.
+
+use reference::bytes::{Entry, Head, Row, Slot, Value};
+
+use crate::parse::Frame;
+
+/// How many bygone entries and batches are remembered.
+const REMEMBERED: usize = 64;
+
+#[derive(Clone, Copy, Debug, PartialEq, Eq)]
+pub enum Stream {
+    Closed,
+    Open,
+    Bound { role: u8, id: Option<u128> },
+}
+
+#[derive(Clone, Debug)]
+pub struct View {
+    pub device: u64,
+    pub streams: [Stream; 32],
+    pub marks: [Option<u128>; 8],
+    pub rows: Vec<Row>,
+    /// The entries present, in shortest form and in order of insertion.
+    pub entries: Vec<Entry>,
+    /// Entries that were present once, oldest first.
+    pub gone: Vec<Entry>,
+    /// Frames of WRITEs that were accepted, oldest first.
+    pub batches: Vec<Vec<u8>>,
+    /// Heads that spoke for a primary once, oldest first.
+    pub spoke: Vec<Head>,
+}
+
+impl View {
+    /// A fresh agent.
+    pub fn new(device: u64) -> View {
+        View {
+            device,
+            streams: [Stream::Closed; 32],
+            marks: [None; 8],
+            rows: Vec::new(),
+            entries: Vec::new(),
+            gone: Vec::new(),
+            batches: Vec::new(),
+            spoke: Vec::new(),
+        }
+    }
+
+    /// Takes note of a call and its answer.
+    pub fn note(&mut self, frame: &[u8], answer: &[u8]) {
+        let (Some(&reason), Some(parsed)) = (answer.first(), Frame::parse(frame)) else {
+            return;
+        };
+        match (parsed, reason) {
+            (Frame::Open { stream }, 0) => self.set(stream, Stream::Open),
+            (Frame::Close { stream }, 0) => self.set(stream, Stream::Closed),
+            (Frame::Arbitrate { stream, head }, 0) => self.bind(stream, &head),
+            (Frame::Arbitrate { stream, .. }, 5..=9) => self.set(stream, Stream::Closed),
+            (Frame::Configure { head, rows }, 0) => {
+                remember(&mut self.spoke, head);
+                self.rows = rows;
+                for entry in std::mem::take(&mut self.entries) {
+                    remember(&mut self.gone, entry);
+                }
+            }
+            (Frame::Write { head, updates, .. }, 0 | 23) => {
+                remember(&mut self.spoke, head);
+                remember(&mut self.batches, frame.to_vec());
+                for (update, pair) in updates.iter().zip(answer[4..].chunks(2)) {
+                    if pair == [0, 0] {
+                        self.take_effect(update.kind, short_entry(update.entry));
+                    }
+                }
+            }
+            _ => {}
+        }
+    }
+
+    fn set(&mut self, stream: u8, state: Stream) {
+        self.streams[usize::from(stream)] = state;
+    }
+
+    fn bind(&mut self, stream: u8, head: &Head) {
+        let id = (head.flag == 1).then_some(head.id);
+        let role = head.role;
+        self.set(stream, Stream::Bound { role, id });
+        let mark = &mut self.marks[usize::from(role)];
+        *mark = (*mark).max(id);
+    }
+
+    fn take_effect(&mut self, kind: u8, entry: Entry) {
+        let place = self.place(&entry);
+        match (kind, place) {
+            (1, _) => self.entries.push(entry),
+            (2, Some(at)) => self.entries[at] = entry,
+            (3, Some(at)) => {
+                let entry = self.entries.remove(at);
+                remember(&mut self.gone, entry);
+            }
+            _ => {}
+        }
+    }
+
+    /// Where the entry of the same key stands; the entry is in shortest form.
+    pub fn place(&self, entry: &Entry) -> Option<usize> {
+        self.entries
+            .iter()
+            .position(|other| other.table == entry.table && other.key == entry.key)
+    }
+
+    /// The streams that are closed, that are open and unbound, and that are
+    /// bound to a role.
+    pub fn closed(&self) -> Vec<u8> {
+        self.which(|stream| stream == Stream::Closed)
+    }
+
+    pub fn unbound(&self) -> Vec<u8> {
+        self.which(|stream| stream == Stream::Open)
+    }
+
+    pub fn bound(&self, wanted: u8) -> Vec<u8> {
+        self.which(|stream| matches!(stream, Stream::Bound { role, .. } if role == wanted))
+    }
+
+    fn which(&self, wanted: impl Fn(Stream) -> bool) -> Vec<u8> {
+        (0..32)
+            .filter(|&stream| wanted(self.streams[usize::from(stream)]))
+            .collect()
+    }
+
+    /// The id that the stream holds, if it is bound with one.
+    pub fn id_of(&self, stream: u8) -> Option<u128> {
+        match self.streams[usize::from(stream)] {
+            Stream::Bound { id, .. } => id,
+            _ => None,
+        }
+    }
+
+    /// The mark of a role; none for a role that there is not.
+    pub fn mark(&self, role: u8) -> Option<u128> {
+        self.marks.get(usize::from(role)).copied().flatten()
+    }
+
+    pub fn primary(&self, role: u8) -> Option<u8> {
+        let mark = self.mark(role)?;
+        self.bound(role)
+            .into_iter()
+            .find(|&stream| self.id_of(stream) == Some(mark))
+    }
+
+    /// How many entries a table holds.
+    pub fn held(&self, table: u32) -> usize {
+        self.entries.iter().filter(|e| e.table == table).count()
+    }
+}
+
+/// Adds to what is remembered, and forgets the oldest.
+fn remember<T>(items: &mut Vec<T>, item: T) {
+    if items.len() == REMEMBERED {
+        items.remove(0);
+    }
+    items.push(item);
+}
+
+/// An entry with all its values in shortest form.
+pub fn short_entry(mut entry: Entry) -> Entry {
+    for slot in &mut entry.key.slots {
+        *slot = Slot {
+            kind: slot.kind,
+            first: short(slot.first),
+            second: short(slot.second),
+        };
+    }
+    entry.params = entry.params.map(short);
+    entry
+}
+
+/// A value without leading zero bytes; one of no length, or too long, as it is.
+fn short(value: Value) -> Value {
+    let length = usize::from(value.length);
+    match value.bytes.get(..length) {
+        None | Some([]) => value,
+        Some(number) => {
+            let zeros = number[..length - 1]
+                .iter()
+                .take_while(|&&byte| byte == 0)
+                .count();
+            Value::string(&number[zeros..])
+        }
+    }
+}

@@ -1,0 +1,260 @@
+//! What a run has met, and whether that is all that can be met.
+
+use std::collections::BTreeMap;
+use std::fmt;
+
+use crate::bench::Seen;
+use crate::describe::COMMANDS;
+use crate::lists::maker::Draft;
+use crate::lists::view::View;
+use crate::lists::ways;
+use crate::parse::Frame;
+
+const REASONS: usize = 25;
+
+/// The reasons that a frame of each command can get, by command byte. Byte 0
+/// stands for frames that are empty or of an unknown command.
+const OF_CALLS: [&[u8]; 7] = [
+    &[1, 2],
+    &[0, 1, 2, 3],
+    &[0, 1, 2, 4],
+    &[0, 1, 2, 4, 5, 6, 7, 8, 9],
+    &[0, 1, 2, 5, 6, 10, 11, 14],
+    &[0, 1, 2, 5, 6, 10, 12, 13, 23],
+    &[0, 1, 2, 5, 6, 12, 15, 16, 17, 18, 19],
+];
+
+/// The reasons that an update can get, by type. Type 0 stands for those that
+/// there are not. 24 never comes: sizes add to at most 256, so 22 does first.
+const OF_UPDATES: [&[u8]; 4] = [
+    &[17],
+    &[0, 15, 16, 17, 18, 19, 20, 22],
+    &[0, 15, 16, 17, 18, 19, 21],
+    &[0, 15, 16, 17, 18, 19, 21],
+];
+
+const TYPES: [&str; 4] = ["other", "INSERT", "MODIFY", "DELETE"];
+
+/// Situations that a run has to come by.
+const SIGHTS: [&str; 20] = [
+    "status 0",
+    "status 5",
+    "status 6",
+    "status 5 without a mark",
+    "eight streams told",
+    "a closing primary that tells",
+    "a closing backup that tells nobody",
+    "7 with notifications",
+    "8 with notifications",
+    "8 without notifications",
+    "a mark above 2^64",
+    "the mark 2^128 - 1",
+    "eight rows",
+    "no update",
+    "64 updates",
+    "a store of 256 entries",
+    "a READ of 256 entries",
+    "a CONFIGURE that empties the store",
+    "a READ of a key that is absent",
+    "free bytes overwritten",
+];
+
+/// Counts of all that was met.
+#[derive(Default)]
+pub struct Tally {
+    pub calls: u64,
+    pub lists: u64,
+    of_calls: [[u64; REASONS]; 7],
+    of_updates: [[u64; REASONS]; 4],
+    ways: BTreeMap<(u8, &'static str), u64>,
+    sights: BTreeMap<&'static str, u64>,
+}
+
+impl Tally {
+    /// Counts a call; the view is from before it.
+    pub fn count(&mut self, view: &View, draft: &Draft, seen: &Seen<'_>) {
+        self.calls += 1;
+        let frame = &draft.call.frame;
+        let command = match frame.first() {
+            Some(&command @ 1..=6) => usize::from(command),
+            _ => 0,
+        };
+        add(&mut self.of_calls[command], seen.reason);
+        for aim in &draft.aims {
+            let met = match aim.update {
+                None => Some(seen.reason),
+                Some(at) => pair(seen, at),
+            };
+            if met == Some(aim.reason) && (aim.update.is_none() || is_done(seen.reason)) {
+                *self.ways.entry((aim.reason, aim.name)).or_default() += 1;
+            }
+        }
+        if draft.call.poison.is_some() {
+            self.see("free bytes overwritten");
+        }
+        if let Some(frame) = Frame::parse(frame) {
+            self.look(view, &frame, seen);
+        }
+    }
+
+    fn look(&mut self, view: &View, frame: &Frame, seen: &Seen<'_>) {
+        let count = match seen.answer {
+            [_, _, high, low, ..] => usize::from(u16::from_be_bytes([*high, *low])),
+            _ => return,
+        };
+        match frame {
+            Frame::Open { .. } => {}
+            Frame::Close { stream } if seen.reason == 0 => {
+                let was_backup = view.id_of(*stream).is_some();
+                match count {
+                    0 if was_backup => self.see("a closing backup that tells nobody"),
+                    0 => {}
+                    _ => self.see("a closing primary that tells"),
+                }
+                self.notices(seen);
+            }
+            Frame::Arbitrate { .. } => {
+                match (seen.reason, count) {
+                    (7, 1..) => self.see("7 with notifications"),
+                    (8, 1..) => self.see("8 with notifications"),
+                    (8, 0) => self.see("8 without notifications"),
+                    (0, 8) => self.see("eight streams told"),
+                    _ => {}
+                }
+                self.notices(seen);
+            }
+            Frame::Configure { rows, .. } if seen.reason == 0 => {
+                if rows.len() == 8 {
+                    self.see("eight rows");
+                }
+                if !view.entries.is_empty() {
+                    self.see("a CONFIGURE that empties the store");
+                }
+            }
+            Frame::Write { updates, .. } if is_done(seen.reason) => {
+                match updates.len() {
+                    0 => self.see("no update"),
+                    64 => self.see("64 updates"),
+                    _ => {}
+                }
+                for (at, update) in updates.iter().enumerate() {
+                    let kind = usize::from(update.kind);
+                    let kind = if kind < TYPES.len() { kind } else { 0 };
+                    if let Some(reason) = pair(seen, at) {
+                        add(&mut self.of_updates[kind], reason);
+                    }
+                }
+            }
+            Frame::Read { only, .. } if seen.reason == 0 => {
+                if view.entries.len() == 256 {
+                    self.see("a store of 256 entries");
+                }
+                if count == 256 {
+                    self.see("a READ of 256 entries");
+                }
+                if (*only, count) == (1, 0) {
+                    self.see("a READ of a key that is absent");
+                }
+            }
+            _ => {}
+        }
+    }
+
+    fn notices(&mut self, seen: &Seen<'_>) {
+        for notice in seen.answer[4..].chunks(20) {
+            match (notice[2], notice[3]) {
+                (0, _) => self.see("status 0"),
+                (5, 0) => self.see("status 5 without a mark"),
+                (5, _) => self.see("status 5"),
+                _ => self.see("status 6"),
+            }
+            if notice[4..] == [0xff; 16] {
+                self.see("the mark 2^128 - 1");
+            } else if notice[4..12] != [0; 8] {
+                self.see("a mark above 2^64");
+            }
+        }
+    }
+
+    fn see(&mut self, sight: &'static str) {
+        *self.sights.entry(sight).or_default() += 1;
+    }
+
+    /// What can be met and was not.
+    pub fn missing(&self) -> Vec<String> {
+        let mut missing = Vec::new();
+        for (command, reasons) in OF_CALLS.iter().enumerate() {
+            for &reason in *reasons {
+                if self.of_calls[command][usize::from(reason)] == 0 {
+                    missing.push(format!("{} with reason {reason}", COMMANDS[command]));
+                }
+            }
+        }
+        for (kind, reasons) in OF_UPDATES.iter().enumerate() {
+            for &reason in *reasons {
+                if self.of_updates[kind][usize::from(reason)] == 0 {
+                    missing.push(format!("an update, {}, with {reason}", TYPES[kind]));
+                }
+            }
+        }
+        for way in ways::all() {
+            if !self.ways.contains_key(&way) {
+                missing.push(format!("reason {} by: {}", way.0, way.1));
+            }
+        }
+        for sight in SIGHTS {
+            if !self.sights.contains_key(sight) {
+                missing.push(sight.to_owned());
+            }
+        }
+        missing
+    }
+}
+
+fn add(counts: &mut [u64; REASONS], reason: u8) {
+    if let Some(count) = counts.get_mut(usize::from(reason)) {
+        *count += 1;
+    }
+}
+
+/// Is there an effect, or an update that failed alone?
+fn is_done(reason: u8) -> bool {
+    reason == 0 || reason == 23
+}
+
+/// The reason of one update.
+fn pair(seen: &Seen<'_>, at: usize) -> Option<u8> {
+    seen.answer.get(4 + 2 * at).copied()
+}
+
+impl fmt::Display for Tally {
+    fn fmt(&self, f: &mut fmt::Formatter<'_>) -> fmt::Result {
+        writeln!(f, "{:>16} {:>70}", "calls", "updates")?;
+        write!(f, "reason")?;
+        for name in COMMANDS.iter().chain(&TYPES) {
+            write!(f, " {name:>9}")?;
+        }
+        writeln!(f)?;
+        for reason in 0..REASONS {
+            write!(f, "{reason:>6}")?;
+            for counts in self.of_calls.iter().chain(&self.of_updates) {
+                match counts[reason] {
+                    0 => write!(f, " {:>9}", ".")?,
+                    count => write!(f, " {count:>9}")?,
+                }
+            }
+            writeln!(f)?;
+        }
+        let met = |count: Option<&u64>| count.copied().unwrap_or(0);
+        let rarest_way = ways::all().map(|way| met(self.ways.get(&way))).min();
+        let rarest_sight = SIGHTS.iter().map(|sight| met(self.sights.get(sight))).min();
+        write!(
+            f,
+            "{} ways to go wrong, each met {} times or more; {} situations, each {} times or more",
+            ways::all().count(),
+            rarest_way.unwrap_or(0),
+            SIGHTS.len(),
+            rarest_sight.unwrap_or(0),
+        )
+    }
+}

@@ -1,0 +1,143 @@
+//! That the comparison is what it claims to be. That the library agrees is
+//! for the program itself to say.
+
+use std::ffi::OsString;
+use std::time::Duration;
+
+use reference::bytes::{open, write, Head};
+use reference::{Agent, Past};
+
+use crate::bench::{Bench, Call, List, STORE_ROOM};
+use crate::options::Order;
+use crate::parse::Frame;
+use crate::{cases, faults, lists, shrink};
+
+fn order(words: &[&str]) -> Result<Order, String> {
+    Order::read(words.iter().map(OsString::from))
+}
+
+#[test]
+fn command_lines() {
+    let usual = Order::Compare {
+        seed: 1,
+        calls: 200_000,
+        play: None,
+    };
+    assert_eq!(order(&[]), Ok(usual));
+    assert_eq!(
+        order(&["--faults", "--seed", "7"]),
+        Ok(Order::Faults { seed: 7 })
+    );
+    assert_eq!(
+        order(&["--list", "3"]),
+        Ok(Order::List { seed: 1, list: 3 })
+    );
+    assert_eq!(order(&["--calls", "x", "--help"]).ok(), None);
+    assert_eq!(order(&["--help", "--faults"]), Ok(Order::Help));
+    for wrong in [
+        &["--calls"][..],
+        &["--calls", "-1"],
+        &["--seed", "99999999999999999999"],
+        &["--faults", "--calls", "5"],
+        &["--faults", "--list", "5"],
+        &["5"],
+    ] {
+        assert!(order(wrong).is_err(), "{wrong:?}");
+    }
+}
+
+#[test]
+fn cases_have_names_of_their_own() {
+    let mut names: Vec<&str> = cases::all().iter().map(|case| case.name).collect();
+    names.sort_unstable();
+    let all = names.len();
+    names.dedup();
+    assert_eq!(names.len(), all);
+}
+
+#[test]
+fn cases_notice_a_wrong_answer() {
+    for mut case in cases::all() {
+        if let Some(last) = case.steps.iter_mut().rfind(|step| !step.answer.is_empty()) {
+            last.answer[0] ^= 1;
+            assert!(case.run().is_err(), "{}", case.name);
+        }
+    }
+}
+
+#[test]
+fn frames_parse_to_themselves() {
+    let mut parsed = 0;
+    let played = lists::play::<Agent, Past>(5, 300, |_, draft, _| {
+        if let Some(frame) = Frame::parse(&draft.call.frame) {
+            assert_eq!(frame.bytes(), draft.call.frame);
+            parsed += 1;
+        }
+    });
+    assert!(played.is_ok() && parsed > 100);
+}
+
+#[test]
+fn a_seed_is_a_list() {
+    let frames = || {
+        let mut frames = Vec::new();
+        let played = lists::play::<Agent, Past>(9, 200, |_, draft, _| {
+            frames.push(draft.call.clone());
+        });
+        assert!(played.is_ok());
+        frames
+    };
+    assert_eq!(frames(), frames());
+}
+
+#[test]
+fn short_buffers_are_lent_short() {
+    let list = List {
+        device: 1,
+        store: STORE_ROOM,
+        fill: 3,
+        calls: vec![
+            Call {
+                store_len: 0,
+                answer_len: 0,
+                ..Call::new(open(1))
+            },
+            Call::new(open(1)),
+            Call::new(write(Head::set(1, 0, 1), 0, &[])),
+        ],
+    };
+    assert!(Bench::<Agent, Past>::play(&list).is_ok());
+}
+
+#[test]
+fn a_planted_fault_shrinks() {
+    let names = faults::names();
+    let unset = names.iter().position(|&name| name == "unset ids clash");
+    let caught = unset.and_then(|number| faults::find(number, 1));
+    // Two streams, each opened and bound without an id.
+    assert_eq!(
+        caught.map(|caught| caught.shortest.list.calls.len()),
+        Some(4)
+    );
+}
+
+#[test]
+fn the_copy_without_a_fault_is_sound() {
+    assert!(faults::is_sound(2));
+    assert!(faults::names().len() >= 40);
+}
+
+#[test]
+fn nothing_to_shrink_stays() {
+    // Where the time is over at once, the list found is the answer.
+    let names = faults::names();
+    let number = names
+        .iter()
+        .position(|&name| name == "status 5 where another is primary");
+    let Some(caught) = number.and_then(|number| faults::find(number, 3)) else {
+        panic!("not found");
+    };
+    let calls = caught.shortest.list.calls.clone();
+    let again = shrink::shrink::<Agent, Past>(caught.shortest, Duration::ZERO);
+    assert_eq!(again.list.calls, calls);
+}
