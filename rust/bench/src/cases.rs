@@ -1,0 +1,144 @@
+//! What is measured: for each case a state, the calls that are timed, and what undoes them.
+//!
+//! A case whose calls leave the state as it was is *looped*: it has nothing to undo, and many calls
+//! are timed at once. Any other is brought back after each step by calls that are not timed. No
+//! state is copied: a copied `Vec` has no room to spare, and would be charged for it.
+
+mod entries;
+mod growth;
+mod keys;
+mod refusals;
+mod state;
+mod streams;
+
+pub use growth::Growth;
+pub use keys::Keys;
+pub use state::DEVICE;
+
+/// Entries that a store holds.
+pub const FULL: usize = 256;
+/// Bytes of an entry.
+pub const ENTRY: usize = 220;
+
+/// The bytes of a call.
+pub type Frame = Vec<u8>;
+
+/// Calls that are timed, and those that bring the state back.
+pub struct Step {
+    pub timed: Vec<Frame>,
+    pub undo: Vec<Frame>,
+}
+
+/// What each timed call must answer.
+#[derive(Clone, Copy, Default)]
+pub struct Expect {
+    pub reason: u8,
+    pub records: usize,
+    /// The reason in each pair of a WRITE.
+    pub pair: Option<u8>,
+}
+
+/// One case.
+#[derive(Default)]
+pub struct Case {
+    pub command: &'static str,
+    pub name: String,
+    /// The keys of the entries, where that matters.
+    pub keys: Option<Keys>,
+    /// Calls on a fresh agent, all of which are accepted.
+    pub setup: Vec<Frame>,
+    /// Taken in order, over and over.
+    pub steps: Vec<Step>,
+    pub expect: Expect,
+    /// Bytes of the plain copy that is timed beside the call.
+    pub copy: Option<usize>,
+    /// The series that the case is a point of, and the number of entries there.
+    pub growth: Option<(Growth, usize)>,
+}
+
+/// Every case of the table, in its order.
+pub fn table() -> Vec<Case> {
+    [
+        streams::open_and_close(),
+        streams::arbitrate(),
+        streams::configure(),
+        entries::write(Keys::Early),
+        entries::write(Keys::Late),
+        entries::write_four_slots(),
+        entries::read_many(),
+        entries::read_key(),
+        refusals::calls(),
+        refusals::updates(),
+    ]
+    .into_iter()
+    .flatten()
+    .collect()
+}
+
+/// Every point of the series.
+pub fn series() -> Vec<Case> {
+    growth::all()
+}
+
+impl Case {
+    /// Is there nothing to undo?
+    pub fn looped(&self) -> bool {
+        self.steps.iter().all(|step| step.undo.is_empty())
+    }
+
+    /// Command, name and keys.
+    pub fn full_name(&self) -> String {
+        let keys = self.keys.map_or("", Keys::name);
+        format!("{} {} {keys}", self.command, self.name)
+    }
+
+    fn new(command: &'static str, name: &str, setup: Vec<Frame>) -> Case {
+        Case {
+            command,
+            name: name.to_owned(),
+            setup,
+            ..Case::default()
+        }
+    }
+
+    fn keys(mut self, keys: Keys) -> Case {
+        self.keys = Some(keys);
+        self
+    }
+
+    /// One step that leaves the state as it was.
+    fn timed(self, timed: Vec<Frame>) -> Case {
+        self.step(timed, Vec::new())
+    }
+
+    /// One more step.
+    fn step(mut self, timed: Vec<Frame>, undo: Vec<Frame>) -> Case {
+        self.steps.push(Step { timed, undo });
+        self
+    }
+
+    fn records(mut self, records: usize) -> Case {
+        self.expect.records = records;
+        self
+    }
+
+    fn refused(mut self, reason: u8) -> Case {
+        self.expect.reason = reason;
+        self
+    }
+
+    /// A WRITE of so many updates, each of which has this reason.
+    fn pairs(mut self, records: usize, pair: u8) -> Case {
+        self.expect = Expect {
+            reason: if pair == 0 { 0 } else { 23 },
+            records,
+            pair: Some(pair),
+        };
+        self
+    }
+
+    fn beside_copy(mut self, bytes: usize) -> Case {
+        self.copy = Some(bytes);
+        self
+    }
+}

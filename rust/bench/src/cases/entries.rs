@@ -1,0 +1,155 @@
+//! WRITE and READ.
+
+use reference::bytes::{self, Update};
+
+use super::keys::TABLE;
+use super::state::{batch, eight_tables, modifies, single, stored, BATCH, DEVICE};
+use super::{Case, Frame, Keys, ENTRY, FULL};
+
+/// WRITE into one table.
+pub fn write(keys: Keys) -> Vec<Case> {
+    let half = FULL / 2;
+    let last = FULL - 1;
+    vec![
+        insert("1 INSERT, store empty", keys, 0),
+        insert("1 INSERT, store half full (128)", keys, half),
+        insert("1 INSERT, at the last place (255)", keys, last),
+        on("1 INSERT, store full (256): 22", keys, FULL)
+            .pairs(1, 22)
+            .timed(vec![single(keys, Update::insert, FULL)]),
+        insert_many("64 INSERTs, store empty", keys, 0),
+        insert_many("64 INSERTs, store half full (128)", keys, half),
+        insert_many("64 INSERTs, up to the last place (192)", keys, FULL - BATCH),
+        on("64 INSERTs, store full (256): 22 each", keys, FULL)
+            .pairs(BATCH, 22)
+            .timed(vec![batch(keys, Update::insert, FULL..FULL + BATCH)]),
+        modify("1 MODIFY, first of 256", keys, 0),
+        modify("1 MODIFY, last of 256", keys, last),
+        on("64 MODIFYs, every fourth of 256", keys, FULL)
+            .pairs(BATCH, 0)
+            .timed(vec![batch(keys, Update::modify, (0..FULL).step_by(4))]),
+        delete_first("1 DELETE, first of 256", keys, 1),
+        on("1 DELETE, last of 256", keys, FULL).pairs(1, 0).step(
+            vec![single(keys, Update::delete, last)],
+            vec![single(keys, Update::insert, last)],
+        ),
+        delete_first("64 DELETEs, each the first, of 256", keys, BATCH),
+        on("64 DELETEs, each the last, of 256", keys, FULL)
+            .pairs(BATCH, 0)
+            .step(
+                vec![batch(keys, Update::delete, (FULL - BATCH..FULL).rev())],
+                vec![batch(keys, Update::insert, FULL - BATCH..FULL)],
+            ),
+    ]
+}
+
+/// WRITE where every slot and every parameter is used.
+pub fn write_four_slots() -> Vec<Case> {
+    let keys = Keys::Four;
+    vec![
+        insert("1 INSERT, store empty", keys, 0),
+        insert("1 INSERT, at the last place (255)", keys, FULL - 1),
+        insert_many("64 INSERTs, store empty", keys, 0),
+        modify("1 MODIFY, last of 256", keys, FULL - 1),
+        delete_first("1 DELETE, first of 256", keys, 1),
+    ]
+}
+
+/// READ of more than one entry.
+pub fn read_many() -> Vec<Case> {
+    let case = |name: &str, setup: Vec<Frame>| Case::new("READ", name, setup);
+    let all = || vec![bytes::read_all(DEVICE, 0, 0)];
+    let one = || vec![bytes::read_all(DEVICE, 0, TABLE + 3)];
+    let role_3 = || vec![bytes::read_all(DEVICE, 3, 0)];
+    let keys = Keys::Late;
+    vec![
+        case("all, store empty", stored(keys, 0)).timed(all()),
+        case("all 256, 1 table", stored(keys, FULL))
+            .timed(all())
+            .records(FULL)
+            .beside_copy(FULL * ENTRY),
+        case("all 256, 8 tables in turn", eight_tables(true))
+            .timed(all())
+            .records(FULL),
+        case("all 256, 8 tables one after another", eight_tables(false))
+            .timed(all())
+            .records(FULL),
+        case("1 table of 8 (32 of 256), in turn", eight_tables(true))
+            .timed(one())
+            .records(32),
+        case(
+            "1 table of 8 (32 of 256), one after another",
+            eight_tables(false),
+        )
+        .timed(one())
+        .records(32),
+        case("all of role 3 (1 table of 8), in turn", eight_tables(true))
+            .timed(role_3())
+            .records(32),
+    ]
+}
+
+/// READ of one key.
+pub fn read_key() -> Vec<Case> {
+    let mut cases = Vec::new();
+    for keys in [Keys::Early, Keys::Late, Keys::Four] {
+        for (name, number, records) in [
+            ("1 key, first of 256", 0, 1),
+            ("1 key, last of 256", FULL - 1, 1),
+            ("1 key, absent from 256", FULL, 0),
+        ] {
+            let frame = bytes::read_one(DEVICE, 0, TABLE, keys.key(number));
+            let case = Case::new("READ", name, stored(keys, FULL));
+            cases.push(case.keys(keys).timed(vec![frame]).records(records));
+        }
+    }
+    let keys = Keys::Late;
+    let last = bytes::read_one(DEVICE, 0, TABLE + 7, keys.key(31));
+    let case = Case::new(
+        "READ",
+        "1 key, last of 8 tables in turn",
+        eight_tables(true),
+    );
+    cases.push(case.keys(keys).timed(vec![last]).records(1));
+    cases
+}
+
+/// A WRITE where the first `count` entries are stored.
+fn on(name: &str, keys: Keys, count: usize) -> Case {
+    Case::new("WRITE", name, stored(keys, count)).keys(keys)
+}
+
+/// INSERT of the entry that comes after the first `count`.
+pub fn insert(name: &str, keys: Keys, count: usize) -> Case {
+    on(name, keys, count).pairs(1, 0).step(
+        vec![single(keys, Update::insert, count)],
+        vec![single(keys, Update::delete, count)],
+    )
+}
+
+fn insert_many(name: &str, keys: Keys, count: usize) -> Case {
+    let numbers = count..count + BATCH;
+    on(name, keys, count).pairs(BATCH, 0).step(
+        vec![batch(keys, Update::insert, numbers.clone())],
+        vec![batch(keys, Update::delete, numbers.rev())],
+    )
+}
+
+fn modify(name: &str, keys: Keys, number: usize) -> Case {
+    on(name, keys, FULL)
+        .pairs(1, 0)
+        .timed(modifies(keys, number))
+}
+
+/// DELETE of the first entries, so many in a WRITE. They are inserted again at the end, so the next
+/// step has others in front, and after the last step the order is what it was.
+fn delete_first(name: &str, keys: Keys, each: usize) -> Case {
+    let case = on(name, keys, FULL).pairs(each, 0);
+    (0..FULL).step_by(each).fold(case, |case, first| {
+        let numbers = first..first + each;
+        case.step(
+            vec![batch(keys, Update::delete, numbers.clone())],
+            vec![batch(keys, Update::insert, numbers)],
+        )
+    })
+}

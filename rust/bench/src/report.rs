@@ -1,0 +1,328 @@
+//! What was measured, as Markdown and as plots.
+
+use std::fs;
+
+use crate::cases::{Growth, Keys, ENTRY, FULL};
+use crate::measure::{Bench, Plan, Summary};
+use crate::plot::{self, Line};
+
+const PROVED_COLOUR: &str = "#0b5fa5";
+const SECOND_COLOUR: &str = "#c8540a";
+const COPY_COLOUR: &str = "#666";
+
+/// The tables.
+pub fn tables(benches: &[Bench]) -> String {
+    [commands(benches), copies(benches), series(benches)].concat()
+}
+
+/// The file BENCHMARKS.md.
+pub fn document(benches: &[Bench], plan: Plan) -> String {
+    let plots: String = Growth::ALL
+        .map(|growth| format!("![{}]({})\n", growth.title(), growth.file()))
+        .join("\n");
+    [
+        opening(plan),
+        tables(benches),
+        format!(
+            "## Plots\n\nFull lines are keys that differ early, dashed ones late.\n\n{plots}\n"
+        ),
+        "## Copies per call\n\n(to be filled in)\n".to_owned(),
+    ]
+    .concat()
+}
+
+/// The plots with the names of their files.
+pub fn plots(benches: &[Bench]) -> Vec<(&'static str, String)> {
+    Growth::ALL
+        .map(|growth| (growth.file(), plot(benches, growth)))
+        .into()
+}
+
+fn opening(plan: Plan) -> String {
+    let rounds = plan.passes * plan.rounds;
+    let micros = plan.block.as_micros();
+    format!(
+        "\
+# Benchmarks
+
+The proved agent beside the second implementation in Rust, each called with the same frames in the \
+same states, in one run.
+
+Machine: {machine}.
+
+## To repeat it
+
+In `rust`, with `libsavorylatch.a` in place (see the documentation of the crate `savorylatch`), on a \
+machine that does nothing else:
+
+```
+cargo run --release -p bench                    # prints the tables
+cargo run --release -p bench -- --write DIR     # also writes this file and the plots to DIR
+cargo run --release -p bench -- --quick         # to see that it runs
+cargo run --release -p bench -- --only TEXT     # only cases with this text in their names
+```
+
+`taskset -c 1` before it keeps it on one core. The release profile is Cargo's own, without link-time \
+optimisation. The program ends with 0 unless the two sides disagree: no time makes it fail.
+
+## What is compared
+
+- *Proved* is `savorylatch::Agent::call_in`: the wrapper, the C interface and the proved library, \
+in memory that the host lends. *Second* is `reference::Agent::call`, which keeps entries in a `Vec` \
+with a `HashMap` from key to place, allocates, and uses no store. Both write the whole answer to the \
+same buffer.
+- *Ratio* is proved to second: 1.00 is equal, below it the proved agent takes less time. It is the \
+ratio of the two medians over {rounds} rounds. *Spread* is the 10th to the 90th percentile of the \
+ratios of single rounds. A round times one block of each side, in random order, of about {micros} \
+microseconds for the slower one; the cases are gone through {passes} times, in random order.
+- Before a case is measured both sides go through it once: reason, answer up to the last byte of the \
+buffer, and entries must be the same, and be those that the case names. While it is measured the \
+reasons are added up and compared, after each pass the entries.
+- A call that changes the state is brought back by calls that are not timed: an INSERT by a DELETE, \
+a CLOSE by OPEN and ARBITRATE. What was deleted at the first place is inserted at the last, so that \
+the next entry is the first. What the clock takes by itself is measured and subtracted.
+- Keys that differ *early* differ in the first byte of a 16-byte exact value (one of 256 in the \
+second), those that differ *late* in the last byte. *Four slots* is a table of four fields of 128 \
+bits (exact, lpm, ternary, range) and four parameters of 128 bits, where keys differ in the last \
+byte of the fourth slot. Elsewhere keys differ late, or there are none.
+- Nanoseconds are for one call, also where the call has 64 updates.
+
+Not compared: building frames and reading answers, transport, the first call with cold caches, \
+several threads, memory. The second implementation was written to be read and to be compared with, \
+not to be the fastest there can be.
+
+",
+        machine = machine(),
+        passes = plan.passes,
+    )
+}
+
+/// From `/proc/cpuinfo`.
+fn machine() -> String {
+    let Ok(info) = fs::read_to_string("/proc/cpuinfo") else {
+        return "unknown".to_owned();
+    };
+    let all = |name: &str| {
+        let lines = info.lines().filter_map(|line| line.split_once(':'));
+        lines
+            .filter(|(key, _)| key.trim() == name)
+            .map(|(_, value)| value.trim().to_owned())
+            .collect::<Vec<_>>()
+    };
+    let first = |name: &str| all(name).into_iter().next().unwrap_or_default();
+    let guest = if first("flags").split(' ').any(|flag| flag == "hypervisor") {
+        ", virtual machine"
+    } else {
+        ""
+    };
+    format!(
+        "{}, {} processors, cache {}, {} MHz{guest}",
+        first("model name"),
+        all("processor").len(),
+        first("cache size"),
+        first("cpu MHz"),
+    )
+}
+
+/// The table of all commands.
+fn commands(benches: &[Bench]) -> String {
+    let rows: Vec<(&Bench, Summary)> = benches
+        .iter()
+        .filter(|bench| bench.case.growth.is_none())
+        .map(|bench| (bench, bench.summary()))
+        .collect();
+    let above = rows.iter().filter(|(_, summary)| summary.ratio > 1.0);
+    let mut out = format!(
+        "## Commands\n\n\
+         {} cases; in {} of them the ratio is above 1.00.\n\n\
+         | Command | Case | Keys | Proved, ns | Second, ns | Ratio | Spread |\n\
+         |---|---|---|--:|--:|--:|--:|\n",
+        rows.len(),
+        above.count()
+    );
+    for (bench, summary) in rows {
+        let case = &bench.case;
+        out += &format!(
+            "| {} | {} | {} | {} | {} | {:.2} | {:.2} to {:.2} |\n",
+            case.command,
+            case.name,
+            case.keys.map_or("", Keys::name),
+            nanos(summary.proved),
+            nanos(summary.second),
+            summary.ratio,
+            summary.low,
+            summary.high,
+        );
+    }
+    out + "\n"
+}
+
+/// READ of all entries beside a plain copy of the same bytes.
+fn copies(benches: &[Bench]) -> String {
+    let mut rows = String::new();
+    for bench in benches.iter().filter(|bench| bench.case.growth.is_none()) {
+        let summary = bench.summary();
+        let Some(copy) = summary.copy else {
+            continue;
+        };
+        for (what, time) in [
+            ("plain copy", copy),
+            ("proved", summary.proved),
+            ("second", summary.second),
+        ] {
+            rows += &format!("| {what} | {} | {:.2} |\n", nanos(time), time / copy);
+        }
+    }
+    if rows.is_empty() {
+        return rows;
+    }
+    let bytes = grouped(FULL * ENTRY);
+    format!(
+        "## READ of all entries beside a plain copy\n\n\
+         `copy_from_slice` of the {bytes} bytes of the store to where the answer has its records, \
+         timed in the same rounds.\n\n\
+         | What | ns | To the copy |\n|---|--:|--:|\n{rows}\n"
+    )
+}
+
+/// Cost as the number of entries grows.
+fn series(benches: &[Bench]) -> String {
+    let mut out = String::new();
+    for growth in Growth::ALL {
+        let points = points(benches, growth);
+        if points.is_empty() {
+            continue;
+        }
+        let copied = points.iter().any(|point| point.late.copy.is_some());
+        out += &format!("### {}\n\n", growth.title());
+        out += "| Entries | Proved, early | Second, early | Ratio | Proved, late | Second, late | \
+                Ratio |";
+        out += if copied { " Plain copy |\n" } else { "\n" };
+        out += "|--:|--:|--:|--:|--:|--:|--:|";
+        out += if copied { "--:|\n" } else { "\n" };
+        for Point {
+            entries,
+            early,
+            late,
+        } in points
+        {
+            let both = [early, late].map(|side| {
+                let (proved, second) = (nanos(side.proved), nanos(side.second));
+                format!("{proved} | {second} | {:.2}", side.ratio)
+            });
+            let copy = late.copy.map(|copy| format!(" {} |", nanos(copy)));
+            let copy = copy.unwrap_or_default();
+            out += &format!("| {entries} | {} | {} |{copy}\n", both[0], both[1]);
+        }
+        out += "\n";
+    }
+    if out.is_empty() {
+        return out;
+    }
+    format!(
+        "## Cost as the number of entries grows\n\nNanoseconds for one call; the entries of an \
+         INSERT include the new one.\n\n{out}"
+    )
+}
+
+/// A number of entries in a series.
+struct Point {
+    entries: usize,
+    early: Summary,
+    late: Summary,
+}
+
+/// The points of a series that were measured.
+fn points(benches: &[Bench], growth: Growth) -> Vec<Point> {
+    let find = |keys: Keys, entries: usize| {
+        let is_it = |bench: &&Bench| {
+            bench.case.growth == Some((growth, entries)) && bench.case.keys == Some(keys)
+        };
+        benches.iter().find(is_it).map(Bench::summary)
+    };
+    Growth::COUNTS
+        .iter()
+        .filter_map(|&entries| {
+            Some(Point {
+                entries,
+                early: find(Keys::Early, entries)?,
+                late: find(Keys::Late, entries)?,
+            })
+        })
+        .collect()
+}
+
+fn plot(benches: &[Bench], growth: Growth) -> String {
+    let points = points(benches, growth);
+    let line = |label: &str, colour, dashed, time: &dyn Fn(&Point) -> Option<f64>| Line {
+        label: label.to_owned(),
+        colour,
+        dashed,
+        points: points
+            .iter()
+            .filter_map(|point| Some((point.entries as f64, time(point)?)))
+            .collect(),
+    };
+    let mut lines = vec![
+        line(
+            "proved, keys differ early",
+            PROVED_COLOUR,
+            false,
+            &|point| Some(point.early.proved),
+        ),
+        line("proved, keys differ late", PROVED_COLOUR, true, &|point| {
+            Some(point.late.proved)
+        }),
+        line(
+            "second, keys differ early",
+            SECOND_COLOUR,
+            false,
+            &|point| Some(point.early.second),
+        ),
+        line("second, keys differ late", SECOND_COLOUR, true, &|point| {
+            Some(point.late.second)
+        }),
+        line("plain copy of the bytes", COPY_COLOUR, false, &|point| {
+            point.late.copy
+        }),
+    ];
+    lines.retain(|line| !line.points.is_empty());
+    plot::svg(growth.title(), &lines)
+}
+
+/// Nanoseconds, with as much as can be relied on.
+fn nanos(nanos: f64) -> String {
+    if nanos < 100.0 {
+        format!("{nanos:.1}")
+    } else {
+        grouped(nanos.round() as usize)
+    }
+}
+
+/// With a comma before every three digits.
+fn grouped(number: usize) -> String {
+    let digits = number.to_string();
+    let mut out = String::new();
+    for (at, digit) in digits.chars().enumerate() {
+        if at > 0 && (digits.len() - at) % 3 == 0 {
+            out.push(',');
+        }
+        out.push(digit);
+    }
+    out
+}
+
+#[cfg(test)]
+mod tests {
+    use super::*;
+
+    #[test]
+    fn numbers_in_a_table() {
+        assert_eq!(nanos(7.26), "7.3");
+        assert_eq!(nanos(99.94), "99.9");
+        assert_eq!(nanos(123.4), "123");
+        assert_eq!(nanos(56_320.0), "56,320");
+        assert_eq!(grouped(1_234_567), "1,234,567");
+        assert_eq!(grouped(999), "999");
+    }
+}
