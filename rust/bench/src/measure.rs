@@ -3,7 +3,10 @@
 //! A round times one block of each side, in random order; a block is so many repetitions of the
 //! case, the same number for both. What a busy machine does to one side it does to the other a
 //! moment later, so the ratio of a round holds where its times do not. The cases are gone through in
-//! several passes, in another order each time, and each begins with a block that does not count.
+//! many passes, in another order each time, and each begins with a round that does not count.
+//!
+//! On a shared machine the work of others slows whole stretches down. Before and after each round a
+//! fixed piece of work is timed, and only the rounds count in which it ran fastest.
 
 use std::hint::black_box;
 use std::time::{Duration, Instant};
@@ -23,17 +26,20 @@ pub struct Plan {
 
 impl Plan {
     pub const FULL: Plan = Plan {
-        passes: 50,
-        rounds: 40,
+        passes: 100,
+        rounds: 30,
         block: Duration::from_micros(20),
     };
     /// To see that everything works, not to learn anything.
     pub const QUICK: Plan = Plan {
         passes: 1,
-        rounds: 5,
+        rounds: 10,
         block: Duration::from_micros(2),
     };
 }
+
+/// Of so many rounds one counts, the quietest.
+pub const QUIET: usize = 10;
 
 /// The two sides gave different answers, or other ones than the case names.
 #[derive(Debug)]
@@ -55,16 +61,17 @@ struct Round {
     proved: f64,
     second: f64,
     copy: f64,
+    /// The fixed work before or after it, whichever took longer.
+    fixed: f64,
 }
 
-/// What the rounds of a case say.
+/// What the quiet rounds of a case say.
 #[derive(Clone, Copy, Debug)]
 pub struct Summary {
     /// Nanoseconds for one call, the median.
     pub proved: f64,
     pub second: f64,
-    /// The first to the second, and between which two values the ratios of most rounds lie: the
-    /// tenth and the ninetieth of a hundred.
+    /// The first to the second, and the 10th and 90th percentile of the ratios of single rounds.
     pub ratio: f64,
     pub low: f64,
     pub high: f64,
@@ -76,6 +83,7 @@ pub struct Summary {
 pub fn run(cases: Vec<Case>, plan: Plan) -> Result<Vec<Bench>, Disagreement> {
     let clock = Clock::new();
     let mut answer = Buffer::answer();
+    let mut fixed = FixedWork::new();
     let mut benches: Vec<Bench> = cases
         .into_iter()
         .map(Bench::new)
@@ -89,7 +97,19 @@ pub fn run(cases: Vec<Case>, plan: Plan) -> Result<Vec<Bench>, Disagreement> {
         eprint!(".");
         random.shuffle(&mut order);
         for &at in &order {
-            benches[at].pass(plan, &clock, &mut random, answer.bytes_mut())?;
+            let bench = &mut benches[at];
+            bench.round(&clock, &mut random, answer.bytes_mut())?;
+            let mut before = fixed.time(&clock);
+            for _ in 0..plan.rounds {
+                let round = bench.round(&clock, &mut random, answer.bytes_mut())?;
+                let after = fixed.time(&clock);
+                bench.rounds.push(Round {
+                    fixed: f64::max(before, after),
+                    ..round
+                });
+                before = after;
+            }
+            bench.same_entries()?;
         }
     }
     eprintln!();
@@ -136,21 +156,6 @@ impl Bench {
         self.times = times.ceil().clamp(1.0, 10_000.0) as usize;
     }
 
-    fn pass(
-        &mut self,
-        plan: Plan,
-        clock: &Clock,
-        random: &mut Random,
-        answer: &mut [u8],
-    ) -> Result<(), Disagreement> {
-        self.round(clock, random, answer)?;
-        for _ in 0..plan.rounds {
-            let round = self.round(clock, random, answer)?;
-            self.rounds.push(round);
-        }
-        self.same_entries()
-    }
-
     fn round(
         &mut self,
         clock: &Clock,
@@ -181,11 +186,12 @@ impl Bench {
                 }
             }
         }
-        if reasons[0] != reasons[1] {
-            let name = &self.case.name;
-            let message = format!("{name}: the sides gave other reasons while measured");
-            return Err(Disagreement(message));
-        }
+        let same = reasons[0] == reasons[1];
+        require(
+            &self.case,
+            same,
+            "the sides gave different reasons while measured",
+        )?;
         Ok(round)
     }
 
@@ -196,7 +202,10 @@ impl Bench {
 
     /// What was measured.
     pub fn summary(&self) -> Summary {
-        let all = |time: fn(&Round) -> f64| Sorted::new(self.rounds.iter().map(time));
+        let mut rounds = self.rounds.clone();
+        rounds.sort_by(|one, other| one.fixed.total_cmp(&other.fixed));
+        rounds.truncate(rounds.len().div_ceil(QUIET));
+        let all = |time: fn(&Round) -> f64| Sorted::new(rounds.iter().map(time));
         let proved = all(|round| round.proved).median();
         let second = all(|round| round.second).median();
         let ratios = all(|round| round.proved / round.second);
@@ -290,6 +299,30 @@ fn copy(from: &[u8], times: usize, clock: &Clock, answer: &mut [u8]) -> f64 {
         black_box(&mut *to).copy_from_slice(black_box(from));
     }
     clock.since(start) / times as f64
+}
+
+/// A fixed piece of work, to see how busy the machine is: copies that stay in the nearest cache, as
+/// the calls do for the most part.
+struct FixedWork {
+    from: Vec<u8>,
+    to: Vec<u8>,
+}
+
+impl FixedWork {
+    fn new() -> FixedWork {
+        FixedWork {
+            from: vec![1; 1500],
+            to: vec![0; 1500],
+        }
+    }
+
+    fn time(&mut self, clock: &Clock) -> f64 {
+        let start = Instant::now();
+        for _ in 0..32 {
+            black_box(&mut self.to).copy_from_slice(black_box(&self.from));
+        }
+        clock.since(start)
+    }
 }
 
 /// The clock, with what looking at it takes by itself.

@@ -3,7 +3,7 @@
 use std::fs;
 
 use crate::cases::{Growth, Keys, ENTRY, FULL};
-use crate::measure::{Bench, Plan, Summary};
+use crate::measure::{Bench, Plan, Summary, QUIET};
 use crate::plot::{self, Line};
 
 const PROVED_COLOUR: &str = "#0b5fa5";
@@ -39,7 +39,7 @@ pub fn plots(benches: &[Bench]) -> Vec<(&'static str, String)> {
 }
 
 fn opening(plan: Plan) -> String {
-    let rounds = plan.passes * plan.rounds;
+    let rounds = grouped(plan.passes * plan.rounds);
     let micros = plan.block.as_micros();
     format!(
         "\
@@ -62,8 +62,9 @@ cargo run --release -p bench -- --quick         # to see that it runs
 cargo run --release -p bench -- --only TEXT     # only cases with this text in their names
 ```
 
-`taskset -c 1` before it keeps it on one core. The release profile is Cargo's own, without link-time \
-optimisation. The program ends with 0 unless the two sides disagree: no time makes it fail.
+It takes about half a minute; `taskset -c 1` before it keeps it on one core. The release profile is \
+Cargo's own. Link-time optimisation is off: the archive could take no part in it, so it would help \
+the second only. The program ends with 0 unless the two sides disagree: no time makes it fail.
 
 ## What is compared
 
@@ -72,9 +73,12 @@ in memory that the host lends. *Second* is `reference::Agent::call`, which keeps
 with a `HashMap` from key to place, allocates, and uses no store. Both write the whole answer to the \
 same buffer.
 - *Ratio* is proved to second: 1.00 is equal, below it the proved agent takes less time. It is the \
-ratio of the two medians over {rounds} rounds. *Spread* is the 10th to the 90th percentile of the \
-ratios of single rounds. A round times one block of each side, in random order, of about {micros} \
-microseconds for the slower one; the cases are gone through {passes} times, in random order.
+ratio of the two medians. *Spread* is the 10th to the 90th percentile of the ratios of single rounds. \
+A round times one block of each side, in random order, of about {micros} microseconds for the slower \
+one; the cases are gone through {passes} times, in random order.
+- Of the {rounds} rounds of a case one in {QUIET} counts: those in which a fixed piece of work, timed \
+before and after each round, ran fastest. On a shared machine the work of others slows both sides \
+down for a while.
 - Before a case is measured both sides go through it once: reason, answer up to the last byte of the \
 buffer, and entries must be the same, and be those that the case names. While it is measured the \
 reasons are added up and compared, after each pass the entries.
@@ -86,10 +90,11 @@ second), those that differ *late* in the last byte. *Four slots* is a table of f
 bits (exact, lpm, ternary, range) and four parameters of 128 bits, where keys differ in the last \
 byte of the fourth slot. Elsewhere keys differ late, or there are none.
 - Nanoseconds are for one call, also where the call has 64 updates.
+- How the linker lays the code out sways single cases of the second from one build to the next: by up \
+to a half where CLOSE and ARBITRATE tell many streams, elsewhere by a few percent.
 
 Not compared: building frames and reading answers, transport, the first call with cold caches, \
-several threads, memory. The second implementation was written to be read and to be compared with, \
-not to be the fastest there can be.
+several threads, memory, and agents other than these two.
 
 ",
         machine = machine(),

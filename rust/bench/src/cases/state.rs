@@ -25,20 +25,12 @@ pub fn with_primary() -> Vec<Frame> {
     vec![bytes::open(STREAM), bytes::arbitrate(STREAM, primary())]
 }
 
-/// And there is a table, of 256 entries at most, that holds the first `count`.
+/// Role 0 has a primary, and there is a table, of 256 entries at most, that holds the first `count`.
 pub fn stored(keys: Keys, count: usize) -> Vec<Frame> {
-    let mut frames = with_primary();
-    frames.push(bytes::configure(primary(), &[keys.row(TABLE, FULL as u16)]));
-    frames.extend(filled(keys, count));
-    frames
-}
-
-/// WRITEs of the first `count` entries, as many in each as it holds.
-pub fn filled(keys: Keys, count: usize) -> Vec<Frame> {
     let updates: Vec<Update> = (0..count)
         .map(|number| Update::insert(keys.entry(number)))
         .collect();
-    updates.chunks(BATCH).map(write).collect()
+    configured(&[keys.row(TABLE, FULL as u16)], &updates)
 }
 
 /// Eight tables of 32 entries each, owned by roles 0 to 7. The entries are inserted in turn, one of
@@ -62,8 +54,13 @@ pub fn eight_tables(in_turn: bool) -> Vec<Frame> {
         .map(|(table, number)| Keys::Late.entry_in(TABLE + table as u32, number, 7))
         .map(Update::insert)
         .collect();
+    configured(&rows, &updates)
+}
+
+/// Role 0 has a primary, which has sent the rows and the updates, as many in a WRITE as it holds.
+fn configured(rows: &[Row], updates: &[Update]) -> Vec<Frame> {
     let mut frames = with_primary();
-    frames.push(bytes::configure(primary(), &rows));
+    frames.push(bytes::configure(primary(), rows));
     frames.extend(updates.chunks(BATCH).map(write));
     frames
 }

@@ -3,8 +3,8 @@
 use reference::bytes::{self, kind, Action, Head, Row};
 
 use super::keys::{ACTION, TABLE};
-use super::state::{filled, primary, stored, with_primary, DEVICE, ID, LOWER, STREAM};
-use super::{Case, Frame, Keys, FULL};
+use super::state::{primary, with_primary, DEVICE, ID, LOWER, STREAM};
+use super::{Case, Frame};
 
 /// The streams of a crowded role, of which the last is primary.
 const CROWD: u8 = 8;
@@ -30,7 +30,7 @@ pub fn arbitrate() -> Vec<Case> {
     let to_and_fro = |stream: u8| vec![send(stream, LOWER), send(stream, ID)];
     let mut unbound = with_primary();
     unbound.extend(every(2..32, bytes::open));
-    let held = |stream: u8| send(stream, id_of(8 * (stream / 8)));
+    let held = |stream: u8| send(stream, id_of(CROWD * (stream / CROWD)));
     vec![
         case("repeated id, 1 stream bound", with_primary())
             .timed(vec![send(STREAM, ID)])
@@ -58,17 +58,11 @@ pub fn arbitrate() -> Vec<Case> {
 }
 
 pub fn configure() -> Vec<Case> {
-    let case = |name: &str, setup: Vec<Frame>| Case::new("CONFIGURE", name, setup);
-    let full = |rows: u32| vec![bytes::configure(primary(), &full_rows(rows))];
-    let keys = Keys::Late;
-    vec![
-        case("1 full row", with_primary()).timed(full(1)),
-        case("8 full rows", with_primary()).timed(full(8)),
-        case("1 row, 256 entries dropped", stored(keys, FULL)).step(
-            vec![bytes::configure(primary(), &[keys.row(TABLE, FULL as u16)])],
-            filled(keys, FULL),
-        ),
-    ]
+    let case = |name: &str, rows: u32| {
+        let frame = bytes::configure(primary(), &full_rows(rows));
+        Case::new("CONFIGURE", name, with_primary()).timed(vec![frame])
+    };
+    vec![case("1 full row", 1), case("8 full rows", 8)]
 }
 
 /// Rows in which every place is used.
