@@ -1,21 +1,22 @@
 -- What a loop over the entries of a store has left to do before entry i, and how one turn of the loop lessens it.
 -- Assumes nothing.
-use Prim.Native.Nat.{ℕ, _+_, _*_, _≤_, _<_}
+use Prim.Native.Nat.{ℕ, _+_, _*_, _/_, _≤_, _<_, min}
 use native.Mathlib.Omega.{arith}
 use native.Mathlib.Numerals.{add-one}
-use mathlib.Core.Path.{_≡_, refl, sym, ap, _∙_}
+use mathlib.Core.Path.{_≡_, sym, ap, _∙_}
 use mathlib.Core.Bool.{Bool}
 use mathlib.Core.List.{List, [], _∷_}
 use mathlib.Core.Option.{Option, none, some}
-use lib.ListN.{length, drop, drop-of-length-le}
-use lib.Seq.{take-take}
+use lib.ListN.{length, take, drop, drop-of-length-le}
+use lib.Seq.{take-at, take-take}
 use borrow.Author.Tests.{eq-eqb, ne-eqb}
 use Rattle.rules.specs.Bytes.{if_then_else_, keep, concat, part, number, int, same}
 use Rattle.rules.specs.Key.{tableOf, hasKey}
 use Rattle.rules.specs.Update.{inTable, held as heldIn}
 use Rattle.rules.proofs.Formed.{parts-count}
 use Rattle.buffers.specs.Splice.{splice}
-use Rattle.buffers.proofs.Splice.{splice-none, splice-next, length-splice, length-window}
+use Rattle.buffers.proofs.Splice.{length-window}
+use Rattle.buffers.proofs.Written.{Written, written-none, written-next, written-same, written-length}
 use Rattle.entries.specs.Store.{entriesIn, tablesIn, placeFrom}
 use Rattle.rules.proofs.Lists.{parts-from}
 
@@ -66,55 +67,64 @@ module _ (table count : ℕ) (s : List ℕ) where
   unfolding heldIn
   held-left = omega arith
 
--- Before entry i, `after` is `before` with the n entries of the table found so far written to its start: writing those that
--- are left behind them gives all of them.
+-- Before entry i, `after` is `before` with the n entries of the table that stand before it written to its start.
 pub record Gathered (table count : ℕ) (s before after : List ℕ) (n i : ℕ) : Type 0 where
   pub few : n ≤ i
   pub room : 220 * n ≤ length before
-  pub long : length after ≡ length before
   pub total : heldIn table (tablesIn count s) ≡ n + length (left table count s i)
-  pub rest : splice after (220 * n) (concat (left table count s i)) ≡ splice before 0 (concat (left table count s 0))
+  pub written : Written 220 (left table count s 0) before (left table count s i) after n
+
+-- the first n are written: all of the table, or as many as there is room for
+abbrev Given : ℕ → ℕ → List ℕ → List ℕ → List ℕ → ℕ → Type 0
+Given table count s before after n =
+    (n ≡ min (heldIn table (tablesIn count s)) (length before / 220)) × (after ≡ splice before 0 (concat (take n (left table count s 0))))
 
 pub gather-start : (table count : ℕ) (s before : List ℕ) → Gathered table count s before before 0 0
 gather-start table count s before = record {
   few = omega arith;
   room = omega arith;
-  long = refl;
   total = held-left table count s;
-  rest = refl;
+  written = written-none 220 (left table count s 0) before;
 }
 
 module _ {table count : ℕ} {s before after : List ℕ} {n i : ℕ} (g : Gathered table count s before after n i) where
-  pub gather-miss : i < count → (int (220 * i) 4 s ≡ table → ⊥) → Gathered table count s before after n (i + 1)
-  gather-miss h d =
+  pub gather-long : length after ≡ length before
+  gather-long = written-length (g .written) (g .room)
+
+  pub gather-miss : {after′ : List ℕ} {n′ : ℕ} → i < count → (int (220 * i) 4 s ≡ table → ⊥) → after′ ≡ after → n′ ≡ n
+      → Gathered table count s before after′ n′ (i + 1)
+  gather-miss h d o m =
       let e : left table count s i ≡ left table count s (i + 1) = left-miss table count s i h d in
-      record { few = omega (arith, g .few); room = g .room; long = g .long; total = rw e at (g .total); rest = rw e at (g .rest) }
+      record {
+        few = omega (arith, g .few);
+        room = omega (arith, g .room);
+        total = omega (arith, g .total, ap length e);
+        written = written-same (g .written) e o m;
+      }
 
   -- one entry of the table more, at entry i
   more : i < count → int (220 * i) 4 s ≡ table → heldIn table (tablesIn count s) ≡ n + 1 + length (left table count s (i + 1))
   more h e = omega (arith, g .total, ap length (left-hit table count s i h e))
 
-  pub gather-hit : i < count → 220 * count ≤ length s → int (220 * i) 4 s ≡ table → 220 * n + 220 ≤ length before
-      → Gathered table count s before (splice after (220 * n) (part (220 * i) 220 s)) (n + 1) (i + 1)
-  gather-hit h z e r =
-      let p : List ℕ = part (220 * i) 220 s in
-      let l : length p ≡ 220 = length-window (220 * i) 220 s (omega arith) in
-      let w : length after ≡ length before = g .long in
-      record {
-        few = omega (arith, g .few);
-        room = omega arith;
-        long = length-splice after (220 * n) p (omega arith) ∙ w;
-        total = more h e;
-        rest = splice-next after (220 * n) (220 * (n + 1)) p (concat (left table count s (i + 1))) (omega arith) (omega arith)
-            ∙ (rw (left-hit table count s i h e) at (g .rest));
-      }
+  pub gather-hit : {after′ : List ℕ} {n′ : ℕ} → i < count → 220 * count ≤ length s → int (220 * i) 4 s ≡ table
+      → 220 * n + 220 ≤ length before → after′ ≡ splice after (220 * n) (part (220 * i) 220 s) → n′ ≡ n + 1
+      → Gathered table count s before after′ n′ (i + 1)
+  gather-hit h z e r o m = record {
+    few = omega (arith, g .few);
+    room = omega arith;
+    total = omega (arith, more h e);
+    written = written-next (g .written) (left-hit table count s i h e) (length-window (220 * i) 220 s (omega arith)) (g .room) o m;
+  }
+
+  given : n ≡ min (heldIn table (tablesIn count s)) (length before / 220) → Given table count s before after n
+  given c =
+      let w = g .written in
+      let e : take n (left table count s 0) ≡ w .done = ap (take n) (w .split) ∙ take-at (w .done) (left table count s i) n (sym (w .count)) in
+      (c, w .bytes ∙ ap (λ (l : List (List ℕ)). splice before 0 (concat l)) (sym e))
 
   -- an entry for which there is no room
-  pub gather-full : i < count → int (220 * i) 4 s ≡ table → length before < 220 * n + 220
-      → 220 * heldIn table (tablesIn count s) ≤ length before → ⊥
-  gather-full h e r f = omega (arith, more h e)
+  pub gather-full : i < count → int (220 * i) 4 s ≡ table → length before < 220 * n + 220 → Given table count s before after n
+  gather-full h e r = given (omega (arith, g .room, more h e))
 
-  pub gather-end : count ≤ i → (n ≡ heldIn table (tablesIn count s)) × (after ≡ splice before 0 (concat (left table count s 0)))
-  gather-end h =
-      let e : left table count s i ≡ [] = left-none table count s i h in
-      (omega (arith, g .total, ap length e), splice-none after (220 * n) ∙ (rw e at (g .rest)))
+  pub gather-end : count ≤ i → Given table count s before after n
+  gather-end h = given (omega (arith, g .room, g .total, ap length (left-none table count s i h)))

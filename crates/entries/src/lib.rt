@@ -1,7 +1,7 @@
 // The store of entries in shortest form: key search, counting, deletion, and gathering for READ.
 ghost use mathlib.Core.Path.{_≡_};
-ghost use Prim.Native.Nat.{_+_, _*_, _-_, _≤_, _<_};
-ghost use lib.ListN.{length};
+ghost use Prim.Native.Nat.{_+_, _*_, _-_, _/_, _≤_, _<_, min};
+ghost use lib.ListN.{length, take};
 ghost use Rattle.rules.specs.Bytes.{keep, concat};
 ghost use Rattle.rules.specs.Update.{inTable, held as heldIn};
 ghost use Rattle.buffers.specs.Splice.{splice};
@@ -69,9 +69,8 @@ pub fn write_entry(entry: &[u8], dst: &mut [u8])
 // Writes the entries of a table to the start of the answer, in order of insertion, as far as it has room; their number.
 pub fn gather(store: &[u8], count: usize, table: u64, answer: &mut [u8]) -> usize
     requires { ⌜ 220 * count ≤ length (now store) ⌝ }
-    ensures room { λ r. ⌜ 220 * r ≤ length (now (answer .entry)) ⌝ }
-    ensures count { λ r. ⌜ (220 * heldIn table (tablesIn count (now (store .entry))) ≤ length (now (answer .entry)) → r ≡ heldIn table (tablesIn count (now (store .entry)))) ⌝ }
-    ensures records { λ _. ⌜ (220 * heldIn table (tablesIn count (now (store .entry))) ≤ length (now (answer .entry)) → now (answer .exit) ≡ splice (now (answer .entry)) 0 (concat (keep (inTable table) (entriesIn count (now (store .entry)))))) ⌝ }
+    ensures count { λ r. ⌜ r ≡ min (heldIn table (tablesIn count (now (store .entry)))) (length (now (answer .entry)) / 220) ⌝ }
+    ensures records { λ r. ⌜ now (answer .exit) ≡ splice (now (answer .entry)) 0 (concat (take r (keep (inTable table) (entriesIn count (now (store .entry)))))) ⌝ }
 {
     let mut n: usize = 0;
     let mut i: usize = 0;

@@ -1,20 +1,21 @@
 -- What a READ writes: the entries of the rows asked for, one row after another, or the one entry of a key. Right because the
 -- rows are walked in order, and because keys are distinct. Assumes nothing.
-use Prim.Native.Nat.{ℕ, zero, suc, _+_, _*_, _-_, _≤_, _<_, min}
+use Prim.Native.Nat.{ℕ, _+_, _*_, _-_, _/_, _≤_, _<_, min}
 use native.Mathlib.Omega.{arith}
 use mathlib.Core.Path.{_≡_, refl, sym, ap, _∙_}
-use mathlib.Core.Bool.{Bool, true, false}
+use mathlib.Core.Bool.{true, false}
 use mathlib.Core.List.{List, [], _∷_, _++_, append-nil}
 use mathlib.Core.Option.{none, some}
-use lib.ListN.{length, take, drop, getD, length-append, length-drop}
-use lib.Seq.{length-take-le}
+use lib.ListN.{length, take, drop, getD, length-append}
+use lib.Seq.{take-all}
 use borrow.Rule.Slice.PartMut.{putMid, same-len-mid}
-use Rattle.rules.specs.Bytes.{if_then_else_, keep, concat, part, parts}
+use Rattle.rules.specs.Bytes.{keep, concat, part}
 use Rattle.rules.specs.Key.{hasKey}
 use Rattle.rules.specs.Update.{inTable, held}
 use Rattle.rules.specs.Call.{asked, gathered}
 use Rattle.rules.proofs.Lists.{concat-append}
-use Rattle.rules.proofs.Formed.{parts-count}
+use Rattle.rules.proofs.Formed.{parts-count, parts-lengths}
+use Rattle.rules.proofs.Sizes.{concat-length, keep-lengths}
 use Rattle.buffers.specs.Splice.{splice}
 use Rattle.buffers.proofs.Splice.{splice-none, splice-next, length-window, part-copied}
 use Rattle.rows.specs.declared.Rows.{Rows}
@@ -50,21 +51,6 @@ module _ (count : ℕ) (s k before : List ℕ) where
       (λ t. ap length (sym (e t)), λ t. q ∙ ap (λ (l : List (List ℕ)). splice before 0 (concat l)) (sym (e t)))
 
 -- ---- the entries of the rows asked for
-
--- the entries of a table take 220 bytes each
-kept-length : (p : List ℕ → Bool) (n : ℕ) (s : List ℕ) → 220 * n ≤ length s
-    → length (concat (keep p (entriesIn n s))) ≡ 220 * length (keep p (entriesIn n s))
-unfolding parts
-kept-length p zero s h = omega arith
-kept-length p (suc n) s h = go (p (take 220 s)) (kept-length p n (drop 220 s) (omega (arith, length-drop 220 s)))
-  where
-    more : List (List ℕ)
-    more = keep p (parts n 220 (drop 220 s))
-
-    go : (b : Bool) → length (concat more) ≡ 220 * length more
-        → length (concat (if b then take 220 s ∷ more else more)) ≡ 220 * length (if b then take 220 s ∷ more else more)
-    go true e = omega (arith, length-append (take 220 s) (concat more), length-take-le 220 s (omega arith))
-    go false e = e
 
 -- Of all the records n are written to the start of `before`, which gives `after`: where all have room, writing those that are
 -- left behind them gives all of them.
@@ -107,20 +93,21 @@ module _ {all left : List (List ℕ)} {before after : List ℕ} {n : ℕ} (g : R
   pub reading-gather : (table count : ℕ) (s : List ℕ) (more : List (List ℕ)) (p : List ℕ) (r : ℕ) →
       let lent : List ℕ = take (length after - 220 * n) (drop (220 * n) after) in
       let xs : List (List ℕ) = keep (inTable table) (entriesIn count s) in
-      left ≡ xs ++ more → 220 * count ≤ length s → length p ≡ length lent → 220 * r ≤ length lent
-      → (220 * held table (tablesIn count s) ≤ length lent → r ≡ held table (tablesIn count s))
-      → (220 * held table (tablesIn count s) ≤ length lent → p ≡ splice lent 0 (concat xs))
+      left ≡ xs ++ more → 220 * count ≤ length s → length p ≡ length lent
+      → r ≡ min (held table (tablesIn count s)) (length lent / 220) → p ≡ splice lent 0 (concat (take r xs))
       → Reading all more before (putMid (220 * n) (length after - 220 * n) after p) (n + r)
   unfolding held
-  reading-gather table count s more p r e h l f number bytes =
+  reading-gather table count s more p r e h l number bytes =
       let at : ℕ = 220 * n in
       let k : ℕ = length after - at in
       let xs : List (List ℕ) = keep (inTable table) (entriesIn count s) in
       let o : at ≤ length after = omega (arith, g .room, g .long) in
       let w : length (take k (drop at after)) ≡ k = length-window at k after (omega arith) in
-      let z : length (concat xs) ≡ 220 * length xs = kept-length (inTable table) count s h in
+      let z : length (concat xs) ≡ 220 * length xs = concat-length 220 xs (keep-lengths 220 (inTable table) (entriesIn count s) (parts-lengths count 220 s (omega arith))) in
       reading-next xs more (putMid at k after p) r e z (same-len-mid at k after p l) (omega arith)
-      (λ fit. (number (omega arith), part-copied after p (concat xs) at k (bytes (omega arith)) (omega arith) (omega arith)))
+      (λ fit.
+      let m : r ≡ length xs = omega arith in
+      (m, part-copied after p (concat xs) at k (rw (take-all r xs (omega arith)) at bytes) (omega arith) (omega arith)))
 
 -- what is left of a READ before the row at i
 module _ (role table : ℕ) (rows : Rows) (count : ℕ) (s : List ℕ) where

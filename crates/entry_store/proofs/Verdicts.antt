@@ -6,6 +6,7 @@ use mathlib.Core.Path.{_≡_}
 use mathlib.Core.Bool.{true, false}
 use mathlib.Core.List.{List, _++_, append-nil}
 use mathlib.Core.Option.{none, some}
+use lib.Dec.{leb}
 use lib.ListN.{length, take, drop-of-length-le}
 use borrow.Author.Tests.{le-leb, lt-leb}
 use Rattle.rules.specs.Reason.{first}
@@ -34,19 +35,19 @@ module _ (row : Row) (e : List ℕ) (es : List (List ℕ)) where
   unfolding placeReason first
   insert-present i p = rw (present i p)
 
-  pub insert-table-full : place (shortKey e) es ≡ none → row .size ≤ held (row .table) t → placeReason row 1 e t ≡ 22
+  pub insert-table-full : place (shortKey e) es ≡ none → leb (row .size) (held (row .table) t) ≡ true → placeReason row 1 e t ≡ 22
   unfolding placeReason first
-  insert-table-full p h = rw (absent p, le-leb (row .size) (held (row .table) t) h)
+  insert-table-full p h = rw (absent p, h)
 
-  pub insert-store-full : place (shortKey e) es ≡ none → held (row .table) t < row .size → 256 ≤ length es
+  pub insert-store-full : place (shortKey e) es ≡ none → leb (row .size) (held (row .table) t) ≡ false → 256 ≤ length es
       → placeReason row 1 e t ≡ 24
   unfolding placeReason first
-  insert-store-full p h f = rw (absent p, lt-leb (row .size) (held (row .table) t) h, le-leb 256 (length es) f)
+  insert-store-full p h f = rw (absent p, h, le-leb 256 (length es) f)
 
-  pub insert-absent : place (shortKey e) es ≡ none → held (row .table) t < row .size → length es < 256
+  pub insert-absent : place (shortKey e) es ≡ none → leb (row .size) (held (row .table) t) ≡ false → length es < 256
       → placeReason row 1 e t ≡ 0
   unfolding placeReason first
-  insert-absent p h f = rw (absent p, lt-leb (row .size) (held (row .table) t) h, lt-leb 256 (length es) f)
+  insert-absent p h f = rw (absent p, h, lt-leb 256 (length es) f)
 
   -- ---- MODIFY and DELETE
 

@@ -8,11 +8,11 @@ ghost use lib.ListN.{length, drop, getD, set};
 ghost use Rattle.rules.specs.Bytes.{if_then_else_, byte, keep, concat};
 ghost use Rattle.rules.specs.Reason.{first};
 ghost use Rattle.rules.specs.Frame.{updateOf};
-ghost use lib.Dec.{eqb};
+ghost use lib.Dec.{eqb, leb};
 ghost use Rattle.rules.specs.Row.{mayWrite};
 ghost use Rattle.rules.specs.Key.{keyFormed, keyFits, shortKey, hasKey};
 ghost use Rattle.rules.specs.Entry.{actionFormed, actionFits, shortEntry};
-ghost use Rattle.rules.specs.Update.{isInsert, judge as judgement, batch as batchOf};
+ghost use Rattle.rules.specs.Update.{isInsert, held as heldIn, judge as judgement, batch as batchOf};
 ghost use Rattle.rules.specs.Call.{pairOf, asked, gathered};
 ghost use Rattle.buffers.specs.Splice.{splice};
 ghost use Rattle.rows.specs.Meaning.{rowOf, rowsOf};
@@ -100,6 +100,18 @@ fn locate(store: &[u8], count: usize, entry: &[u8]) -> Found
     entries::find(store, count, &key)
 }
 
+// Whether the table of the row holds its size. It holds no more entries than the store, so that mostly none has to be counted.
+fn full(row: Row, store: &[u8], count: usize) -> bool
+    requires { ⌜ 220 * count ≤ length (now store) ⌝ }
+    ensures { λ r. ⌜ r ≡ leb (rowOf row .size) (heldIn (rowOf row .table) (tablesIn count (now (store .entry)))) ⌝ }
+{
+    let size = row.size as usize;
+    if count < size {
+        return false;
+    }
+    size <= entries::held(store, count, row.table as u64)
+}
+
 // 20, 22 and 24 of an INSERT.
 fn judge_insert(row: Row, store: &[u8], count: usize, entry: &[u8]) -> Verdict
     requires { ⌜ (220 * count ≤ length (now store)) × (length (now entry) ≡ 220) ⌝ }
@@ -110,7 +122,7 @@ fn judge_insert(row: Row, store: &[u8], count: usize, entry: &[u8]) -> Verdict
     match found {
         Found::At(_) => Verdict::Refused(20),
         Found::Absent => {
-            if row.size as usize <= entries::held(store, count, row.table as u64) {
+            if full(row, store, count) {
                 return Verdict::Refused(22);
             }
             if 256 <= count {
@@ -424,7 +436,7 @@ fn read_key(query: &[u8], store: &[u8], count: usize, answer: &mut [u8]) -> usiz
     read_one(store, count, &short, answer)
 }
 
-// Writes the entries that a READ asks for; their number.
+// Writes the entries that a READ asks for into an answer with room for 256 entries; their number.
 pub fn read(
     rows: Rows,
     role: u8,
@@ -435,7 +447,7 @@ pub fn read(
     count: usize,
     answer: &mut [u8],
 ) -> usize
-    requires { ⌜ (length (now query) ≡ 149) × (220 * count ≤ length (now store)) × (220 ≤ length (now answer)) ⌝ }
+    requires { ⌜ (length (now query) ≡ 149) × (220 * count ≤ length (now store)) × (56320 ≤ length (now answer)) ⌝ }
     ensures { λ r. ⌜ (Tidy count (now (store .entry)) → Reads (readIn (rowsOf rows) role table only (keyIn (now (query .entry))) (tablesIn count (now (store .entry)))) (now (answer .entry)) (now (answer .exit)) r) ⌝ }
 {
     if only == 1 {

@@ -1,5 +1,5 @@
--- Right because the entries written and those of the table that are left make up all of them. Assumes nothing.
-use Prim.Native.Nat.{ℕ, _+_, _*_, _-_, _≤_}
+-- Right because the entries written and those of the table that are left make up all of them, so those written are the first. Assumes nothing.
+use Prim.Native.Nat.{ℕ, _+_, _*_, _-_}
 use native.Mathlib.Omega.{arith}
 use mathlib.Core.Path.{_≡_, sym, _∙_}
 use mathlib.Core.List.{List}
@@ -10,18 +10,18 @@ use Rattle.rules.specs.Bytes.{part}
 use Rattle.buffers.specs.Splice.{splice}
 use Rattle.buffers.proofs.Splice.{length-window, part-copied}
 use borrow.Author.Needs.{needs}
-use Rattle.entries.proofs.Rest.{Gathered, gather-start, gather-hit, gather-miss, gather-full, gather-end}
+use Rattle.entries.proofs.Rest.{Gathered, gather-start, gather-long, gather-miss, gather-hit, gather-full, gather-end}
 use Rattle.entries.proofs.gather.Statement.{statement}
 use Rattle.entries.proofs.gather.Tie as tie
 
 abbrev Inv-loop : tie.InvT-loop
-Inv-loop store count table answer₀ n₀ i₀ answer n i = (i ≤ count) × Gathered table count store answer₀ answer n i
+Inv-loop store count table answer₀ n₀ i₀ answer n i = Gathered table count store answer₀ answer n i
 
 abbrev μ-loop : tie.MeasureT-loop
 μ-loop store count table answer₀ n₀ i₀ answer n i = count - i
 
 loop-holds : tie.Need-loop-holds Inv-loop μ-loop
-loop-holds c = (omega arith, gather-start _ _ _ _)
+loop-holds c = gather-start _ _ _ _
 
 mul-from : tie.Need-mul-from Inv-loop μ-loop
 mul-from c = search needs
@@ -33,18 +33,15 @@ mul-at : tie.Need-mul-at Inv-loop μ-loop
 mul-at c = search needs
 
 sub-if2 : tie.Need-sub-if2 Inv-loop μ-loop
-sub-if2 c = search needs
+sub-if2 c = omega (arith, gather-long (c .before .before .before .loop .inv))
 
 same-length : tie.Need-same-length Inv-loop μ-loop
-same-length c = search needs
+same-length c = gather-long (c .before .before .before .before .loop .inv)
 
 returns : tie.Need-returns Inv-loop μ-loop
 returns c =
-    let l = c .before .before .before .before in
-    let g = l .loop .inv .1 in
-    let hit = sym (c .before .before .integer .ensures) ∙ c .before .if1 .taken in
-    let full = gather-full g (omega arith) hit (omega (arith, g .room, g .long)) in
-    (g .room, (λ f. absurd (full f), λ f. absurd (full f)))
+    let g = c .before .before .before .before .loop .inv in
+    gather-full g (omega arith) (sym (c .before .before .integer .ensures) ∙ c .before .if1 .taken) (omega (arith, gather-long g))
 
 add-end : tie.Need-add-end Inv-loop μ-loop
 add-end c = search needs
@@ -86,7 +83,7 @@ loop-again c =
     let x : List ℕ = l .loop .answer in
     let i : ℕ = l .loop .i in
     let at : ℕ = 220 * l .loop .n in
-    let g = l .loop .inv .1 in
+    let g = l .loop .inv in
     let e = c .before .integer .ensures in
     ⊎-elim
     (λ w.
@@ -95,18 +92,15 @@ loop-again c =
     let z : length p ≡ 220 = length-window (220 * i) 220 s (omega arith) in
     let q : w .4 .last .1 .0 ≡ splice (take (length x - at) (drop at x)) 0 p = rw k at (w .4 .ensures) in
     let r = part-copied x (w .4 .last .1 .0) p at (length x - at) q (omega arith) (omega arith) in
-    (omega arith, rw (w .7 ∙ r, w .8) (gather-hit g (omega arith) (omega arith) (sym e ∙ w .0 .taken) (omega arith))))
-    (λ w. (omega arith, rw (w .1, w .2) (gather-miss g (omega arith) (λ q. w .0 .left (e ∙ q)))))
+    gather-hit g (omega arith) (omega arith) (sym e ∙ w .0 .taken) (omega (arith, gather-long g)) (w .7 ∙ r) (w .8))
+    (λ w. gather-miss g (omega arith) (λ q. w .0 .left (e ∙ q)) (w .1) (w .2))
     (c .if1 .came)
 
 same-length-2 : tie.Need-same-length-2 Inv-loop μ-loop
-same-length-2 c = search needs
+same-length-2 c = gather-long (c .before .loop .inv)
 
 returns-2 : tie.Need-returns-2 Inv-loop μ-loop
-returns-2 c =
-    let g = c .before .loop .inv .1 in
-    let r = gather-end g (omega arith) in
-    (g .room, (λ f. r .0, λ f. r .1))
+returns-2 c = gather-end (c .before .loop .inv) (omega arith)
 
 pub gather-spec : {M : Type 1} → statement M
 gather-spec =

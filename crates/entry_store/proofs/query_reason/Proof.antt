@@ -1,5 +1,4 @@
 -- Right because the row found is the table's, and each way out is one way through the order. Assumes nothing.
-use mathlib.Core.Path.{sym}
 use denote.Ref.{now}
 use Rattle.rows.specs.Meaning.{rowsOf}
 use Rattle.entry_store.specs.Read.{keyIn}

@@ -102,7 +102,7 @@ loop-again c =
     let u = unread-hit (a .role) (a .table) (a .t1) (a .count) s i (size l) (omega arith) (omega arith) (sym e ∙ w .0 .taken) in
     rw (w .6, w .7)
     (reading-gather (l .loop .inv) (row .table) (a .count) s _ (w .3 .last .1 .1 .1 .0) (w .3 .result) u (omega arith)
-    (w .3 .kept .1 .1 .1 .0) (w .3 .ensures .0) (w .3 .ensures .1 .0) (w .3 .ensures .1 .1)))
+    (w .3 .kept .1 .1 .1 .0) (w .3 .ensures .0) (w .3 .ensures .1)))
     (λ w.
     let u = unread-miss (a .role) (a .table) (a .t1) (a .count) s i (size l) (omega arith) (omega arith) (sym e ∙ w .0 .left) in
     rw (w .1, w .2, ← u) (l .loop .inv))
