@@ -6,7 +6,7 @@ use mathlib.Core.Bool.{Bool, true, false, _&&_, not}
 use mathlib.Core.List.{List, [], _∷_}
 use lib.Dec.{eqb}
 use lib.ListN.{length, take, drop, length-append}
-use lib.Seq.{drop-append-add}
+use lib.Seq.{take-all, drop-append-add}
 use borrow.Author.Tests.{ne-eqb}
 use Rattle.rules.specs.Bytes.{if_then_else_, keep, concat, part, parts, int, number}
 use Rattle.rules.specs.Reason.{first}
@@ -14,6 +14,8 @@ use Rattle.rules.specs.Row.{Row, known, rowFor, mayWrite}
 use Rattle.rules.specs.Key.{slotFormed, slotFits, slotRule, alongside, alongsideAll, priorityRule, keyFormed, keyFits, keyRules, shortKey, hasKey}
 use Rattle.rules.specs.Call.{gathered}
 use Rattle.rules.proofs.Lists.{part-part}
+use Rattle.rules.proofs.Formed.{parts-count}
+use Rattle.rules.proofs.Tables.{keep-fewer}
 use Rattle.rules.proofs.Shortest.{part-length}
 use Rattle.buffers.specs.Splice.{splice}
 use Rattle.entries.specs.Store.{entriesIn, tablesIn}
@@ -94,19 +96,29 @@ module _ (rows : List Row) (role table only : ℕ) (k : List ℕ) {found : Bool}
 
 -- ---- the records
 
+-- where they have room, all are written
+module _ (es : List (List ℕ)) (before : List ℕ) {after : List ℕ} {n : ℕ} (h : 220 * length es ≤ length before) where
+  pub reads-all : Reads es before after n → (n ≡ length es) × (after ≡ splice before 0 (concat es))
+  reads-all r =
+      let c : n ≡ length es = omega (arith, r .0) in
+      (c, r .1 ∙ ap (λ (l : List (List ℕ)). splice before 0 (concat l)) (take-all n es (omega arith)))
+
+  all-reads : n ≡ length es → after ≡ splice before 0 (concat es) → Reads es before after n
+  all-reads c b = (omega arith, b ∙ ap (λ (l : List (List ℕ)). splice before 0 (concat l)) (sym (take-all n es (omega arith))))
+
 module _ (rows : List Row) (role table : ℕ) {only : ℕ} (k before : List ℕ) {count : ℕ} {s after : List ℕ} {n : ℕ} where
   -- with only 1 the entry of the key
-  pub key-read : only ≡ 1 → (Tidy count s → n ≡ length (keep (hasKey (shortKey k)) (entriesIn count s)))
+  pub key-read : only ≡ 1 → 56320 ≤ length before → (Tidy count s → n ≡ length (keep (hasKey (shortKey k)) (entriesIn count s)))
       → (Tidy count s → after ≡ splice before 0 (concat (keep (hasKey (shortKey k)) (entriesIn count s))))
       → Tidy count s → Reads (readIn rows role table only k (tablesIn count s)) before after n
   unfolding readIn
-  key-read o c b = rw o (λ t h. (c t, b t))
+  key-read o h c b t =
+      let es : List (List ℕ) = keep (hasKey (shortKey k)) (entriesIn count s) in
+      let few : length es ≤ 256 = omega (arith, keep-fewer (hasKey (shortKey k)) (entriesIn count s), parts-count count 220 s, t .few) in
+      rw o (all-reads es before (omega arith) (c t) (b t))
 
   -- otherwise those of the rows asked for
-  pub all-read : (only ≡ 1 → ⊥)
-      → (220 * length (gathered role table rows (tablesIn count s)) ≤ length before → n ≡ length (gathered role table rows (tablesIn count s)))
-      → (220 * length (gathered role table rows (tablesIn count s)) ≤ length before
-      → after ≡ splice before 0 (concat (gathered role table rows (tablesIn count s))))
+  pub all-read : (only ≡ 1 → ⊥) → Reads (gathered role table rows (tablesIn count s)) before after n
       → Tidy count s → Reads (readIn rows role table only k (tablesIn count s)) before after n
   unfolding readIn
-  all-read o c b = rw (ne-eqb only 1 o) (λ t h. (c h, b h))
+  all-read o r t = rw (ne-eqb only 1 o) r

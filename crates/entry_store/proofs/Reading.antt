@@ -1,23 +1,25 @@
 -- What a READ writes: the entries of the rows asked for, one row after another, or the one entry of a key. Right because the
 -- rows are walked in order, and because keys are distinct. Assumes nothing.
-use Prim.Native.Nat.{ℕ, _+_, _*_, _-_, _/_, _≤_, _<_, min}
+use Prim.Native.Nat.{ℕ, zero, suc, _+_, _*_, _-_, _/_, _≤_, _<_, min}
+use native.Mathlib.Nat.{eq-or-lt-of-le}
 use native.Mathlib.Omega.{arith}
 use mathlib.Core.Path.{_≡_, refl, sym, ap, _∙_}
 use mathlib.Core.Bool.{true, false}
 use mathlib.Core.List.{List, [], _∷_, _++_, append-nil}
+use mathlib.Core.Logic.{_⊎_, inl, inr, ⊎-elim}
 use mathlib.Core.Option.{none, some}
-use lib.ListN.{length, take, drop, getD, length-append}
-use lib.Seq.{take-all}
-use borrow.Rule.Slice.PartMut.{putMid, same-len-mid}
+use lib.ListN.{length, take, drop, getD, length-append, length-drop}
+use lib.Seq.{take-add, take-append-le, drop-drop, drop-at}
+use borrow.Rule.Slice.PartMut.{putMid}
 use Rattle.rules.specs.Bytes.{keep, concat, part}
 use Rattle.rules.specs.Key.{hasKey}
 use Rattle.rules.specs.Update.{inTable, held}
 use Rattle.rules.specs.Call.{asked, gathered}
 use Rattle.rules.proofs.Lists.{concat-append}
-use Rattle.rules.proofs.Formed.{parts-count, parts-lengths}
-use Rattle.rules.proofs.Sizes.{concat-length, keep-lengths}
+use Rattle.rules.proofs.Formed.{EveryLength, parts-count, parts-lengths}
+use Rattle.rules.proofs.Sizes.{keep-lengths}
 use Rattle.buffers.specs.Splice.{splice}
-use Rattle.buffers.proofs.Splice.{splice-none, splice-next, length-window, part-copied}
+use Rattle.buffers.proofs.Splice.{splice-none, splice-next, length-splice, length-window, part-copied}
 use Rattle.rows.specs.declared.Rows.{Rows}
 use Rattle.rows.specs.Meaning.{rowOf, rowsOf}
 use Rattle.rows.proofs.Counted.{blank, rows-next, rows-none}
@@ -25,6 +27,7 @@ use Rattle.entries.specs.Store.{entriesIn, tablesIn, place}
 use Rattle.entries.proofs.Parts.{parts-at}
 use Rattle.entries.proofs.Places.{place-stored, keep-place, keep-absent}
 use Rattle.entry_store.specs.Update.{Tidy}
+use Rattle.entry_store.specs.Read.{Reads}
 
 -- ---- the entry of a key
 
@@ -52,62 +55,91 @@ module _ (count : ℕ) (s k before : List ℕ) where
 
 -- ---- the entries of the rows asked for
 
--- Of all the records n are written to the start of `before`, which gives `after`: where all have room, writing those that are
--- left behind them gives all of them.
+-- the first r of records of 220 bytes
+first-length : (r : ℕ) (xs : List (List ℕ)) → EveryLength 220 xs → r ≤ length xs → length (concat (take r xs)) ≡ 220 * r
+first-length zero xs w h = omega arith
+first-length (suc r) [] w h = absurd (omega arith)
+first-length (suc r) (x ∷ xs) w h =
+    omega (arith, length-append x (concat (take r xs)), first-length r xs (w .1) (omega arith), w .0)
+
+-- Of all the records the first n are written to the start of `before`, which gives `after`; those that are left are the next, or
+-- there is no room for one more.
 pub record Reading (all left : List (List ℕ)) (before after : List ℕ) (n : ℕ) : Type 0 where
   pub room : 220 * n ≤ length before
   pub long : length after ≡ length before
-  pub rest : 220 * length all ≤ length before
-      → (n + length left ≡ length all) × (splice after (220 * n) (concat left) ≡ splice before 0 (concat all))
+  pub few : n ≤ length all
+  pub size : length (concat (take n all)) ≡ 220 * n
+  pub bytes : after ≡ splice before 0 (concat (take n all))
+  pub next : (drop n all ≡ left) ⊎ (length before < 220 * n + 220)
 
 pub reading-start : (all : List (List ℕ)) (before : List ℕ) → Reading all all before before 0
-reading-start all before = record { room = omega arith; long = refl; rest = λ h. (omega arith, refl) }
+reading-start all before = record {
+  room = omega arith;
+  long = refl;
+  few = omega arith;
+  size = omega arith;
+  bytes = splice-none before 0;
+  next = inl refl;
+}
 
 module _ {all left : List (List ℕ)} {before after : List ℕ} {n : ℕ} (g : Reading all left before after n) where
-  pub reading-end : left ≡ [] → 220 * length all ≤ length before → (n ≡ length all) × (after ≡ splice before 0 (concat all))
-  reading-end e h =
-      let r = rw e at (g .rest h) in
-      (omega (arith, r .0), splice-none after (220 * n) ∙ r .1)
+  pub reading-end : left ≡ [] → Reads all before after n
+  reading-end e = (
+    ⊎-elim (λ d. omega (arith, g .room, g .few, ap length (d ∙ e), length-drop n all)) (λ f. omega (arith, g .room, g .few)) (g .next),
+    g .bytes,
+  )
 
-  -- r records more, which are the next ones where these have room
-  reading-next : (xs more : List (List ℕ)) (after′ : List ℕ) (r : ℕ) → left ≡ xs ++ more
-      → length (concat xs) ≡ 220 * length xs → length after′ ≡ length after → 220 * n + 220 * r ≤ length after
-      → (220 * n + 220 * length xs ≤ length after → (r ≡ length xs) × (after′ ≡ splice after (220 * n) (concat xs)))
-      → Reading all more before after′ (n + r)
-  reading-next xs more after′ r e w l f next = record {
-    room = omega (arith, g .long);
-    long = l ∙ g .long;
-    rest = λ h.
-        let s = rw e at (g .rest h) in
-        let c : n + (length xs + length more) ≡ length all = omega (arith, s .0, length-append xs more) in
-        let k = next (omega (arith, g .long)) in
-        let at : ℕ = 220 * (n + r) in (
-          omega (arith, k .0),
-          ap (λ (x : List ℕ). splice x at (concat more)) (k .1)
-              ∙ splice-next after (220 * n) at (concat xs) (concat more) (omega (arith, k .0)) (omega (arith, k .0, g .long))
-              ∙ (rw (concat-append xs more) at (s .1)),
-        );
-  }
+  -- the first r of the next records, all of them or as many as there is room for
+  reading-next : (xs more : List (List ℕ)) (r : ℕ) → left ≡ xs ++ more → EveryLength 220 xs
+      → r ≡ min (length xs) ((length before - 220 * n) / 220)
+      → Reading all more before (splice after (220 * n) (concat (take r xs))) (n + r)
+  reading-next xs more r e w m =
+      let ys : List (List ℕ) = take r xs in
+      let y : length (concat ys) ≡ 220 * r = first-length r xs w (omega arith) in
+      let same : take r (drop n all) ≡ ys = ⊎-elim
+      (λ d. ap (take r) (d ∙ e) ∙ take-append-le r xs more (omega arith))
+      (λ f. let z : r ≡ 0 = omega (arith, f) in rw z) (g .next) in
+      let front : take (n + r) all ≡ take n all ++ ys = take-add n r all ∙ ap (λ (l : List (List ℕ)). take n all ++ l) same in
+      let joined : concat (take (n + r) all) ≡ concat (take n all) ++ concat ys = ap concat front ∙ concat-append (take n all) ys in
+      record {
+        room = omega (arith, g .room);
+        long = length-splice after (220 * n) (concat ys) (omega (arith, g .room, g .long)) ∙ g .long;
+        few = ⊎-elim
+            (λ d. omega (arith, g .few, ap length (d ∙ e), length-drop n all, length-append xs more))
+            (λ f. omega (arith, g .few, g .room)) (g .next);
+        size = omega (arith, g .size, ap length joined, length-append (concat (take n all)) (concat ys));
+        bytes =
+            ap (λ (x : List ℕ). splice x (220 * n) (concat ys)) (g .bytes)
+            ∙ splice-next before 0 (220 * n) (concat (take n all)) (concat ys) (omega (arith, g .size)) (g .room)
+            ∙ ap (splice before 0) (sym joined);
+        next = ⊎-elim
+            (λ d. ⊎-elim
+            (λ q. inl (sym (drop-drop r n all) ∙ ap (drop r) (d ∙ e) ∙ drop-at xs more r (sym q)))
+            (λ q. inr (omega (arith, g .room)))
+            (eq-or-lt-of-le {n = r} {m = length xs} (omega arith)))
+            (λ f. inr (omega (arith, f)))
+            (g .next);
+      }
 
   -- the entries of a table, gathered into what is left of `after`, which comes back as p
   pub reading-gather : (table count : ℕ) (s : List ℕ) (more : List (List ℕ)) (p : List ℕ) (r : ℕ) →
       let lent : List ℕ = take (length after - 220 * n) (drop (220 * n) after) in
       let xs : List (List ℕ) = keep (inTable table) (entriesIn count s) in
-      left ≡ xs ++ more → 220 * count ≤ length s → length p ≡ length lent
+      left ≡ xs ++ more → 220 * count ≤ length s
       → r ≡ min (held table (tablesIn count s)) (length lent / 220) → p ≡ splice lent 0 (concat (take r xs))
       → Reading all more before (putMid (220 * n) (length after - 220 * n) after p) (n + r)
   unfolding held
-  reading-gather table count s more p r e h l number bytes =
+  reading-gather table count s more p r e h number bytes =
       let at : ℕ = 220 * n in
       let k : ℕ = length after - at in
       let xs : List (List ℕ) = keep (inTable table) (entriesIn count s) in
-      let o : at ≤ length after = omega (arith, g .room, g .long) in
-      let w : length (take k (drop at after)) ≡ k = length-window at k after (omega arith) in
-      let z : length (concat xs) ≡ 220 * length xs = concat-length 220 xs (keep-lengths 220 (inTable table) (entriesIn count s) (parts-lengths count 220 s (omega arith))) in
-      reading-next xs more (putMid at k after p) r e z (same-len-mid at k after p l) (omega arith)
-      (λ fit.
-      let m : r ≡ length xs = omega arith in
-      (m, part-copied after p (concat xs) at k (rw (take-all r xs (omega arith)) at bytes) (omega arith) (omega arith)))
+      let l : length after ≡ length before = g .long in
+      let o : at ≤ length before = g .room in
+      let lent : length (take k (drop at after)) ≡ k = length-window at k after (omega arith) in
+      let w : EveryLength 220 xs = keep-lengths 220 (inTable table) (entriesIn count s) (parts-lengths count 220 s (omega arith)) in
+      let y : length (concat (take r xs)) ≡ 220 * r = first-length r xs w (omega arith) in
+      rw (part-copied after p (concat (take r xs)) at k bytes (omega arith) (omega arith))
+      (reading-next xs more r e w (rw (lent, l) at number))
 
 -- what is left of a READ before the row at i
 module _ (role table : ℕ) (rows : Rows) (count : ℕ) (s : List ℕ) where

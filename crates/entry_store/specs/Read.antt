@@ -2,9 +2,9 @@
 use mathlib.Core.Path.{_≡_}
 use mathlib.Core.Bool.{_&&_, not}
 use mathlib.Core.List.{List, [], _∷_, _++_}
-use Prim.Native.Nat.{ℕ, _*_, _≤_}
+use Prim.Native.Nat.{ℕ, _/_, min}
 use lib.Dec.{eqb}
-use lib.ListN.{length}
+use lib.ListN.{length, take}
 use Rattle.rules.specs.Bytes.{if_then_else_, keep, concat, part}
 use Rattle.rules.specs.Reason.{first}
 use Rattle.rules.specs.Row.{Row, known, rowFor, mayWrite}
@@ -38,7 +38,6 @@ unfoldable pub readIn : List Row → ℕ → ℕ → ℕ → List ℕ → Tables
 readIn rows role table only k t =
     if eqb only 1 then keep (hasKey (shortKey k)) (t .entries) else gathered role table rows t
 
--- these entries are written to the start of an answer which has room for them, and n is their number
+-- the first n of these entries are written to the start of an answer: all of them, or as many as it has room for
 abbrev pub Reads : List (List ℕ) → List ℕ → List ℕ → ℕ → Type 0
-Reads es before after n =
-    220 * length es ≤ length before → (n ≡ length es) × (after ≡ splice before 0 (concat es))
+Reads es before after n = (n ≡ min (length es) (length before / 220)) × (after ≡ splice before 0 (concat (take n es)))

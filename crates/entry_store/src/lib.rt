@@ -328,8 +328,7 @@ fn read_all(
     answer: &mut [u8],
 ) -> usize
     requires { ⌜ 220 * count ≤ length (now store) ⌝ }
-    ensures count { λ r. ⌜ (220 * length (gathered role table (rowsOf rows) (tablesIn count (now (store .entry)))) ≤ length (now (answer .entry)) → r ≡ length (gathered role table (rowsOf rows) (tablesIn count (now (store .entry))))) ⌝ }
-    ensures records { λ _. ⌜ (220 * length (gathered role table (rowsOf rows) (tablesIn count (now (store .entry)))) ≤ length (now (answer .entry)) → now (answer .exit) ≡ splice (now (answer .entry)) 0 (concat (gathered role table (rowsOf rows) (tablesIn count (now (store .entry)))))) ⌝ }
+    ensures { λ r. ⌜ Reads (gathered role table (rowsOf rows) (tablesIn count (now (store .entry)))) (now (answer .entry)) (now (answer .exit)) r ⌝ }
 {
     let t = rows.count as usize;
     let mut n: usize = 0;

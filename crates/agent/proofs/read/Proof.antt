@@ -13,8 +13,8 @@ use Rattle.rules.specs.Call.{readReason, shown}
 use Rattle.rules.proofs.Formed.{Formed}
 use Rattle.rules.proofs.Sizes.{shown-sized}
 use Rattle.buffers.proofs.Splice.{length-window}
-use Rattle.entry_store.specs.Read.{keyIn, queryReason, Reads}
-use Rattle.entry_store.proofs.Queries.{key-length}
+use Rattle.entry_store.specs.Read.{queryReason, Reads}
+use Rattle.entry_store.proofs.Queries.{key-length, reads-all}
 use Rattle.agent.specs.Meaning.{controlOf, stateOf}
 use Rattle.agent.specs.Handlers.{queryIn}
 use Rattle.agent.proofs.Answers.{records-then-head}
@@ -105,7 +105,7 @@ returns-3 c m k =
     (taken (a .agent) q s f k e) (r .ensures (tidy (a .agent) s k)) in
     let big = c .before .before .before .before .before .before .before .before .before .before .before .before .before .before .before .before .before .before .before .pre .2 in
     let w : length (take (length d - 4) (drop 4 d)) ≡ length d - 4 = length-window 4 (length d - 4) d (omega arith) in
-    let n = t (omega (arith, z .1)) in
+    let n = reads-all es (take (length d - 4) (drop 4 d)) (omega (arith, z .1)) t in
     was-read (a .agent) q s d (h .last .1 .1 .0) (record { agent = a .agent; reason = 0 }) f k e refl refl
     (records-then-head 0 (r .result) es d (r .last .1 .1 .1 .1 .1 .1 .1 .0) (h .last .1 .1 .0) (omega arith) (n .0) (r .kept .1 .1 .1 .1 .1 .1 .1 .0) (n .1) (h .ensures))
 

@@ -1,4 +1,5 @@
 -- Right because with only 1 the entry of the key is written, and otherwise the entries of the rows asked for. Assumes nothing.
+use native.Mathlib.Omega.{arith}
 use denote.Ref.{now}
 use Rattle.rows.specs.Meaning.{rowsOf}
 use Rattle.entry_store.specs.Read.{keyIn}
@@ -17,7 +18,7 @@ returns : tie.Need-returns
 returns c =
     let a = c .before .before .before .before .before .before .before .before .args in
     let e = c .before .before .read-key .ensures in
-    key-read (rowsOf (a .rows)) (a .role) (a .table) (keyIn (now (a .query))) (now (a .answer)) (c .before .before .before .before .if1 .taken) (e .0) (e .1)
+    key-read (rowsOf (a .rows)) (a .role) (a .table) (keyIn (now (a .query))) (now (a .answer)) (c .before .before .before .before .if1 .taken) (omega arith) (e .0) (e .1)
 
 read-all-requires : tie.Need-read-all-requires
 read-all-requires c κs = search needs
@@ -28,8 +29,7 @@ same-length-2 c = search needs
 returns-2 : tie.Need-returns-2
 returns-2 c =
     let a = c .before .before .before .before .before .before .before .before .args in
-    let e = c .before .before .read-all .ensures in
-    all-read (rowsOf (a .rows)) (a .role) (a .table) (keyIn (now (a .query))) (now (a .answer)) (c .before .before .before .before .if1 .left) (e .0) (e .1)
+    all-read (rowsOf (a .rows)) (a .role) (a .table) (keyIn (now (a .query))) (now (a .answer)) (c .before .before .before .before .if1 .left) (c .before .before .read-all .ensures)
 
 pub read-spec : {M : Type 1} → statement M
 read-spec =

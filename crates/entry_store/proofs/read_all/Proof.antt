@@ -1,5 +1,5 @@
 -- Right because the rows are walked in order, and the entries of each are written behind those before. Assumes nothing.
-use Prim.Native.Nat.{ℕ, _*_, _-_, _≤_, min}
+use Prim.Native.Nat.{ℕ, _-_, _≤_, min}
 use native.Mathlib.Omega.{arith}
 use mathlib.Core.Path.{_≡_, sym, _∙_}
 use mathlib.Core.List.{List}
@@ -7,13 +7,12 @@ use mathlib.Core.Logic.{⊎-elim}
 use lib.ListN.{length, getD}
 use denote.Ref.{now}
 use borrow.Author.Needs.{needs}
-use Rattle.rules.specs.Bytes.{concat}
-use Rattle.buffers.specs.Splice.{splice}
 use Rattle.rules.specs.Call.{gathered}
 use Rattle.rows.specs.Meaning.{rowOf, rowsOf}
 use Rattle.rules.proofs.Lists.{length-mapped}
 use Rattle.rows.proofs.Counted.{blank}
 use Rattle.entries.specs.Store.{tablesIn}
+use Rattle.entry_store.specs.Read.{Reads}
 use Rattle.entry_store.proofs.Reading.{Reading, reading-start, reading-gather, reading-end, unread, unread-hit, unread-miss, unread-none}
 use Rattle.entry_store.proofs.read_all.Statement.{statement}
 use Rattle.entry_store.proofs.read_all.Tie as tie
@@ -32,13 +31,10 @@ size c = search (needs, length-mapped)
 ended : (c : tie.At-loop Inv-loop μ-loop) →
     let a = c .before .before .before .args in
     let all = gathered (a .role) (a .table) (rowsOf (a .t1)) (tablesIn (a .count) (now (a .store))) in
-    min (a .t1 .count) 8 ≤ c .loop .i
-    → (220 * length all ≤ length (now (a .answer)) → c .loop .n ≡ length all)
-    × (220 * length all ≤ length (now (a .answer)) → c .loop .answer ≡ splice (now (a .answer)) 0 (concat all))
+    min (a .t1 .count) 8 ≤ c .loop .i → Reads all (now (a .answer)) (c .loop .answer) (c .loop .n)
 ended c h =
     let a = c .before .before .before .args in
-    let e = unread-none (a .role) (a .table) (a .t1) (a .count) (now (a .store)) (c .loop .i) (size c) h in
-    (λ f. reading-end (c .loop .inv) e f .0, λ f. reading-end (c .loop .inv) e f .1)
+    reading-end (c .loop .inv) (unread-none (a .role) (a .table) (a .t1) (a .count) (now (a .store)) (c .loop .i) (size c) h)
 
 cast-t : tie.Need-cast-t Inv-loop μ-loop
 cast-t c = search needs
@@ -102,7 +98,7 @@ loop-again c =
     let u = unread-hit (a .role) (a .table) (a .t1) (a .count) s i (size l) (omega arith) (omega arith) (sym e ∙ w .0 .taken) in
     rw (w .6, w .7)
     (reading-gather (l .loop .inv) (row .table) (a .count) s _ (w .3 .last .1 .1 .1 .0) (w .3 .result) u (omega arith)
-    (w .3 .kept .1 .1 .1 .0) (w .3 .ensures .0) (w .3 .ensures .1)))
+    (w .3 .ensures .0) (w .3 .ensures .1)))
     (λ w.
     let u = unread-miss (a .role) (a .table) (a .t1) (a .count) s i (size l) (omega arith) (omega arith) (sym e ∙ w .0 .left) in
     rw (w .1, w .2, ← u) (l .loop .inv))
