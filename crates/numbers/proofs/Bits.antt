@@ -1,14 +1,14 @@
--- The bits of a number are those of its two halves, so remainders and masks go by halves. Assumes nothing.
+-- The bits of a number are those of its two halves, so quotients, remainders and masks go by halves. Assumes nothing.
 use Prim.Native.Nat.{ℕ, zero, suc, _+_, _*_, _-_, _^_, _≤_, _<_, _/_, _%_, min}
-use native.Mathlib.Nat.{one-mul, mod-eq-of-lt, mul-assoc, mul-add-mod-self-right, lt-of-le-of-lt, pow-suc}
+use native.Mathlib.Nat.{one-mul, mod-lt, mod-eq-of-lt, mul-assoc, mul-add-mod-self-right, mul-add-div-right, div-add-mod', div-lt-iff-lt-mul, lt-of-le-of-lt, pow-suc}
 use native.Mathlib.Omega.{arith}
 use native.Mathlib.Decide.{decLe}
-use mathlib.Core.Path.{_≡_, sym, ap, ap₂, _∙_}
+use mathlib.Core.Path.{_≡_, refl, sym, ap, ap₂, subst, _∙_}
 use mathlib.Core.Bool.{Bool, false, _&&_}
 use lib.Arith.{digits-div, digits-mod, digits-lt}
 use lib.Bits.{bitAnd, and-step, and-block, and-le-l}
 use lib.Dec.{leb, eqb}
-use lib.Pow.{pow-lt, pow-add, mod-pow-add, high, low}
+use lib.Pow.{pow-lt, pow-add, mod-pow-add, shr-shr, high, low}
 use borrow.Author.Tests.{le-leb, lt-leb, eq-eqb, ne-eqb}
 use Rattle.rules.specs.Key.{bitsWithin}
 use Rattle.numbers.proofs.Tests.{eqb-iff}
@@ -32,6 +32,43 @@ more-bits h l k b p =
     ap (λ (n : ℕ). (h * 2 ^ 64 + l) % 2 ^ n) e
     ∙ mod-pow-add (h * 2 ^ 64 + l) (k - 64) 64
     ∙ ap₂ (λ (x : ℕ) (y : ℕ). (x % 2 ^ (k - 64)) * 2 ^ 64 + y) (high h 64 p) (low h 64 p)
+
+-- ---- quotients
+
+-- k bytes are 8 * k bits
+pub byte-bits : (k : ℕ) → 256 ^ k ≡ 2 ^ (8 * k)
+byte-bits zero = refl
+byte-bits (suc k) =
+    let e : 8 * suc k ≡ 8 * k + 8 = omega arith in
+    pow-suc 256 k ∙ ap (λ (n : ℕ). n * 256) (byte-bits k) ∙ sym (ap (λ (n : ℕ). 2 ^ n) e ∙ pow-add 2 (8 * k) 8)
+
+-- without 64 bits or more, what is left is of the high half
+pub more-off : (h l k : ℕ) → 64 ≤ k → l < 2 ^ 64 → (h * 2 ^ 64 + l) / 2 ^ k ≡ h / 2 ^ (k - 64)
+more-off h l k b p =
+    let e : k ≡ 64 + (k - 64) = omega arith in
+    ap (λ (n : ℕ). (h * 2 ^ 64 + l) / 2 ^ n) e
+    ∙ sym (shr-shr (h * 2 ^ 64 + l) 64 (k - 64))
+    ∙ ap (λ (n : ℕ). n / 2 ^ (k - 64)) (high h 64 p)
+
+regroup : (a b d p q : ℕ) → (a * p + b) * q + d ≡ a * (q * p) + (d + b * q)
+regroup a b d p q = omega arith
+
+-- without fewer, the high half's lowest bits go to the top of the low half; p is 2 to their number, q to that of those left
+module _ (h l p q : ℕ) (some : 0 < p) (e : q * p ≡ 2 ^ 64) where
+  pub fewer-off : (h * 2 ^ 64 + l) / p ≡ h / p * 2 ^ 64 + (l / p + h % p * q)
+  fewer-off =
+      ap (λ (n : ℕ). (h * n + l) / p) (sym e)
+      ∙ ap (λ (n : ℕ). (n + l) / p) (sym (mul-assoc h q p))
+      ∙ mul-add-div-right some (h * q) l
+      ∙ ap (λ (n : ℕ). n * q + l / p) (sym (div-add-mod' h p))
+      ∙ regroup (h / p) (h % p) (l / p) p q
+      ∙ ap (λ (n : ℕ). h / p * n + (l / p + h % p * q)) e
+
+  pub low-room : l < 2 ^ 64 → l / p + h % p * q < 2 ^ 64
+  low-room b =
+      let r : l / p < q = div-lt-iff-lt-mul some .1 (subst (λ (n : ℕ). l < n) (sym e) b) in
+      let d : h % p * q + l / p < p * q = digits-lt (mod-lt h some) r in
+      omega arith
 
 -- ---- masks
 

@@ -1,11 +1,11 @@
 -- A byte more moves what stands before it up by 256, so bytes read or written in parts are those of the whole. Assumes nothing.
 use Prim.Native.Nat.{ℕ, zero, suc, _+_, _*_, _/_, _%_, _^_, _<_, _≤_}
-use native.Mathlib.Nat.{add-zero, add-suc, pow-suc, mul-add-div-right, mul-add-mod-self-right, div-lt-iff-lt-mul}
+use native.Mathlib.Nat.{add-zero, add-suc, pow-suc, pow-succ', mul-add-div-right, mul-add-mod-self-right, div-lt-iff-lt-mul, div-one, div-div-eq-div-mul}
 use native.Mathlib.Numerals.{add-one}
 use native.Mathlib.Omega.{arith}
 use mathlib.Core.Path.{_≡_, refl, sym, ap, subst, _∙_}
 use mathlib.Core.List.{List, [], _∷_, _++_, append-nil, append-assoc}
-use lib.Arith.{lt-one}
+use lib.Arith.{lt-one, digits-div}
 use lib.Dec.{lit<}
 use lib.ListN.{length, getD, take, drop, length-drop, take-append-drop}
 use lib.Seq.{take-suc, take-all, getD-drop}
@@ -50,6 +50,19 @@ pub int-all : (a m n : ℕ) (l : List ℕ) → length l ≤ a + m → m ≤ n �
 int-all a m n l h g =
     let d : length (drop a l) ≤ m = rw length-drop (omega arith) in
     ap number (take-all m (drop a l) d ∙ sym (take-all n (drop a l) (omega arith)))
+
+-- the first bytes are all of them without the last k
+pub int-front : (a n k : ℕ) (l : List ℕ) → ((i : ℕ) → getD l i 0 < 256) → a + (n + k) ≤ length l
+    → int a n l ≡ int a (n + k) l / 256 ^ k
+int-front a n zero l b h = rw (add-zero, div-one)
+int-front a n (suc k) l b h =
+    let x : ℕ = int a (n + k) l in
+    let y : ℕ = getD l (a + (n + k)) 0 in
+    let e : n + suc k ≡ n + k + 1 = omega arith in
+    int-front a n k l b (omega arith)
+    ∙ ap (λ (z : ℕ). z / 256 ^ k) (sym (digits-div x (b (a + (n + k)))))
+    ∙ div-div-eq-div-mul (x * 256 + y) 256 (256 ^ k)
+    ∙ sym (rw (e, int-next a (n + k) l (omega arith), pow-succ' 256 k))
 
 -- k bytes and one more stay below the next power
 pub below-next : (n x k : ℕ) → n < 256 ^ k → x < 256 → n * 256 + x < 256 ^ (k + 1)

@@ -1,6 +1,6 @@
 // Numbers of up to 128 bits in two halves: election ids, and the values of match fields and parameters.
 ghost use mathlib.Core.Path.{_≡_};
-ghost use Prim.Native.Nat.{_+_, _*_, _-_, _^_, _≤_, _<_, _%_};
+ghost use Prim.Native.Nat.{_+_, _-_, _^_, _≤_, _/_, _%_};
 ghost use lib.ListN.{length};
 ghost use lib.Dec.{leb, ltb, eqb};
 ghost use Rattle.rules.specs.Bytes.{number, int, bytesOf};
@@ -51,19 +51,6 @@ fn write_word(x: u64, out: &mut [u8])
     out[5] = (x2 % 256) as u8;
     out[6] = (x1 % 256) as u8;
     out[7] = (x % 256) as u8;
-}
-
-// One more byte at the low end.
-fn shifted(n: Number, b: u8) -> Number
-    requires { ⌜ wholeOf n < 2 ^ 120 ⌝ }
-    ensures { λ r. ⌜ wholeOf r ≡ wholeOf n * 256 + b ⌝ }
-{
-    let top = n.low / 72057594037927936;
-    let low = n.low % 72057594037927936;
-    Number {
-        high: n.high * 256 + top,
-        low: low * 256 + wide(b),
-    }
 }
 
 // The largest number of `width` bits, up to 128.
@@ -119,16 +106,37 @@ impl Number {
         ensures { λ r. ⌜ wholeOf r ≡ value (now (v .entry)) ⌝ }
     {
         let n = v[0] as usize;
-        let mut whole = Number { high: 0, low: 0 };
-        let mut i: usize = 0;
-        while i < n {
-            if 16 <= i {
-                return whole;
-            }
-            whole = shifted(whole, v[1 + i]);
-            i += 1;
+        let all = Number::from_bytes(&v[1..17]);
+        if 16 <= n {
+            return all;
         }
-        whole
+        all.without(16 - n)
+    }
+
+    // Without its k lowest bytes, 1 to 16.
+    fn without(self, k: usize) -> Number
+        requires { ⌜ (1 ≤ k) × (k ≤ 16) ⌝ }
+        ensures { λ r. ⌜ wholeOf r ≡ wholeOf self / 256 ^ k ⌝ }
+    {
+        if 16 <= k {
+            return Number { high: 0, low: 0 };
+        }
+        if 8 <= k {
+            let j = 8 * (k - 8);
+            let p: u64 = 1 << j;
+            return Number {
+                high: 0,
+                low: self.high / p,
+            };
+        }
+        let j = 8 * k;
+        let p: u64 = 1 << j;
+        let i = 64 - j;
+        let q: u64 = 1 << i;
+        Number {
+            high: self.high / p,
+            low: self.low / p + self.high % p * q,
+        }
     }
 
     pub fn is_zero(self) -> bool

@@ -4,11 +4,11 @@ ghost use mathlib.Core.Bool.{true, false, _&&_};
 ghost use mathlib.Core.List.{[], map};
 ghost use Prim.Native.Nat.{_+_, _*_, _≤_, _<_};
 ghost use lib.ListN.{length, drop};
-ghost use lib.Dec.{eqb};
+ghost use lib.Dec.{eqb, ltb};
 ghost use Rattle.rules.specs.Bytes.{if_then_else_, some-of, distinct, part, parts, sum};
 ghost use Rattle.rules.specs.Call.{unconfigured};
 ghost use Rattle.rules.specs.Row as rules;
-ghost use Rattle.rows.specs.Meaning.{fieldOf, actionOf, rowOf, rowsOf, tablesOf, sizesOf, countsFit, fieldsPass, actionPasses, actionIds, actionsPass};
+ghost use Rattle.rows.specs.Meaning.{fieldOf, actionOf, rowOf, rowsOf, rowAt, tablesOf, sizesOf, countsFit, fieldsPass, actionPasses, actionIds, actionsPass};
 use numbers::integer;
 
 // A match field: a kind and a width in bits.
@@ -381,25 +381,35 @@ impl Rows {
         }
     }
 
+    // The place of a table's row, 8 where the table is not known.
+    fn position(self, table: u64) -> usize
+        ensures known { λ r. ⌜ ltb r 8 ≡ rules.known table (rowsOf self) ⌝ }
+        ensures row { λ r. ⌜ rowAt self r ≡ rules.rowFor table (rowsOf self) ⌝ }
+    {
+        let n = self.count as usize;
+        let mut i: usize = 0;
+        while i < 8 {
+            if n <= i {
+                return 8;
+            }
+            let row = self.rows[i];
+            if row.table as u64 == table {
+                return i;
+            }
+            i += 1;
+        }
+        8
+    }
+
     // The row of a table, if it is known.
     pub fn find(self, table: u64) -> Found
         ensures known { λ r. ⌜ r .known ≡ rules.known table (rowsOf self) ⌝ }
         ensures row { λ r. ⌜ rowOf (r .row) ≡ rules.rowFor table (rowsOf self) ⌝ }
     {
-        let n = self.count as usize;
-        let mut i: usize = 0;
-        while i < n {
-            if 8 <= i {
-                return Found {
-                    known: false,
-                    row: Row::NONE,
-                };
-            }
+        let i = self.position(table);
+        if i < 8 {
             let row = self.rows[i];
-            if row.table as u64 == table {
-                return Found { known: true, row };
-            }
-            i += 1;
+            return Found { known: true, row };
         }
         Found {
             known: false,
