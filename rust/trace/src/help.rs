@@ -1,0 +1,3 @@
+//! The text of `--help`.
+
+pub const TEXT: &str = include_str!("help.txt");
