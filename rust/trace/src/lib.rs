@@ -22,5 +22,6 @@ pub mod play;
 pub mod render;
 pub mod script;
 pub mod session;
+pub mod timeline;
 pub mod wire;
 pub mod words;

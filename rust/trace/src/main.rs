@@ -6,6 +6,7 @@ use std::env;
 use std::ffi::OsStr;
 use std::fs;
 use std::io::{self, Read, Write};
+use std::path::Path;
 use std::process::ExitCode;
 
 use trace::input::{self, Input};
@@ -45,7 +46,9 @@ fn run(wish: Wish) -> Result<ExitCode, String> {
             print(&session::frames(&script))
         }
         Wish::Timeline { file } => {
-            let picture = session::timeline(&script(&file)?);
+            let stem = Path::new(&file).file_stem().unwrap_or(&file);
+            let title = stem.to_string_lossy();
+            let picture = session::timeline(&script(&file)?, &title);
             print(picture.map_err(|wrong| format!("savorylatch: {wrong}\n"))?.as_bytes())
         }
         Wish::Explain { file, hex, device } => explain(&file, hex, device),

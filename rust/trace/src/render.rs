@@ -16,7 +16,7 @@ const SHOWN: usize = 32;
 
 /// A call's lines.
 pub struct Lines {
-    /// How far what follows a call is indented: past its number.
+    /// How far what follows a call is indented: past its number, and a little more.
     indent: usize,
     text: String,
 }
@@ -28,7 +28,7 @@ pub fn call(number: usize, width: usize, outcome: &Outcome, words: &Words) -> Li
         Err(_) => raw(&outcome.frame),
     };
     let mut lines = Lines {
-        indent: width + 2,
+        indent: width + 4,
         text: format!("{number:<width$}  {statement}\n"),
     };
     if let Ok(Call::Configure { rows, .. }) = &outcome.call {

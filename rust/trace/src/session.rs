@@ -9,6 +9,7 @@ use crate::notation::Notations;
 use crate::play::{Outcome, Player};
 use crate::render;
 use crate::script::{Call, Script};
+use crate::timeline;
 use crate::words::{some, Words};
 
 /// A text to print, and whether all expectations held.
@@ -59,6 +60,16 @@ pub fn quiet(script: &Script, file: &str) -> Result<Report, Unreadable> {
 pub fn frames(script: &Script) -> Vec<u8> {
     let frames = script.calls.iter().map(|call| input::framed(&call.frame));
     frames.collect::<Vec<_>>().concat()
+}
+
+/// The picture of a script, as SVG.
+pub fn timeline(script: &Script, title: &str) -> Result<String, Unreadable> {
+    let mut moments = Vec::new();
+    each(script, |_, _, outcome, words| {
+        moments.push(timeline::moment(outcome, words));
+        0
+    })?;
+    Ok(timeline::svg(title, &moments, &script.notations))
 }
 
 /// The trace of frames that no script names anything for.
@@ -127,9 +138,4 @@ fn verdict(script: &Script, failed: usize) -> String {
         (_, failed) => format!(", of which {failed} did not hold"),
     };
     format!("{calls}, {expectations}{held}\n")
-}
-
-/// The picture.
-pub fn timeline(_script: &Script) -> Result<String, Unreadable> {
-    Ok(String::new())
 }

@@ -4,7 +4,7 @@ use savorylatch::frame::Head;
 
 use crate::names::{self, Names};
 use crate::notation::{show, Notation, Notations, Spot};
-use crate::wire::{Call, Entry, Key, Row, Slot, Update, Value, Wanted, KINDS, PLACES, TYPES};
+use crate::wire::{Call, Entry, Key, Row, Slot, Update, Value, Wanted, KINDS, TYPES};
 
 /// What is needed to say something as the script does.
 #[derive(Clone, Copy)]
@@ -252,9 +252,4 @@ pub fn some(count: usize, one: &str, many: &str) -> String {
         1 => format!("1 {one}"),
         _ => format!("{count} {many}"),
     }
-}
-
-/// Does a row say more than its text does?
-pub fn has_more(row: &Row) -> bool {
-    usize::from(row.field_count) > PLACES || usize::from(row.action_count) > PLACES
 }

@@ -281,7 +281,6 @@ fn prefix(number: u128, length: u128, width: u8) -> Option<String> {
     if length == 0 || length > u128::from(width) {
         return Some(format!("prefix length {length} is not 1 to {width}"));
     }
-    let below = u128::from(width) - length;
-    let mask = u32::try_from(below).ok().map(|b| most(width).checked_shr(u32::from(width) - b).unwrap_or(0));
-    (number & mask? != 0).then(|| format!("a bit below prefix length {length} is not 0"))
+    let below = u8::try_from(length).map_or(0, |length| width - length);
+    (number & most(below) != 0).then(|| format!("a bit below prefix length {length} is not 0"))
 }
