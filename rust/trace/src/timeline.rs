@@ -4,10 +4,10 @@ mod draw;
 mod lanes;
 mod text;
 
+use savorylatch::frame::Head;
 use savorylatch::{Agent, Reason, StreamState};
 
 use crate::explain;
-use crate::notation::hex;
 use crate::play::Outcome;
 use crate::wire::Call;
 use crate::words::Words;
@@ -17,8 +17,8 @@ pub use draw::svg;
 /// A call as the picture shows it.
 #[derive(Clone, Debug)]
 pub struct Moment {
-    /// The command, and below it whom it is about.
-    pub title: [String; 2],
+    /// The command with its stream, the role, and the id.
+    pub title: [String; 3],
     pub reason: Reason,
     /// The sentence of a refused call or of one with failed updates.
     pub why: Option<String>,
@@ -40,18 +40,22 @@ pub fn moment(outcome: &Outcome, words: &Words) -> Moment {
     }
 }
 
-fn title(outcome: &Outcome, words: &Words) -> [String; 2] {
-    let id = |id: Option<u128>| id.map_or("no id".to_owned(), |id| format!("id {}", words.id(id)));
-    let (verb, whom) = match &outcome.call {
-        Ok(Call::Open { stream }) => ("open", format!("stream {stream}")),
-        Ok(Call::Close { stream }) => ("close", format!("stream {stream}")),
-        Ok(Call::Arbitrate { head, .. }) => ("arbitrate", id(head.id)),
-        Ok(Call::Configure { head, .. }) => ("configure", id(head.id)),
-        Ok(Call::Write { head, .. }) => ("write", id(head.id)),
-        Ok(Call::Read { role, .. }) => ("read", format!("role {role}")),
-        Err(_) => ("raw", hex(outcome.frame.get(..4).unwrap_or(&outcome.frame))),
+fn title(outcome: &Outcome, words: &Words) -> [String; 3] {
+    let named = |verb: &str, head: &Head| {
+        let id = head.id.map(|id| format!("id {}", words.id(id)));
+        let id = id.unwrap_or("no id".to_owned());
+        [verb.to_owned(), format!("role {}", head.role), id]
     };
-    [verb.to_owned(), whom]
+    let alone = |verb: String| [verb, String::new(), String::new()];
+    match &outcome.call {
+        Ok(Call::Open { stream }) => alone(format!("open {stream}")),
+        Ok(Call::Close { stream }) => alone(format!("close {stream}")),
+        Ok(Call::Arbitrate { stream, head }) => named(&format!("arbitrate {stream}"), head),
+        Ok(Call::Configure { head, .. }) => named("configure", head),
+        Ok(Call::Write { head, .. }) => named("write", head),
+        Ok(Call::Read { role, .. }) => ["read".to_owned(), format!("role {role}"), String::new()],
+        Err(_) => alone("raw".to_owned()),
+    }
 }
 
 /// What a lane shows over some calls.

@@ -17,12 +17,13 @@ const WIDTH: usize = 1000;
 const COLUMN: usize = 76;
 /// Heights.
 const TOP: usize = 44;
-const CALLS: usize = 100;
+const CALLS: usize = 134;
 const LANE: usize = 58;
 const BAR: usize = 26;
 const LINE: usize = 18;
 /// What a character of the picture's text takes, at most on average.
 const CHARACTER: usize = 7;
+const BOLD: usize = 8;
 
 const INK: &str = "#1b1f24";
 const GREY: &str = "#57606a";
@@ -37,6 +38,7 @@ const OPEN: &str = "fill=\"#ffffff\" stroke=\"#57606a\" stroke-dasharray=\"4 3\"
 const VACANT: &str = "fill=\"#fbe3df\"";
 const THIN: &str = "stroke=\"#d8dee4\"";
 const STEP: &str = "stroke=\"#7a4b00\" stroke-width=\"3\" stroke-linecap=\"square\"";
+const SOLID: &str = "stroke=\"#b3261e\" stroke-width=\"3\"";
 const CROSS: &str = "stroke=\"#b3261e\" stroke-width=\"2\" stroke-dasharray=\"6 4\"";
 
 /// The picture of a script's calls.
@@ -146,34 +148,37 @@ impl Picture<'_> {
         );
     }
 
-    /// The row of calls: number, command, whom, and the answer.
+    /// The row of calls: number, command, role, id, and the answer.
     fn calls(&mut self, moments: &[Moment]) {
         let y = self.y;
         let label = Style::new(GREY);
-        for (at, text) in ["call", "", "", "answer"].iter().enumerate() {
-            self.text(LEFT / 6, y + LINE * (at + 1), &label, text);
-        }
+        self.text(LEFT / 6, y + LINE, &label, "call");
+        self.text(LEFT / 6, y + LINE * 5, &label, "answer");
+        let room = self.column / CHARACTER;
         for (at, moment) in moments.iter().enumerate() {
             let x = self.x(at);
-            let [verb, whom] = &moment.title;
             let number = (at + 1).to_string();
             self.text(x, y + LINE, &Style::new(INK).bold().middle(), &number);
-            self.text(x, y + LINE * 2, &Style::new(INK).middle(), verb);
-            let room = self.column / CHARACTER;
-            self.text(x, y + LINE * 3, &Style::new(GREY).middle(), &cut(whom, room));
-            let style = match moment.reason {
-                Reason::Done => Style::new(INK).middle(),
-                _ => Style::new(REFUSED).bold().middle(),
-            };
-            let number = moment.reason.number().to_string();
-            self.text(x, y + LINE * 4, &style, &number);
-            if moment.reason != Reason::Done {
-                for (below, part) in hyphenated(moment.reason.name(), room).iter().enumerate() {
-                    self.text(x, y + LINE * 4 + 14 * (below + 1), &style, part);
-                }
+            for (line, part) in (2..).zip(&moment.title) {
+                self.text(x, y + LINE * line, &Style::new(INK).middle(), &cut(part, room));
             }
+            self.answer(x, y + LINE * 5, moment.reason);
         }
         self.y += CALLS + 8;
+    }
+
+    /// A reason's number, and its name if it is not 0.
+    fn answer(&mut self, x: usize, y: usize, reason: Reason) {
+        let number = reason.number().to_string();
+        if reason == Reason::Done {
+            return self.text(x, y, &Style::new(INK).middle(), &number);
+        }
+        let style = Style::new(REFUSED).bold().middle();
+        self.text(x, y, &style, &number);
+        let name = hyphenated(reason.name(), self.column / BOLD);
+        for (below, part) in (1..).zip(&name) {
+            self.text(x, y + 14 * below, &style, part);
+        }
     }
 
     /// A stream's lane: a bar while it is open, and what it is told below.
@@ -216,8 +221,9 @@ impl Picture<'_> {
     fn block(&mut self, from: usize, to: usize, paint: &str, style: &Style, text: &str) {
         let (x, end, y) = (self.x(from), self.x(to), self.y);
         let width = end.saturating_sub(x);
-        self.rect(x, y, width, BAR, paint);
-        let room = width.saturating_sub(8) / CHARACTER;
+        // A gap shows where one span ends and the next begins.
+        self.rect(x, y, width.saturating_sub(2), BAR, paint);
+        let room = width.saturating_sub(10) / BOLD;
         // Rather the id alone than half of the role.
         let short = text.split(" (").next().unwrap_or(text);
         let text = if text.chars().count() <= room { text } else { short };
@@ -256,23 +262,22 @@ impl Picture<'_> {
 
     /// The mark of a role, as steps upwards.
     fn mark(&mut self, role: u8, moments: &[Moment]) {
-        const HEIGHT: usize = 64;
-        let marks: Vec<Span<Option<u128>>> =
-            spans(moments.iter().map(|moment| moment.after.mark(role)));
-        let steps = marks.len().max(2);
-        let rise = ((HEIGHT - 30) / (steps - 1)).min(18);
-        let base = self.y + HEIGHT - 10;
-        self.text(LEFT / 6, base, &Style::new(GREY), "mark");
-        let mut before: Option<usize> = None;
-        for (step, span) in marks.iter().enumerate() {
+        const HEIGHT: usize = 56;
+        let marks = spans(moments.iter().map(|moment| moment.after.mark(role)));
+        let steps = marks.iter().filter(|span| span.what.is_some()).count();
+        let rise = (HEIGHT - 24) / steps.max(2);
+        let mut y = self.y + HEIGHT;
+        self.text(LEFT / 6, y + 4, &Style::new(GREY), "mark");
+        let mut before = None;
+        for span in marks {
             let Some(mark) = span.what else { continue };
             let (x, end) = (self.x(span.from), self.x(span.to));
-            let y = base.saturating_sub(rise * step);
             if let Some(before) = before {
+                y -= rise;
                 self.line((x, before), (x, y), STEP);
             }
             self.line((x, y), (end, y), STEP);
-            let room = end.saturating_sub(x + 8) / CHARACTER;
+            let room = end.saturating_sub(x + 8) / BOLD;
             let text = cut(&self.notations.id(mark), room);
             self.text(x + 6, y - 5, &Style::new(MARK).bold(), &text);
             before = Some(y);
@@ -313,7 +318,8 @@ impl Picture<'_> {
         self.line((x, y + 8), (x + 26, y + 8), STEP);
         self.text(x + 33, y + 12, &Style::new(INK), "mark of the role");
         x += 150;
-        self.line((x + 6, y), (x + 6, y + 14), CROSS);
+        self.line((x, y + 2), (x + 10, y + 12), SOLID);
+        self.line((x, y + 12), (x + 10, y + 2), SOLID);
         self.text(x + 16, y + 12, &Style::new(REFUSED), "refused, or updates failed");
         let told = "told N: the stream is told status N: 0 it is primary, 5 nobody is, 6 another is";
         self.text(LEFT / 6, y + 34, &Style::new(INK), told);
@@ -336,6 +342,10 @@ impl Picture<'_> {
                 _ => CROSS,
             };
             behind.line((x, top), (x, lanes), paint);
+            if moment.reason != Reason::Done {
+                behind.line((x - 5, top - 5), (x + 5, top + 5), SOLID);
+                behind.line((x - 5, top + 5), (x + 5, top - 5), SOLID);
+            }
         }
         format!(
             "<svg xmlns=\"http://www.w3.org/2000/svg\" viewBox=\"0 0 {width} {height}\" \
