@@ -4,7 +4,7 @@ use savorylatch::frame::Head;
 
 use crate::names::{self, Names};
 use crate::notation::{show, Notation, Notations, Spot};
-use crate::wire::{Call, Entry, Key, Row, Slot, Update, Value, Wanted, KINDS, TYPES};
+use crate::wire::{Action, Call, Entry, Key, Row, Slot, Update, Value, Wanted, KINDS, TYPES};
 
 /// What is needed to say something as the script does.
 #[derive(Clone, Copy)]
@@ -70,33 +70,22 @@ impl Words<'_> {
     /// A row, by its place in the CONFIGURE; names that it has not are made from places.
     pub fn row(&self, at: usize, row: &Row) -> String {
         let names = self.names.tables.get(at).filter(|t| t.id == row.table);
-        let name = names.map_or(format!("t{}", at + 1), |names| names.name.clone());
+        let name = named("t", at, names.map(|table| &table.name));
         let mut text = format!(
             "table {name} 0x{:08x} owner {} size {}",
             row.table, row.owner, row.size
         );
         let fields = row.fields.iter().take(usize::from(row.field_count));
         for (at, field) in fields.enumerate() {
-            let name = names.and_then(|table| table.fields.get(at));
-            let name = name.map_or(format!("f{}", at + 1), |field| field.name.clone());
-            let before = if at == 0 { " key" } else { "" };
-            text += &format!("{before} {name}:{}:{}", kind(field.kind), field.width);
+            let names = names.and_then(|table| table.fields.get(at));
+            let name = named("f", at, names.map(|field| &field.name));
+            let key = if at == 0 { " key" } else { "" };
+            text += &format!("{key} {name}:{}:{}", kind(field.kind), field.width);
         }
         let actions = row.actions.iter().take(usize::from(row.action_count));
         for (at, action) in actions.enumerate() {
             let names = names.and_then(|table| table.actions.get(at));
-            let name = names.map_or(format!("a{}", at + 1), |action| action.name.clone());
-            let count = usize::from(action.count);
-            let widths = action.widths.iter().take(count).enumerate();
-            let parameters: Vec<String> = widths
-                .map(|(at, width)| {
-                    let name = names.and_then(|action| action.parameters.get(at));
-                    let name = name.map_or(format!("p{}", at + 1), String::clone);
-                    format!("{name}:{width}")
-                })
-                .collect();
-            let parameters = parameters.join(", ");
-            text += &format!(" action {name} 0x{:08x} ({parameters})", action.id);
+            text += &format!(" action {}", row_action(at, action, names));
         }
         text
     }
@@ -200,6 +189,7 @@ impl Words<'_> {
     pub fn table(&self, id: u32) -> String {
         match self.names.table(id) {
             Some(table) => format!("table {}", table.name),
+            None if id == 0 => "table 0".to_owned(),
             None => format!("table 0x{id:08x}"),
         }
     }
@@ -231,6 +221,25 @@ impl Words<'_> {
     pub fn id(&self, id: u128) -> String {
         self.notations.id(id)
     }
+}
+
+/// An action of a row: name, id, parameters.
+fn row_action(at: usize, action: &Action, names: Option<&names::Action>) -> String {
+    let name = named("a", at, names.map(|action| &action.name));
+    let widths = action.widths.iter().take(usize::from(action.count));
+    let parameters: Vec<String> = widths
+        .enumerate()
+        .map(|(at, width)| {
+            let name = names.and_then(|action| action.parameters.get(at));
+            format!("{}:{width}", named("p", at, name))
+        })
+        .collect();
+    format!("{name} 0x{:08x} ({})", action.id, parameters.join(", "))
+}
+
+/// A name, or one made from the place.
+fn named(letter: &str, at: usize, name: Option<&String>) -> String {
+    name.map_or_else(|| format!("{letter}{}", at + 1), String::clone)
 }
 
 /// A kind by name, or by number if there is none.

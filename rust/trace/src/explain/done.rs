@@ -34,10 +34,10 @@ fn arbitrated(stream: u8, head: &Head, before: &Agent, words: &Words) -> String 
     let role = head.role;
     let bound = match before.stream(stream) {
         StreamState::Bound { id: Some(id), .. } => {
-            format!("stream {stream} of role {role}, until now with id {}, has", words.id(id))
+            format!("stream {stream} of role {role}, until now with id {}, now has", words.id(id))
         }
         StreamState::Bound { id: None, .. } => {
-            format!("stream {stream} of role {role}, until now without an id, has")
+            format!("stream {stream} of role {role}, until now without an id, now has")
         }
         _ => format!("stream {stream} is bound to role {role} with"),
     };

@@ -167,24 +167,26 @@ fn who(device: u64, role: u8, agent: &Agent) -> Option<Finding> {
 fn not_primary(head: &Head, agent: &Agent, words: &Words) -> Option<Finding> {
     let role = head.role;
     let primary = agent.primary(role);
-    let text = match (head.id, agent.mark(role)) {
-        (None, _) => format!("no id is given, and only the primary of role {role} may do this"),
-        (Some(id), None) => {
-            let id = words.id(id);
+    let text = match (head.id.map(|id| (id, words.id(id))), agent.mark(role)) {
+        (None, _) => {
+            let who = match primary {
+                Some(stream) => format!("stream {stream} is primary of role {role}"),
+                None => format!("role {role} has no primary"),
+            };
+            format!("the id is unset, and so never the primary's; {who}")
+        }
+        (Some((_, id)), None) => {
             format!("id {id} is not the mark of role {role}, which has none: nobody was primary yet")
         }
-        (Some(id), Some(mark)) if id == mark => {
-            let id = words.id(id);
-            match primary {
-                Some(_) => return None,
-                None => format!(
-                    "id {id} is the mark of role {role}, but no open stream holds it, \
-                     so role {role} has no primary"
-                ),
-            }
-        }
-        (Some(id), Some(mark)) => {
-            let (id, mark) = (words.id(id), words.id(mark));
+        (Some((number, id)), Some(mark)) if number == mark => match primary {
+            Some(_) => return None,
+            None => format!(
+                "id {id} is the mark of role {role}, but no open stream holds it, \
+                 so role {role} has no primary"
+            ),
+        },
+        (Some((_, id)), Some(mark)) => {
+            let mark = words.id(mark);
             let holder = match primary {
                 Some(stream) => format!("stream {stream} holds the mark and is primary"),
                 None => format!("nobody holds the mark, so role {role} has no primary"),

@@ -10,10 +10,11 @@ use crate::parse::cursor::Cursor;
 use crate::parse::{values, Parser};
 use crate::wire::{Entry, Key, Slot, Update, Value, PLACES, TYPES};
 
+/// The kinds of slots.
+const EXACT: u8 = 1;
 const LPM: u8 = 2;
 const TERNARY: u8 = 3;
 const RANGE: u8 = 4;
-const EXACT: u8 = 1;
 const OPTIONAL: u8 = 5;
 
 /// A table as a line names it: its id, and its names if the configuration above has them.
@@ -26,10 +27,11 @@ impl<'a> Parser<'a> {
     /// `insert table ..`
     pub fn update(&mut self, cursor: &mut Cursor) -> Result<Update, Mistake> {
         let verb = cursor.word(VERBS)?;
-        let named = TYPES.iter().skip(1).position(|&verb_| verb_ == verb.text);
+        let mut types = (0..).zip(TYPES);
+        let named = types.find(|(_, name)| *name == verb.text);
         let kind = match (verb.text, named) {
             ("type", _) => cursor.number("a type, 0 to 255")?,
-            (_, Some(before)) => u8::try_from(before + 1).unwrap_or(u8::MAX),
+            (_, Some((kind, _))) => kind,
             _ => return Err(Mistake::new(verb.place, VERBS, quoted(verb.text))),
         };
         let (entry, _) = self.entry(cursor)?;
@@ -93,7 +95,8 @@ impl<'a> Parser<'a> {
         let first = self.value(cursor, Spot::First { table: id, field })?;
         let spot = Spot::Second { table: id, field };
         let (kind, second) = if cursor.takes_sign(Sign::Slash) {
-            (LPM, self.value(cursor, spot)?)
+            // A count, which is shown as one however it was written.
+            (LPM, self.literal(cursor)?.value)
         } else if cursor.takes_sign(Sign::Mask) {
             (TERNARY, self.value(cursor, spot)?)
         } else if cursor.takes_sign(Sign::To) {

@@ -1,19 +1,14 @@
 //! `expect` lines.
 
-use std::rc::Rc;
-
 use savorylatch::Reason;
 
 use crate::mistake::Mistake;
 use crate::parse::cursor::Cursor;
-use crate::parse::values;
-use crate::parse::Parser;
+use crate::parse::{values, Parser, A_ROLE, A_STREAM};
 use crate::script::{Expected, ExpectedState};
 
 const WHAT: &str = "a reason by number, 0 to 24, or name, or \
                     told, pairs, primary, mark, entries, entry or stream";
-const A_ROLE: &str = "a role, 0 to 255";
-const A_STREAM: &str = "a stream, 0 to 255";
 
 impl Parser<'_> {
     /// What stands after `expect`.
@@ -21,35 +16,18 @@ impl Parser<'_> {
         let expected = if cursor.takes("told") {
             self.told(cursor)?
         } else if cursor.takes("pairs") {
-            let mut reasons = Vec::new();
-            while cursor.peek().is_some() {
-                reasons.push(reason(cursor, "a reason by number, 0 to 24, or name")?);
-            }
-            Expected::Pairs(reasons)
+            pairs(cursor)?
         } else if cursor.takes("primary") {
-            let role = role(cursor)?;
-            let stream = match cursor.takes("none") {
-                true => None,
-                false => {
-                    let either = || cursor.mistake("'stream' and its number, or 'none'");
-                    if !cursor.is_at("stream") {
-                        return Err(either());
-                    }
-                    cursor.advance();
-                    Some(cursor.number(A_STREAM)?)
-                }
-            };
-            Expected::Primary { role, stream }
+            primary(cursor)?
         } else if cursor.takes("mark") {
-            let role = role(cursor)?;
-            let id = self.id_or_none(cursor)?;
-            Expected::Mark { role, id }
+            Expected::Mark {
+                role: role(cursor)?,
+                id: self.id_or_none(cursor)?,
+            }
         } else if cursor.takes("entries") {
             Expected::Entries(cursor.number("a number of entries")?)
         } else if cursor.takes("entry") {
-            let names = Rc::clone(&self.names);
             let (entry, action) = self.entry(cursor)?;
-            drop(names);
             Expected::Entry { entry, action }
         } else if cursor.takes("stream") {
             self.stream(cursor)?
@@ -108,6 +86,27 @@ impl Parser<'_> {
             false => self.id(cursor).map(Some),
         }
     }
+}
+
+fn pairs(cursor: &mut Cursor) -> Result<Expected, Mistake> {
+    let mut reasons = Vec::new();
+    while cursor.peek().is_some() {
+        reasons.push(reason(cursor, "a reason by number, 0 to 24, or name")?);
+    }
+    Ok(Expected::Pairs(reasons))
+}
+
+/// `role R stream S` or `role R none`.
+fn primary(cursor: &mut Cursor) -> Result<Expected, Mistake> {
+    let role = role(cursor)?;
+    let stream = if cursor.takes("none") {
+        None
+    } else if cursor.takes("stream") {
+        Some(cursor.number(A_STREAM)?)
+    } else {
+        return Err(cursor.mistake("'stream' and its number, or 'none'"));
+    };
+    Ok(Expected::Primary { role, stream })
 }
 
 /// `role R`

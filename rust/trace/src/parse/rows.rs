@@ -192,12 +192,10 @@ impl<'a> Parts<'a> {
     fn kind(&mut self) -> Result<u8, Mistake> {
         let expected = "a kind: exact, lpm, ternary, range, optional, or a number 0 to 255";
         let (part, place) = self.next(expected)?;
-        let named = KINDS.iter().skip(1).position(|&kind| kind == part);
-        let number = match named {
-            Some(before) => u8::try_from(before + 1).ok(),
-            None => byte(part),
-        };
-        number.ok_or_else(|| Mistake::new(place, expected, quoted(part)))
+        let mut kinds = (0..).zip(KINDS).skip(1);
+        let named = kinds.find(|(_, name)| *name == part);
+        let number = named.map(|(kind, _)| kind);
+        number.or_else(|| byte(part)).ok_or_else(|| Mistake::new(place, expected, quoted(part)))
     }
 
     fn width(&mut self) -> Result<u8, Mistake> {
