@@ -1,3 +1,13 @@
 //! The text of `--help`.
 
-pub const TEXT: &str = include_str!("help.txt");
+use savorylatch::Reason;
+
+/// All of it: the program, the language, and the reasons.
+pub fn text() -> String {
+    let reasons = Reason::ALL.iter().map(|reason| {
+        let (number, name, code) = (reason.number(), reason.name(), reason.code());
+        let code = format!("{code} ({})", code.number());
+        format!("    {number:>2} {name:17} {code:23} {reason}\n")
+    });
+    include_str!("help.txt").to_owned() + &reasons.collect::<String>()
+}

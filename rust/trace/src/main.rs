@@ -13,7 +13,7 @@ use trace::input::{self, Input};
 use trace::mistake::{Mistake, Place};
 use trace::options::{self, Wish};
 use trace::script::Script;
-use trace::{parse, session};
+use trace::{help, parse, session};
 
 /// An expectation did not hold.
 const NOT_HELD: u8 = 1;
@@ -34,7 +34,7 @@ fn main() -> ExitCode {
 /// Does what is asked for; what stops it is said.
 fn run(wish: Wish) -> Result<ExitCode, String> {
     match wish {
-        Wish::Help => print(trace::help::TEXT.as_bytes()),
+        Wish::Help => print(help::text().as_bytes()),
         Wish::Version => print(concat!("savorylatch ", env!("CARGO_PKG_VERSION"), "\n").as_bytes()),
         Wish::Trace { file } => report(session::trace(&script(&file)?)),
         Wish::Quiet { file } => report(session::quiet(&script(&file)?, &name(&file))),
