@@ -7,6 +7,8 @@ mod done;
 mod entry;
 mod refused;
 mod rows;
+#[cfg(test)]
+mod tests;
 mod updates;
 
 use savorylatch::Reason;

@@ -108,3 +108,51 @@ fn repetition(chars: &[char]) -> (usize, usize) {
         false => (times, 1 + digits.len()),
     }
 }
+
+#[cfg(test)]
+mod tests {
+    use super::*;
+
+    #[test]
+    fn input_is_cut_and_put_together() {
+        let input = [framed(&[1, 3]), framed(&[]), framed(&[2; 300])].concat();
+        let cut_up = cut(&input);
+        assert_eq!(cut_up.frames, [&[1, 3][..], &[], &[2; 300]]);
+        assert!(cut_up.rest.is_empty());
+    }
+
+    #[test]
+    fn what_breaks_off_is_left() {
+        for rest in [&[0][..], &[0, 2], &[0, 2, 1]] {
+            let input = [&framed(&[1, 1]), rest].concat();
+            assert_eq!(cut(&input).frames, [[1, 1]]);
+            assert_eq!(cut(&input).rest, rest);
+        }
+    }
+
+    #[test]
+    fn hex() {
+        let text = "# two frames\n 01 03 # the first\n\n03 00*3.01 0A0b\n";
+        let frames = hex_text(text).unwrap();
+        assert_eq!(frames, [&[1, 3][..], &[3, 0, 0, 0, 1, 10, 11]]);
+        assert_eq!(hex_text("ff*65535").unwrap()[0].len(), LONGEST);
+    }
+
+    #[test]
+    fn what_is_no_hex_is_a_mistake() {
+        for (text, column, found) in [
+            ("01 0", 4, "'0'"),
+            ("01 0g", 4, "'0g'"),
+            ("0103x", 5, "'x'"),
+            ("01=03", 3, "'='"),
+            ("00*", 3, "'*'"),
+            ("00*65535 00", 10, "a longer one"),
+            ("00*99999999999999999999", 1, "a longer one"),
+            ("01 é1", 4, "'é1'"),
+        ] {
+            let mistake = hex_text(text).unwrap_err();
+            assert_eq!(mistake.place, Place { line: 1, column }, "{text}");
+            assert!(mistake.to_string().ends_with(&format!("found {found}")), "{mistake}");
+        }
+    }
+}

@@ -8,7 +8,11 @@
 
 #![forbid(unsafe_code)]
 
+#[cfg(test)]
+mod dice;
 pub mod explain;
+#[cfg(test)]
+mod fuzz;
 pub mod help;
 pub mod input;
 pub mod judge;

@@ -101,3 +101,63 @@ pub fn hex(bytes: &[u8]) -> String {
         text
     })
 }
+
+#[cfg(test)]
+mod tests {
+    use super::*;
+
+    #[test]
+    fn values_are_shown_as_they_were_written() {
+        use Notation::{Decimal, Hex, Ipv4, Mac};
+        for (bytes, notation, text) in [
+            (&[7][..], Decimal, "7"),
+            (&[0], Decimal, "0"),
+            (&[1, 0], Decimal, "256"),
+            (&[0, 7], Decimal, "0x0007"), // so that the padding is seen
+            (&[7], Hex, "0x07"),
+            (&[0, 1, 0xff], Hex, "0x0001ff"),
+            (&[10, 0, 0, 1], Ipv4, "10.0.0.1"),
+            (&[1], Ipv4, "0.0.0.1"),
+            (&[1, 0, 0, 0, 0], Ipv4, "0x0100000000"),
+            (&[2, 0, 0, 0, 0, 1], Mac, "02:00:00:00:00:01"),
+            (&[0x11, 0x22, 0x33, 0x44, 0x55], Mac, "00:11:22:33:44:55"),
+            (&[1, 0, 0, 0, 0, 0, 0], Mac, "0x01000000000000"),
+        ] {
+            let value = Value::from_bytes(bytes).unwrap();
+            assert_eq!(show(&value, notation), text);
+        }
+    }
+
+    #[test]
+    fn values_that_are_not_well_formed_are_shown_too() {
+        assert_eq!(show(&Value::default(), Notation::Decimal), "[empty]");
+        let mut long = Value::new(7);
+        long.length = 17;
+        let text = format!("[length 17: 07{}]", "00".repeat(15));
+        assert_eq!(show(&long, Notation::Mac), text);
+    }
+
+    #[test]
+    fn the_first_notation_counts() {
+        let spot = Spot::First { table: 1, field: 0 };
+        let mut notations = Notations::default();
+        assert_eq!(notations.number(spot, 10), "0x0a");
+        notations.note(spot, Notation::Decimal);
+        notations.note(spot, Notation::Hex);
+        assert_eq!(notations.number(spot, 10), "10");
+        let other = Spot::Second { table: 1, field: 0 };
+        assert_eq!(notations.number(other, 10), "0x0a");
+    }
+
+    #[test]
+    fn ids() {
+        let mut notations = Notations::default();
+        assert_eq!(notations.id(u64::MAX.into()), "18446744073709551615");
+        assert_eq!(notations.id(1 << 64), "0x10000000000000000");
+        notations.note_id(1 << 64, Notation::Decimal);
+        notations.note_id(16, Notation::Hex);
+        notations.note_id(16, Notation::Decimal);
+        assert_eq!(notations.id(1 << 64), "18446744073709551616");
+        assert_eq!(notations.id(16), "0x10");
+    }
+}

@@ -10,24 +10,33 @@ use crate::words::{some, Words};
 
 /// For each update of a WRITE that was done, a sentence if it failed.
 pub fn updates(outcome: &Outcome, words: &Words) -> Vec<Option<String>> {
+    let sentence = |(reason, finding): (Reason, Option<Finding>)| {
+        let known = finding.filter(|finding| finding.reason == reason);
+        let text = known.map_or(general(reason).to_owned(), |finding| finding.text);
+        (reason != Reason::Done).then_some(text)
+    };
+    findings(outcome, words).into_iter().map(sentence).collect()
+}
+
+/// For each update its reason, and what is found to be wrong with it.
+pub(super) fn findings(outcome: &Outcome, words: &Words) -> Vec<(Reason, Option<Finding>)> {
     let Ok(Call::Write { head, updates, .. }) = &outcome.call else {
         return Vec::new();
     };
     let rows = outcome.before.rows();
     // The updates are done again one by one, as what is stored changes from each to the next.
     let mut player = Player::resume(&outcome.before, &outcome.store);
-    let mut sentences = Vec::new();
+    let mut findings = Vec::new();
     for (update, &reason) in updates.iter().zip(&outcome.pairs) {
-        let sentence = (reason != Reason::Done).then(|| {
+        let failed = reason != Reason::Done;
+        let finding = failed.then(|| {
             let finding = entry::update(update, head.role, &rows, words);
-            let finding = finding.or_else(|| by_store(update, &player, words));
-            let finding = finding.filter(|finding| finding.reason == reason);
-            finding.map_or(general(reason).to_owned(), |finding| finding.text)
+            finding.or_else(|| by_store(update, &player, words))
         });
-        sentences.push(sentence);
+        findings.push((reason, finding.flatten()));
         alone(head, update, &mut player);
     }
-    sentences
+    findings
 }
 
 /// Does one update as a WRITE of its own. What it answers is known already.

@@ -94,3 +94,67 @@ fn ipv4(text: &str) -> Option<Value> {
     let bytes: Option<Vec<u8>> = text.split('.').map(group).collect();
     Value::from_bytes(&bytes.filter(|bytes| bytes.len() == 4)?)
 }
+
+#[cfg(test)]
+mod tests {
+    use super::*;
+
+    #[test]
+    fn literals() {
+        use Notation::{Decimal, Hex, Ipv4, Mac};
+        for (text, bytes, notation) in [
+            ("0", &[0][..], Decimal),
+            ("7", &[7], Decimal),
+            ("007", &[7], Decimal),
+            ("256", &[1, 0], Decimal),
+            ("0x7", &[7], Hex),
+            ("0x1ff", &[1, 0xff], Hex),
+            ("0x0001ff", &[0, 1, 0xff], Hex),
+            ("0xAb", &[0xab], Hex),
+            ("0x00000000000000000000000000000000", &[0; 16], Hex),
+            ("10.0.0.1", &[10, 0, 0, 1], Ipv4),
+            ("0.0.0.0", &[0; 4], Ipv4),
+            ("02:00:00:00:00:0f", &[2, 0, 0, 0, 0, 15], Mac),
+            ("fe:DC:00:00:00:00", &[0xfe, 0xdc, 0, 0, 0, 0], Mac),
+        ] {
+            let value = Value::from_bytes(bytes).unwrap();
+            assert_eq!(literal(text), Some(Literal { value, notation }), "{text}");
+        }
+        let most = u128::MAX.to_string();
+        assert_eq!(literal(&most).unwrap().value, Value::new(u128::MAX));
+    }
+
+    #[test]
+    fn what_is_no_literal() {
+        for text in [
+            "", "x", "-1", "+1", "0x", "0x+1", "0xg", "1.2.3", "1.2.3.4.5", "1.2.3.256", "1.2.3.+4",
+            "1..2", "1:2:3:4:5:6", "02:00:00:00:00", "02:00:00:00:00:0g", "1_0", "0X10", "٣",
+        ] {
+            assert_eq!(literal(text), None, "{text}");
+        }
+        for text in ["0x0000000000000000000000000000000000", "340282366920938463463374607431768211456"] {
+            assert_eq!(literal(text), None);
+            assert!(is_too_long(text));
+        }
+        assert!(!is_too_long("0x") && !is_too_long("") && !is_too_long("7") && !is_too_long("x"));
+    }
+
+    #[test]
+    fn numbers() {
+        assert_eq!(number("0x00ff"), Some((255, Notation::Hex)));
+        assert_eq!(number("255"), Some((255, Notation::Decimal)));
+        for text in ["", "0x", "0x+f", "+1", "-1", "a", "1.0"] {
+            assert_eq!(number(text), None, "{text}");
+        }
+    }
+
+    #[test]
+    fn names() {
+        for name in ["a", "_", "tenant-a", "A9_"] {
+            assert!(is_name(name));
+        }
+        for name in ["", "9", "-a", "a.b", "a:b", "é"] {
+            assert!(!is_name(name), "{name}");
+        }
+    }
+}
