@@ -7,9 +7,45 @@ use crate::session;
 
 /// Whole words and signs that a script may hold, in place of others.
 const PIECES: [&str; 40] = [
-    "open", "close", "arbitrate", "configure", "write", "read", "raw", "expect", "device", "value", "table", "insert",
-    "type", "role", "id", "unset", "only", "priority", "told", "pairs", "primary", "mark", "entry", "stream", "(", ")",
-    ",", "=", "/", "&&&", "..", "*", ":", "\n", "\n  ", "#", "é", "0x", "999999999999999999999999999999999999999999",
+    "open",
+    "close",
+    "arbitrate",
+    "configure",
+    "write",
+    "read",
+    "raw",
+    "expect",
+    "device",
+    "value",
+    "table",
+    "insert",
+    "type",
+    "role",
+    "id",
+    "unset",
+    "only",
+    "priority",
+    "told",
+    "pairs",
+    "primary",
+    "mark",
+    "entry",
+    "stream",
+    "(",
+    ")",
+    ",",
+    "=",
+    "/",
+    "&&&",
+    "..",
+    "*",
+    ":",
+    "\n",
+    "\n  ",
+    "#",
+    "é",
+    "0x",
+    "999999999999999999999999999999999999999999",
     "0xffffffffffffffffffffffffffffffff",
 ];
 
@@ -34,7 +70,9 @@ fn renumber(words: &mut [String], dice: &mut Dice) {
     let mut numbers: Vec<&mut String> = words.iter_mut().filter(is_number).collect();
     let at = dice.below(numbers.len());
     if let Some(word) = numbers.get_mut(at) {
-        let end = word.trim_start_matches(|c: char| c.is_ascii_digit()).to_owned();
+        let end = word
+            .trim_start_matches(|c: char| c.is_ascii_digit())
+            .to_owned();
         **word = format!("{}{end}", dice.byte());
     }
 }
@@ -56,7 +94,9 @@ fn change(words: &mut Vec<String>, dice: &mut Dice) {
 
 /// The reasons of a trace's calls, by their numbers.
 fn reasons(trace: &str) -> Vec<&str> {
-    let answers = trace.lines().filter_map(|line| line.trim_start().strip_prefix("answer "));
+    let answers = trace
+        .lines()
+        .filter_map(|line| line.trim_start().strip_prefix("answer "));
     let number = |answer: &'_ str| answer.find('(').zip(answer.find(')'));
     let answers = answers.filter_map(|answer| number(answer).map(|(a, b)| &answer[a + 1..b]));
     answers.collect()
@@ -136,7 +176,10 @@ fn scripted(trace: &str) -> String {
         let words: Vec<&str> = line.split_whitespace().collect();
         match words[..] {
             [number, ref statement @ ..] if !line.starts_with(' ') => {
-                if number.parse::<usize>().is_ok() && !statement.is_empty() && statement[0] != "calls" {
+                if number.parse::<usize>().is_ok()
+                    && !statement.is_empty()
+                    && statement[0] != "calls"
+                {
                     script += &format!("{}\n", statement.join(" "));
                 }
             }

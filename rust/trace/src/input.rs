@@ -152,7 +152,10 @@ mod tests {
         ] {
             let mistake = hex_text(text).unwrap_err();
             assert_eq!(mistake.place, Place { line: 1, column }, "{text}");
-            assert!(mistake.to_string().ends_with(&format!("found {found}")), "{mistake}");
+            assert!(
+                mistake.to_string().ends_with(&format!("found {found}")),
+                "{mistake}"
+            );
         }
     }
 }

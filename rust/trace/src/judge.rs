@@ -41,15 +41,22 @@ pub fn instead(expected: &Expected, outcome: &Outcome, words: &Words) -> Option<
         }
         Expected::Entries(count) => {
             let shown = some(outcome.entries.len(), "entry", "entries");
-            (outcome.entries.len() == *count, format!("the call shows {shown}"))
+            (
+                outcome.entries.len() == *count,
+                format!("the call shows {shown}"),
+            )
         }
         Expected::Entry { entry, action } => {
-            let same = |other: &Entry| {
-                other.same_key(entry) && (!action || other.same_action(entry))
+            let same =
+                |other: &Entry| other.same_key(entry) && (!action || other.same_action(entry));
+            let is = match outcome.entries.len() {
+                0 => "the call shows no entry".to_owned(),
+                shown => {
+                    let shown = some(shown, "entry", "entries");
+                    format!("it is not among the {shown} that the call shows")
+                }
             };
-            let shown = some(outcome.entries.len(), "entry", "entries");
-            let is = format!("it is not among the {shown} that the call shows");
-            (outcome.entries.iter().any(same), is.replace("the no entry", "entries"))
+            (outcome.entries.iter().any(same), is)
         }
         Expected::Stream { stream, state } => stream_state(*stream, *state, after, words),
     };
@@ -87,12 +94,7 @@ fn pairs(pairs: &[Reason]) -> String {
     }
 }
 
-fn stream_state(
-    stream: u8,
-    state: ExpectedState,
-    agent: &Agent,
-    words: &Words,
-) -> (bool, String) {
+fn stream_state(stream: u8, state: ExpectedState, agent: &Agent, words: &Words) -> (bool, String) {
     let is = agent.stream(stream);
     let holds = match (state, is) {
         (ExpectedState::Closed, StreamState::Closed) => true,
@@ -111,4 +113,161 @@ fn stream_state(
         }
     };
     (holds, text)
+}
+
+#[cfg(test)]
+mod tests {
+    use crate::{parse, session};
+
+    /// Streams 1 and 2 in role 0, 1 primary; a table.
+    const BEFORE: &str = "open 1\narbitrate 1 role 0 id 5\nopen 2\narbitrate 2 role 0 unset\nopen 3\n\
+        configure role 0 id 5\n table t 0x02000001 owner 0 size 4 key k:exact:16 action a 0x01000001 (p:8)\n";
+    const WRITE: &str =
+        "write role 0 id 5\n insert table t k=1 a(7)\n insert table t k=0x0001 a(8)\n";
+
+    /// Whether an expectation holds after a call, and what is so instead.
+    fn judged(call: &str, expectation: &str) -> (bool, String) {
+        let text = format!("{BEFORE}{call}\nexpect {expectation}\n");
+        let script = parse::script(&text).unwrap_or_else(|m| panic!("{}", m.report("test", &text)));
+        let report = session::quiet(&script, "f").unwrap();
+        let first = report.text.lines().next().unwrap_or("");
+        let instead = first.split("; but ").nth(1).unwrap_or("");
+        (report.held, instead.to_owned())
+    }
+
+    fn check(call: &str, holds: &[&str], fails: &[(&str, &str)]) {
+        for expectation in holds {
+            assert_eq!(
+                judged(call, expectation),
+                (true, String::new()),
+                "{expectation}"
+            );
+        }
+        for (expectation, instead) in fails {
+            assert_eq!(
+                judged(call, expectation),
+                (false, (*instead).to_owned()),
+                "{expectation}"
+            );
+        }
+    }
+
+    #[test]
+    fn reasons() {
+        let is = "the reason is not-open (4)";
+        check(
+            "close 9",
+            &["4", "not-open"],
+            &[("0", is), ("already-open", is)],
+        );
+    }
+
+    #[test]
+    fn told() {
+        let is = "told are 1 status 6 mark 7, 2 status 0 mark 7";
+        check(
+            "arbitrate 2 role 0 id 7",
+            &[
+                "told 1 status 6",
+                "told 1 status 6 mark 7",
+                "told 2 status 0 mark 0x7",
+            ],
+            &[
+                ("told 3 status 6", is),
+                ("told 1 status 0", is),
+                ("told 1 status 6 mark 5", is),
+                ("told 1 status 6 mark none", is),
+                ("told nobody", is),
+            ],
+        );
+        let is = "nobody is told";
+        check("close 2", &["told nobody"], &[("told 1 status 0", is)]);
+        let is = "told are 3 status 5 mark none";
+        let fails = [("told 3 status 5 mark 1", is)];
+        check("arbitrate 3 role 4", &["told 3 status 5 mark none"], &fails);
+    }
+
+    #[test]
+    fn pairs() {
+        let is = "the pairs are done (0), stored (20)";
+        let fails = [
+            ("pairs 0", is),
+            ("pairs 20 0", is),
+            ("pairs", is),
+            ("pairs 0 20 0", is),
+        ];
+        check(WRITE, &["pairs 0 20", "pairs done stored", "23"], &fails);
+        check("open 4", &["pairs"], &[("pairs 0", "there are no pairs")]);
+    }
+
+    #[test]
+    fn primaries_and_marks() {
+        let fails = [
+            ("primary role 0 stream 2", "it is stream 1"),
+            ("primary role 0 none", "it is stream 1"),
+            ("primary role 1 stream 1", "it is none"),
+            ("mark role 0 4", "it is 5"),
+            ("mark role 0 none", "it is 5"),
+            ("mark role 1 1", "it is none"),
+        ];
+        let holds = [
+            "primary role 0 stream 1",
+            "primary role 1 none",
+            "mark role 0 5",
+            "mark role 9 none",
+        ];
+        check("open 4", &holds, &fails);
+    }
+
+    #[test]
+    fn entries() {
+        let call = format!("{WRITE}read role 0");
+        let among = "it is not among the 1 entry that the call shows";
+        let fails = [
+            ("entries 0", "the call shows 1 entry"),
+            ("entries 2", "the call shows 1 entry"),
+            ("entry table t k=2 a(7)", among),
+            ("entry table t k=1 a(8)", among),
+            ("entry table t priority 1 k=1", among),
+            ("entry table 0x02000002 1=1", among),
+            ("entry table t", among),
+        ];
+        let holds = [
+            "entries 1",
+            "entry table t k=1 a(7)",
+            "entry table t k=0x000001 a(0x0007)",
+            "entry table t k=1",
+        ];
+        check(&call, &holds, &fails);
+        let fails = [
+            ("entry table t k=1", "the call shows no entry"),
+            ("entries 1", "the call shows no entry"),
+        ];
+        check("open 4", &["entries 0"], &fails);
+    }
+
+    #[test]
+    fn stream_states() {
+        let bound = "it is bound to role 0 with id 5";
+        let fails = [
+            ("stream 1 closed", bound),
+            ("stream 1 open", bound),
+            ("stream 1 bound role 1", bound),
+            ("stream 1 bound role 0 id 4", bound),
+            ("stream 1 bound role 0 unset", bound),
+            ("stream 2 bound role 0 id 5", "it is bound to role 0, unset"),
+            ("stream 3 closed", "it is open, and not bound"),
+            ("stream 3 bound role 0", "it is open, and not bound"),
+            ("stream 9 open", "it is closed"),
+        ];
+        let holds = [
+            "stream 1 bound role 0",
+            "stream 1 bound role 0 id 5",
+            "stream 2 bound role 0 unset",
+            "stream 3 open",
+            "stream 9 closed",
+            "stream 99 closed",
+        ];
+        check("open 4", &holds, &fails);
+    }
 }

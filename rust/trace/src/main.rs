@@ -41,7 +41,10 @@ fn run(wish: Wish) -> Result<ExitCode, String> {
         Wish::Frames { file } => {
             let script = script(&file)?;
             if script.device != parse::DEVICE {
-                eprintln!("note: the script's device is {}, play's is 1", script.device);
+                eprintln!(
+                    "note: the script's device is {}, play's is 1",
+                    script.device
+                );
             }
             print(&session::frames(&script))
         }
@@ -49,7 +52,11 @@ fn run(wish: Wish) -> Result<ExitCode, String> {
             let stem = Path::new(&file).file_stem().unwrap_or(&file);
             let title = stem.to_string_lossy();
             let picture = session::timeline(&script(&file)?, &title);
-            print(picture.map_err(|wrong| format!("savorylatch: {wrong}\n"))?.as_bytes())
+            print(
+                picture
+                    .map_err(|wrong| format!("savorylatch: {wrong}\n"))?
+                    .as_bytes(),
+            )
         }
         Wish::Explain { file, hex, device } => explain(&file, hex, device),
     }
@@ -70,7 +77,10 @@ fn explain(file: &OsStr, hex: bool, device: u64) -> Result<ExitCode, String> {
         }
     };
     let text = session::explain(&input, device);
-    print(text.map_err(|wrong| format!("savorylatch: {wrong}\n"))?.as_bytes())
+    print(
+        text.map_err(|wrong| format!("savorylatch: {wrong}\n"))?
+            .as_bytes(),
+    )
 }
 
 fn report<E: std::fmt::Display>(report: Result<session::Report, E>) -> Result<ExitCode, String> {

@@ -9,11 +9,23 @@ use crate::parse::{values, DEVICE};
 pub enum Wish {
     Help,
     Version,
-    Trace { file: OsString },
-    Quiet { file: OsString },
-    Frames { file: OsString },
-    Timeline { file: OsString },
-    Explain { file: OsString, hex: bool, device: u64 },
+    Trace {
+        file: OsString,
+    },
+    Quiet {
+        file: OsString,
+    },
+    Frames {
+        file: OsString,
+    },
+    Timeline {
+        file: OsString,
+    },
+    Explain {
+        file: OsString,
+        hex: bool,
+        device: u64,
+    },
 }
 
 pub const USAGE: &str = "usage: savorylatch [--quiet | --frames | --timeline] SCRIPT\n\
@@ -103,5 +115,63 @@ impl Given {
             },
             _ => Wish::Trace { file },
         })
+    }
+}
+
+#[cfg(test)]
+mod tests {
+    use super::*;
+
+    fn wished(arguments: &str) -> Result<Wish, String> {
+        wish(arguments.split_whitespace().map(OsString::from))
+    }
+
+    #[test]
+    fn wishes() {
+        let file = || OsString::from("a.txt");
+        assert_eq!(wished("a.txt"), Ok(Wish::Trace { file: file() }));
+        assert_eq!(wished("--quiet a.txt"), Ok(Wish::Quiet { file: file() }));
+        assert_eq!(wished("a.txt -q"), Ok(Wish::Quiet { file: file() }));
+        assert_eq!(wished("--frames a.txt"), Ok(Wish::Frames { file: file() }));
+        assert_eq!(
+            wished("--timeline a.txt"),
+            Ok(Wish::Timeline { file: file() })
+        );
+        assert_eq!(wished("--help"), Ok(Wish::Help));
+        assert_eq!(wished("--version"), Ok(Wish::Version));
+        let file = OsString::from("-");
+        assert_eq!(wished("-"), Ok(Wish::Trace { file: file.clone() }));
+        let explain = |hex, device| {
+            let file = file.clone();
+            Ok(Wish::Explain { file, hex, device })
+        };
+        assert_eq!(wished("--explain -"), explain(false, 1));
+        assert_eq!(wished("--hex --device 0x7 - --explain"), explain(true, 7));
+        let file = OsString::from("--frames");
+        assert_eq!(wished("-- --frames"), Ok(Wish::Trace { file }));
+    }
+
+    #[test]
+    fn what_is_wrong_is_said() {
+        for (arguments, text) in [
+            ("", "no file is named"),
+            ("--frames", "no file is named"),
+            ("a b", "one file too many: 'b'"),
+            ("--frame a", "unknown option '--frame'"),
+            (
+                "--frames --quiet a",
+                "--frames and --quiet do not go together",
+            ),
+            ("--hex a", "go with --explain only"),
+            ("--device 1 a", "go with --explain only"),
+            (
+                "--explain --device",
+                "expected a device id after --device, found ''",
+            ),
+            ("--explain --device x a", "found 'x'"),
+        ] {
+            let wrong = wished(arguments).unwrap_err();
+            assert!(wrong.contains(text), "{arguments}: {wrong}");
+        }
     }
 }

@@ -166,7 +166,11 @@ impl<'a> Parser<'a> {
         let (head, _) = self.head(cursor, false)?;
         let mut rows = Vec::new();
         let mut names = Names::default();
-        for item in items(below, &["table"], "a row: table NAME 0xID owner R size N ..")? {
+        for item in items(
+            below,
+            &["table"],
+            "a row: table NAME 0xID owner R size N ..",
+        )? {
             let cursor = &mut Cursor::new(&item);
             at_most(rows.len(), ROWS, "rows", cursor)?;
             let place = cursor.place();
@@ -361,7 +365,10 @@ fn at_most(before: usize, most: usize, what: &str, cursor: &Cursor) -> Result<()
 /// `raw HEX..`, with the lines under it.
 fn raw(head: &Line, below: &[Line]) -> Result<Vec<u8>, Mistake> {
     let words = head.tokens.iter().skip(1);
-    let words: Vec<Token> = words.chain(below.iter().flat_map(|l| &l.tokens)).copied().collect();
+    let words: Vec<Token> = words
+        .chain(below.iter().flat_map(|l| &l.tokens))
+        .copied()
+        .collect();
     input::frame(&words)
 }
 

@@ -43,7 +43,10 @@ pub fn call(number: usize, width: usize, outcome: &Outcome, words: &Words) -> Li
         lines.add(&format!("entry {at}"), &words.entry(entry));
     }
     for told in &outcome.told {
-        lines.add(&format!("stream {}", told.stream), &notification(told, words));
+        lines.add(
+            &format!("stream {}", told.stream),
+            &notification(told, words),
+        );
     }
     lines.roles(outcome, words);
     lines
@@ -89,7 +92,10 @@ impl Lines {
                 Some(&pair) => reason(pair),
                 None => "not looked at".to_owned(),
             };
-            self.add(&format!("update {at}"), &format!("{text:width$}  -> {pair}"));
+            self.add(
+                &format!("update {at}"),
+                &format!("{text:width$}  -> {pair}"),
+            );
             if let Some(why) = why.next().flatten() {
                 self.below(&why);
             }

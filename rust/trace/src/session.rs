@@ -115,11 +115,7 @@ fn each(
 }
 
 /// The expectations of a call that did not hold: line, words, and what is so instead.
-fn not_held<'c>(
-    call: &'c Call,
-    outcome: &Outcome,
-    words: &Words,
-) -> Vec<(usize, &'c str, String)> {
+fn not_held<'c>(call: &'c Call, outcome: &Outcome, words: &Words) -> Vec<(usize, &'c str, String)> {
     let judged = call.expectations.iter().map(|expectation| {
         let instead = judge::instead(&expectation.what, outcome, words)?;
         Some((expectation.line, expectation.text.as_str(), instead))

@@ -631,7 +631,10 @@ mod tests {
     fn lengths_are_document_01s() {
         let lengths: Vec<usize> = calls().iter().map(|call| call.encode().len()).collect();
         let (rows, updates) = (28 + 53 * 8, 29 + 221 * 64);
-        assert_eq!(lengths, [2, 2, 28, 28, 28, rows, 29, updates, 159, 159, 159]);
+        assert_eq!(
+            lengths,
+            [2, 2, 28, 28, 28, rows, 29, updates, 159, 159, 159]
+        );
     }
 
     #[test]
@@ -751,6 +754,9 @@ mod tests {
         };
         assert!(slot(&[0, 7]).same(&slot(&[7])));
         assert!(!slot(&[7]).same(&slot(&[8])));
-        assert!(!slot(&[7]).same(&Slot { kind: 5, ..slot(&[7]) }));
+        assert!(!slot(&[7]).same(&Slot {
+            kind: 5,
+            ..slot(&[7])
+        }));
     }
 }

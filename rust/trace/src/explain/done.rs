@@ -26,7 +26,9 @@ fn closed(stream: u8, before: &Agent, words: &Words) -> String {
     if before.primary(role) != Some(stream) {
         return format!("stream {stream} was not primary of role {role}, so nobody is told");
     }
-    let mark = before.mark(role).map_or(String::new(), |mark| words.id(mark));
+    let mark = before
+        .mark(role)
+        .map_or(String::new(), |mark| words.id(mark));
     format!("stream {stream} was primary of role {role}, which has none now; the mark stays {mark}")
 }
 
@@ -34,7 +36,10 @@ fn arbitrated(stream: u8, head: &Head, before: &Agent, words: &Words) -> String 
     let role = head.role;
     let bound = match before.stream(stream) {
         StreamState::Bound { id: Some(id), .. } => {
-            format!("stream {stream} of role {role}, until now with id {}, now has", words.id(id))
+            format!(
+                "stream {stream} of role {role}, until now with id {}, now has",
+                words.id(id)
+            )
         }
         StreamState::Bound { id: None, .. } => {
             format!("stream {stream} of role {role}, until now without an id, now has")
@@ -53,11 +58,19 @@ fn arbitrated(stream: u8, head: &Head, before: &Agent, words: &Words) -> String 
             format!("{bound} id {id}, below the mark {mark}: {not}")
         }
         (Some(id), Some(mark)) if id == mark => {
-            let still = if was { "it stays primary" } else { "it is primary" };
+            let still = if was {
+                "it stays primary"
+            } else {
+                "it is primary"
+            };
             format!("{bound} id {}, which is the mark: {still}", words.id(id))
         }
         (Some(id), _) => {
-            let still = if was { "it stays primary" } else { "it is primary" };
+            let still = if was {
+                "it stays primary"
+            } else {
+                "it is primary"
+            };
             format!("{bound} id {}, the new mark: {still}", words.id(id))
         }
     }

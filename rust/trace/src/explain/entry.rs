@@ -46,15 +46,13 @@ pub fn key(row: &Row, key: &Key, words: &Words) -> Option<Finding> {
 }
 
 /// The row of a table that the role may use.
-pub fn row<'r>(
-    table: u32,
-    role: u8,
-    rows: &'r [Row],
-    words: &Words,
-) -> Result<&'r Row, Finding> {
+pub fn row<'r>(table: u32, role: u8, rows: &'r [Row], words: &Words) -> Result<&'r Row, Finding> {
     let name = words.table(table);
     let Some(row) = rows.iter().find(|row| row.table == table) else {
-        let known: Vec<String> = rows.iter().map(|row| format!("0x{:08x}", row.table)).collect();
+        let known: Vec<String> = rows
+            .iter()
+            .map(|row| format!("0x{:08x}", row.table))
+            .collect();
         let text = format!(
             "the configuration has no table 0x{table:08x}; it has {}",
             known.join(", ")
@@ -86,8 +84,10 @@ impl Part<'_> {
     }
 
     fn key_form(&self, key: &Key) -> Option<String> {
-        key.slots.iter().enumerate().find_map(|(at, slot)| {
-            match self.row.fields.get(at) {
+        key.slots
+            .iter()
+            .enumerate()
+            .find_map(|(at, slot)| match self.row.fields.get(at) {
                 Some(field) => self.slot_form(at, field, slot),
                 None if *slot == Slot::default() => None,
                 None => {
@@ -95,14 +95,15 @@ impl Part<'_> {
                     let table = self.words.table(self.row.table);
                     Some(format!("{table} has {fields}, but slot {} is used", at + 1))
                 }
-            }
-        })
+            })
     }
 
     fn slot_form(&self, at: usize, field: &Field, slot: &Slot) -> Option<String> {
         let name = self.field(at, field);
         match (slot.kind, field.kind) {
-            (0, Kind::Exact) => return Some(format!("{name} is left out; an exact field may not be")),
+            (0, Kind::Exact) => {
+                return Some(format!("{name} is left out; an exact field may not be"))
+            }
             (0, _) if *slot == Slot::default() => return None,
             (0, _) => return Some(format!("{name} is left out, but its slot is not all zero")),
             (kind, own) if kind == own as u8 => {}
@@ -115,13 +116,15 @@ impl Part<'_> {
         first.or_else(|| match field.kind {
             Kind::Exact | Kind::Optional => (!slot.second.is_none())
                 .then(|| format!("{name} has one value, but the second is not all zero")),
-            Kind::Lpm => ill_formed(&slot.second)
-                .map(|what| format!("the prefix length of {name} {what}")),
+            Kind::Lpm => {
+                ill_formed(&slot.second).map(|what| format!("the prefix length of {name} {what}"))
+            }
             Kind::Ternary => {
                 ill_formed(&slot.second).map(|what| format!("the mask of {name} {what}"))
             }
-            Kind::Range => ill_formed(&slot.second)
-                .map(|what| format!("the upper bound of {name} {what}")),
+            Kind::Range => {
+                ill_formed(&slot.second).map(|what| format!("the upper bound of {name} {what}"))
+            }
         })
     }
 
@@ -129,7 +132,9 @@ impl Part<'_> {
         let table = self.words.table(self.row.table);
         let Some(action) = self.action(entry) else {
             let known = self.row.actions.iter();
-            let known: Vec<String> = known.map(|a| self.words.action(entry.table, a.id)).collect();
+            let known: Vec<String> = known
+                .map(|a| self.words.action(entry.table, a.id))
+                .collect();
             let known = known.join(", ");
             return Some(match entry.action {
                 0 => format!("no action is named, which delete needs too; {table} has {known}"),
@@ -163,7 +168,10 @@ impl Part<'_> {
             let second = || self.words.second(table, at, slot);
             if is_wide(&slot.first, field.width) {
                 let most = self.words.first(table, at, &Value::new(most(field.width)));
-                return Some(format!("{} does not fit {name}; the highest is {most}", first()));
+                return Some(format!(
+                    "{} does not fit {name}; the highest is {most}",
+                    first()
+                ));
             }
             let counts = field.kind == Kind::Lpm;
             (!counts && is_wide(&slot.second, field.width)).then(|| {
@@ -199,17 +207,20 @@ impl Part<'_> {
             Some(format!("{}: {what}", self.field(at, field)))
         };
         let mut slots = slots.map(broken);
-        slots.find_map(|broken| broken).or_else(|| self.priority(key.priority))
+        slots
+            .find_map(|broken| broken)
+            .or_else(|| self.priority(key.priority))
     }
 
     fn priority(&self, priority: u32) -> Option<String> {
-        let asks = |field: &&Field| {
-            matches!(field.kind, Kind::Ternary | Kind::Range | Kind::Optional)
-        };
+        let asks =
+            |field: &&Field| matches!(field.kind, Kind::Ternary | Kind::Range | Kind::Optional);
         let table = self.words.table(self.row.table);
         let Some(field) = self.row.fields.iter().find(asks) else {
             return (priority != 0).then(|| {
-                format!("{table} has no ternary, range or optional field, so the priority must be 0")
+                format!(
+                    "{table} has no ternary, range or optional field, so the priority must be 0"
+                )
             });
         };
         let kind = words::kind(field.kind as u8);
@@ -238,14 +249,18 @@ fn ill_formed(value: &Value) -> Option<String> {
     match value.length {
         0 => Some("is empty".to_owned()),
         length @ 17.. => Some(format!("has length {length}, over 16")),
-        _ if value.digits().is_none() => Some("has a byte after its length that is not 0".to_owned()),
+        _ if value.digits().is_none() => {
+            Some("has a byte after its length that is not 0".to_owned())
+        }
         _ => None,
     }
 }
 
 /// The highest number of a width.
 fn most(width: u8) -> u128 {
-    u128::MAX.checked_shr(128 - u32::from(width.min(128))).unwrap_or(0)
+    u128::MAX
+        .checked_shr(128 - u32::from(width.min(128)))
+        .unwrap_or(0)
 }
 
 /// Is a well-formed value not below 2 to the width?

@@ -176,7 +176,9 @@ fn not_primary(head: &Head, agent: &Agent, words: &Words) -> Option<Finding> {
             format!("the id is unset, and so never the primary's; {who}")
         }
         (Some((_, id)), None) => {
-            format!("id {id} is not the mark of role {role}, which has none: nobody was primary yet")
+            format!(
+                "id {id} is not the mark of role {role}, which has none: nobody was primary yet"
+            )
         }
         (Some((number, id)), Some(mark)) if number == mark => match primary {
             Some(_) => return None,
@@ -198,7 +200,8 @@ fn not_primary(head: &Head, agent: &Agent, words: &Words) -> Option<Finding> {
 }
 
 fn not_role_0(role: u8) -> Option<Finding> {
-    let text = || format!("only the primary of role 0 may configure, and the call names role {role}");
+    let text =
+        || format!("only the primary of role 0 may configure, and the call names role {role}");
     (role != 0).then(|| Finding::new(Reason::NotRole0, text()))
 }
 

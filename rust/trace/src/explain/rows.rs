@@ -19,7 +19,8 @@ pub fn finding(rows: &[Row], words: &Words) -> Option<Finding> {
         })
         .or_else(|| {
             let sum: u32 = rows.iter().map(|row| u32::from(row.size)).sum();
-            (sum > ENTRIES).then(|| format!("the sizes add to {sum}, and the store holds {ENTRIES}"))
+            (sum > ENTRIES)
+                .then(|| format!("the sizes add to {sum}, and the store holds {ENTRIES}"))
         })?;
     let text = format!("{text}; what was configured before stays");
     Some(Finding::new(Reason::RowsNotAllowed, text))
@@ -53,7 +54,9 @@ fn fields(row: &Row, words: &Words) -> Option<String> {
         let Field { kind, width } = *field;
         match (kind, width) {
             (1..=5, 1..=128) => None,
-            (1..=5, _) => Some(format!("field {name} has width {width}; it may be 1 to 128")),
+            (1..=5, _) => Some(format!(
+                "field {name} has width {width}; it may be 1 to 128"
+            )),
             _ => Some(format!("field {name} has kind {kind}; it may be 1 to 5")),
         }
     });
@@ -66,7 +69,9 @@ fn fields(row: &Row, words: &Words) -> Option<String> {
 fn actions(row: &Row, words: &Words) -> Option<String> {
     let count = usize::from(row.action_count);
     if count == 0 || count > PLACES {
-        return Some(format!("it has {count} actions; there may be 1 to {PLACES}"));
+        return Some(format!(
+            "it has {count} actions; there may be 1 to {PLACES}"
+        ));
     }
     let (used, unused) = row.actions.split_at_checked(count)?;
     let broken = used.iter().enumerate().find_map(|(at, action)| {
@@ -90,9 +95,14 @@ fn broken_action(table: u32, action: &Action, before: &[Action], words: &Words) 
     let name = words.action(table, id);
     let count = usize::from(action.count);
     let Some((used, unused)) = action.widths.split_at_checked(count) else {
-        return Some(format!("action {name} has {count} parameters; there may be 0 to {PLACES}"));
+        return Some(format!(
+            "action {name} has {count} parameters; there may be 0 to {PLACES}"
+        ));
     };
-    let broken = used.iter().enumerate().find(|(_, width)| !(1..=128).contains(*width));
+    let broken = used
+        .iter()
+        .enumerate()
+        .find(|(_, width)| !(1..=128).contains(*width));
     if let Some((at, width)) = broken {
         let parameter = words.parameter(table, id, at);
         return Some(format!(

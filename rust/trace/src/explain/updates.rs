@@ -80,7 +80,10 @@ fn by_store(update: &Update, player: &Player, words: &Words) -> Option<Finding> 
 fn other_priority(entry: &Entry, entries: &[Entry]) -> String {
     let same = |other: &&Entry| other.table == entry.table && other.key.same_slots(&entry.key);
     match entries.iter().find(same) {
-        Some(other) => format!("; one has the same fields, but priority {}", other.key.priority),
+        Some(other) => format!(
+            "; one has the same fields, but priority {}",
+            other.key.priority
+        ),
         None => String::new(),
     }
 }

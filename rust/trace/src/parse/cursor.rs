@@ -101,7 +101,8 @@ impl<'t, 'a> Cursor<'t, 'a> {
 
     /// A new name.
     pub fn name(&mut self, of: &str) -> Result<Token<'a>, Mistake> {
-        let expected = || format!("a name for the {of}: a letter, then letters, digits, '_' or '-'");
+        let expected =
+            || format!("a name for the {of}: a letter, then letters, digits, '_' or '-'");
         let next = self.peek().filter(|token| values::is_name(token.text));
         let token = next.ok_or_else(|| self.mistake(expected()))?;
         self.advance();

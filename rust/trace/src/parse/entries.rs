@@ -82,12 +82,7 @@ impl<'a> Parser<'a> {
     }
 
     /// What stands after `FIELD=`.
-    fn slot(
-        &mut self,
-        cursor: &mut Cursor,
-        table: &Named,
-        field: usize,
-    ) -> Result<Slot, Mistake> {
+    fn slot(&mut self, cursor: &mut Cursor, table: &Named, field: usize) -> Result<Slot, Mistake> {
         if cursor.takes("*") {
             return Ok(Slot::default());
         }
@@ -152,7 +147,8 @@ impl<'a> Parser<'a> {
             };
             let value = self.value(cursor, Spot::Parameter { table, action, at })?;
             let slot = parameters.get_mut(at);
-            let slot = slot.ok_or_else(|| Mistake::new(place, "at most 4 parameters", "one more"))?;
+            let slot =
+                slot.ok_or_else(|| Mistake::new(place, "at most 4 parameters", "one more"))?;
             if !slot.is_none() {
                 return Err(Mistake::new(place, "each parameter once", "one again"));
             }

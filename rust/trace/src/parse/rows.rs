@@ -195,7 +195,9 @@ impl<'a> Parts<'a> {
         let mut kinds = (0..).zip(KINDS).skip(1);
         let named = kinds.find(|(_, name)| *name == part);
         let number = named.map(|(kind, _)| kind);
-        number.or_else(|| byte(part)).ok_or_else(|| Mistake::new(place, expected, quoted(part)))
+        number
+            .or_else(|| byte(part))
+            .ok_or_else(|| Mistake::new(place, expected, quoted(part)))
     }
 
     fn width(&mut self) -> Result<u8, Mistake> {

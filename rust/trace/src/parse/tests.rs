@@ -47,7 +47,10 @@ fn streams() {
     assert_eq!(call("close 31 # that one"), Call::Close { stream: 31 });
     let arbitrate = |head| Call::Arbitrate { stream: 3, head };
     assert_eq!(call("arbitrate 3 role 2 id 5"), arbitrate(head(2, Some(5))));
-    assert_eq!(call("arbitrate 3 role 255 unset"), arbitrate(head(255, None)));
+    assert_eq!(
+        call("arbitrate 3 role 255 unset"),
+        arbitrate(head(255, None))
+    );
     assert_eq!(call("arbitrate 3 role 2"), arbitrate(head(2, None)));
     assert_eq!(call("arbitrate 3 role 2 id 0"), arbitrate(head(2, Some(0))));
     let device = Head {
@@ -108,11 +111,15 @@ fn configure() {
     assert_eq!(rows.len(), 2);
     assert_eq!(rows[1].fields[0], field(5, 4));
     // Nothing but what must be there, and a kind by number.
-    let Call::Configure { rows, .. } = call("configure role 0\n table x 1 owner 255 size 65535 key k:9:255")
+    let Call::Configure { rows, .. } =
+        call("configure role 0\n table x 1 owner 255 size 65535 key k:9:255")
     else {
         panic!();
     };
-    assert_eq!((rows[0].owner, rows[0].size, rows[0].action_count), (255, 65535, 0));
+    assert_eq!(
+        (rows[0].owner, rows[0].size, rows[0].action_count),
+        (255, 65535, 0)
+    );
     assert_eq!(rows[0].fields[0], field(9, 255));
     let no_rows = Call::Configure {
         head: head(0, None),
@@ -139,7 +146,9 @@ fn updates() {
     assert_eq!((given, atomicity), (head(1, Some(5)), 2));
     let kinds: Vec<u8> = updates.iter().map(|update: &Update| update.kind).collect();
     assert_eq!(kinds, [1, 2, 3, 9]);
-    assert!(updates.iter().all(|update| update.entry == updates[0].entry));
+    assert!(updates
+        .iter()
+        .all(|update| update.entry == updates[0].entry));
     let empty = Call::Write {
         head: head(0, None),
         atomicity: 0,
@@ -155,7 +164,8 @@ fn matches() {
         first: Value::new(first),
         second: second.map_or(Value::default(), Value::new),
     };
-    let written = entry("table t d=1..0xfe b=10.0.0.0/8 a=10.0.0.1 priority 10 c=0x1&&&15 go(q=2, p=1)");
+    let written =
+        entry("table t d=1..0xfe b=10.0.0.0/8 a=10.0.0.1 priority 10 c=0x1&&&15 go(q=2, p=1)");
     let slots = [
         slot(1, 0x0a00_0001, None),
         slot(2, 0x0a00_0000, Some(8)),
@@ -169,14 +179,21 @@ fn matches() {
             slots,
         },
         action: 0x0100_0001,
-        parameters: [Value::new(1), Value::new(2), Value::default(), Value::default()],
+        parameters: [
+            Value::new(1),
+            Value::new(2),
+            Value::default(),
+            Value::default(),
+        ],
     };
     assert_eq!(written, Entry { ..expected });
     // By number and place, the same.
-    let numbers = "table 0x02000001 priority 10 1=10.0.0.1 2=10.0.0.0/8 3=1&&&15 4=1..254 0x01000001(1, 2)";
+    let numbers =
+        "table 0x02000001 priority 10 1=10.0.0.1 2=10.0.0.0/8 3=1&&&15 4=1..254 0x01000001(1, 2)";
     assert_eq!(entry(numbers), expected);
     // With blanks around the signs.
-    let blanks = "table t priority 10 a = 10.0.0.1 b = 10.0.0.0 / 8 c = 1 &&& 15 d = 1 .. 254 go ( 1 , 2 )";
+    let blanks =
+        "table t priority 10 a = 10.0.0.1 b = 10.0.0.0 / 8 c = 1 &&& 15 d = 1 .. 254 go ( 1 , 2 )";
     assert_eq!(entry(blanks), expected);
 }
 
@@ -208,7 +225,12 @@ fn values_are_sent_as_written() {
 fn parts_that_are_left_out_are_sent_empty() {
     assert_eq!(entry("table t").action, 0);
     assert_eq!(entry("table t no()").parameters, [Value::default(); 4]);
-    let second = [Value::default(), Value::new(7), Value::default(), Value::default()];
+    let second = [
+        Value::default(),
+        Value::new(7),
+        Value::default(),
+        Value::default(),
+    ];
     assert_eq!(entry("table t go(q=7)").parameters, second);
     assert_eq!(entry("table t go(2=7)").parameters, second);
 }
@@ -233,14 +255,20 @@ fn reads() {
     let table = 0x0200_0001;
     assert_eq!(call(&text), read(Wanted::Key { table, key }));
     let key = Key::default();
-    assert_eq!(call("read role 2 table 0 only"), read(Wanted::Key { table: 0, key }));
+    assert_eq!(
+        call("read role 2 table 0 only"),
+        read(Wanted::Key { table: 0, key })
+    );
 }
 
 #[test]
 fn raw() {
     let frame = |text: &str| script(text).unwrap().calls.pop().unwrap().frame;
     assert_eq!(frame("raw 01 03"), [1, 3]);
-    assert_eq!(frame("raw 0103\n  00*2.ff # more\n  07"), [1, 3, 0, 0, 0xff, 7]);
+    assert_eq!(
+        frame("raw 0103\n  00*2.ff # more\n  07"),
+        [1, 3, 0, 0, 0xff, 7]
+    );
     assert_eq!(frame("raw"), [0; 0]);
 }
 
@@ -334,36 +362,127 @@ fn mistake(text: &str) -> (usize, usize, String) {
 fn mistakes_in_statements() {
     let statements = "a statement (device, value, open, close, arbitrate, configure, write, read, raw or expect)";
     let indented = "blanks before it, as rows and updates are indented";
-    let outdented = "no blanks before it, as only `configure`, `write` and `raw` have lines under them";
+    let outdented =
+        "no blanks before it, as only `configure`, `write` and `raw` have lines under them";
     for (text, line, column, expected, found) in [
         ("oepn 1", 1, 1, statements, "'oepn'"),
         ("= 1", 1, 1, statements, "'='"),
-        ("# fine\n\n  open 1", 3, 3, "a statement at the start of the line", "'open'"),
+        (
+            "# fine\n\n  open 1",
+            3,
+            3,
+            "a statement at the start of the line",
+            "'open'",
+        ),
         ("open 1\n  open 2", 2, 3, outdented, "'open'"),
         ("table x 1 owner 0 size 1", 1, 1, indented, "'table'"),
         ("write role 0\ninsert table 1", 2, 1, indented, "'insert'"),
         ("open", 1, 5, "a stream, 0 to 255", "the end of the line"),
-        ("open # 1", 1, 5, "a stream, 0 to 255", "the end of the line"),
+        (
+            "open # 1",
+            1,
+            5,
+            "a stream, 0 to 255",
+            "the end of the line",
+        ),
         ("open 256", 1, 6, "a stream, 0 to 255", "'256'"),
         ("open -1", 1, 6, "a stream, 0 to 255", "'-1'"),
         ("open 1 2", 1, 8, "the end of the line", "'2'"),
         ("arbitrate 1 id 5", 1, 13, "'role'", "'id'"),
         ("arbitrate 1 role x id 5", 1, 18, "a role, 0 to 255", "'x'"),
-        ("arbitrate 1 role 0 id", 1, 22, "an election id, up to 128 bits", "the end of the line"),
-        ("arbitrate 1 role 0 id 1 id 2", 1, 25, "'id', 'unset' or 'device', each once", "'id'"),
-        ("arbitrate 1 role 0 unset id 2", 1, 26, "'id', 'unset' or 'device', each once", "'id'"),
-        ("arbitrate 1 role 0 atomicity 0", 1, 20, "'id', 'unset' or 'device', each once", "'atomicity'"),
-        ("write role 0 atomicity 3", 1, 24, "an atomicity: 0, 1 or 2", "'3'"),
-        ("write role 0 device", 1, 20, "a device id, up to 64 bits", "the end of the line"),
-        ("open 1\ndevice 2", 2, 1, "'device' once, before the first call", "it here"),
-        ("value 9 = 1", 1, 7, "a name for the value: a letter, then letters, digits, '_' or '-'", "'9'"),
+        (
+            "arbitrate 1 role 0 id",
+            1,
+            22,
+            "an election id, up to 128 bits",
+            "the end of the line",
+        ),
+        (
+            "arbitrate 1 role 0 id 1 id 2",
+            1,
+            25,
+            "'id', 'unset' or 'device', each once",
+            "'id'",
+        ),
+        (
+            "arbitrate 1 role 0 unset id 2",
+            1,
+            26,
+            "'id', 'unset' or 'device', each once",
+            "'id'",
+        ),
+        (
+            "arbitrate 1 role 0 atomicity 0",
+            1,
+            20,
+            "'id', 'unset' or 'device', each once",
+            "'atomicity'",
+        ),
+        (
+            "write role 0 atomicity 3",
+            1,
+            24,
+            "an atomicity: 0, 1 or 2",
+            "'3'",
+        ),
+        (
+            "write role 0 device",
+            1,
+            20,
+            "a device id, up to 64 bits",
+            "the end of the line",
+        ),
+        (
+            "open 1\ndevice 2",
+            2,
+            1,
+            "'device' once, before the first call",
+            "it here",
+        ),
+        (
+            "value 9 = 1",
+            1,
+            7,
+            "a name for the value: a letter, then letters, digits, '_' or '-'",
+            "'9'",
+        ),
         ("value a 1", 1, 9, "'='", "'1'"),
-        ("value a = b", 1, 11, "a value: decimal, 0x hex, MAC, IPv4, or a name given above", "'b'"),
-        ("value a = 1\nvalue a = 2", 2, 7, "each name once", "'a' again"),
+        (
+            "value a = b",
+            1,
+            11,
+            "a value: decimal, 0x hex, MAC, IPv4, or a name given above",
+            "'b'",
+        ),
+        (
+            "value a = 1\nvalue a = 2",
+            2,
+            7,
+            "each name once",
+            "'a' again",
+        ),
         ("expect 0", 1, 1, "a call before 'expect'", "none"),
-        ("read role 0 only", 1, 13, "'table', 'device' or the end of the line", "'only'"),
-        ("read role 0 table 1 2=1", 1, 21, "'only', 'device' or the end of the line", "'2'"),
-        ("read role 0 table 1 only x", 1, 26, "'priority', a field with '=', or the end of the line", "'x'"),
+        (
+            "read role 0 only",
+            1,
+            13,
+            "'table', 'device' or the end of the line",
+            "'only'",
+        ),
+        (
+            "read role 0 table 1 2=1",
+            1,
+            21,
+            "'only', 'device' or the end of the line",
+            "'2'",
+        ),
+        (
+            "read role 0 table 1 only x",
+            1,
+            26,
+            "'priority', a field with '=', or the end of the line",
+            "'x'",
+        ),
         ("raw 0", 1, 5, "bytes of two hex digits", "'0'"),
         ("open 1 & 2", 1, 8, "'&&&'", "'&'"),
     ] {
@@ -378,24 +497,99 @@ fn mistakes_in_rows() {
     let kind = "a kind: exact, lpm, ternary, range, optional, or a number 0 to 255";
     let width = "a width in bits, 0 to 255";
     for (row, column, expected, found) in [
-        ("insert", 3, "a row: table NAME 0xID owner R size N ..", "'insert'"),
-        ("table 9", 9, "a name for the table: a letter, then letters, digits, '_' or '-'", "'9'"),
+        (
+            "insert",
+            3,
+            "a row: table NAME 0xID owner R size N ..",
+            "'insert'",
+        ),
+        (
+            "table 9",
+            9,
+            "a name for the table: a letter, then letters, digits, '_' or '-'",
+            "'9'",
+        ),
         ("table t x", 11, "the table's id, up to 32 bits", "'x'"),
         ("table t 1 size", 13, "'owner'", "'size'"),
-        ("table t 1 owner 0 size 65536", 26, "a size, 0 to 65535", "'65536'"),
-        ("table t 1 owner 0 size 1 k:exact:8", 28, "'key', 'action' or the end of the row", "'k:exact:8'"),
-        ("table t 1 owner 0 size 1 key", 31, "a field as name:kind:width", "the end of the line"),
+        (
+            "table t 1 owner 0 size 65536",
+            26,
+            "a size, 0 to 65535",
+            "'65536'",
+        ),
+        (
+            "table t 1 owner 0 size 1 k:exact:8",
+            28,
+            "'key', 'action' or the end of the row",
+            "'k:exact:8'",
+        ),
+        (
+            "table t 1 owner 0 size 1 key",
+            31,
+            "a field as name:kind:width",
+            "the end of the line",
+        ),
         ("table t 1 owner 0 size 1 key 9:exact:8", 32, name, "'9'"),
-        ("table t 1 owner 0 size 1 key k:exakt:8", 34, kind, "'exakt'"),
-        ("table t 1 owner 0 size 1 key k:exact:256", 40, width, "'256'"),
-        ("table t 1 owner 0 size 1 key k:exact", 39, "':' and a width in bits, 0 to 255", "the end of 'k:exact'"),
-        ("table t 1 owner 0 size 1 key k:exact:8:9", 42, "no further part", "'9'"),
-        ("table t 1 owner 0 size 1 key k:1:1 k:1:1", 38, "each name once", "'k' again"),
-        ("table t 1 owner 0 size 1 key a:1:1 b:1:1 c:1:1 d:1:1 e:1:1", 56, "at most 4 fields", "one more"),
-        ("table t 1 owner 0 size 1 action a 1", 38, "'(' and the parameters", "the end of the line"),
-        ("table t 1 owner 0 size 1 action a 1 (p:1 q:1)", 44, "',' or ')'", "'q:1'"),
-        ("table t 1 owner 0 size 1 action a 1 (", 40, "a parameter as name:width, or ')'", "the end of the line"),
-        ("table t 1 owner 0 size 1 action a 1 () b", 42, "'action' or the end of the row", "'b'"),
+        (
+            "table t 1 owner 0 size 1 key k:exakt:8",
+            34,
+            kind,
+            "'exakt'",
+        ),
+        (
+            "table t 1 owner 0 size 1 key k:exact:256",
+            40,
+            width,
+            "'256'",
+        ),
+        (
+            "table t 1 owner 0 size 1 key k:exact",
+            39,
+            "':' and a width in bits, 0 to 255",
+            "the end of 'k:exact'",
+        ),
+        (
+            "table t 1 owner 0 size 1 key k:exact:8:9",
+            42,
+            "no further part",
+            "'9'",
+        ),
+        (
+            "table t 1 owner 0 size 1 key k:1:1 k:1:1",
+            38,
+            "each name once",
+            "'k' again",
+        ),
+        (
+            "table t 1 owner 0 size 1 key a:1:1 b:1:1 c:1:1 d:1:1 e:1:1",
+            56,
+            "at most 4 fields",
+            "one more",
+        ),
+        (
+            "table t 1 owner 0 size 1 action a 1",
+            38,
+            "'(' and the parameters",
+            "the end of the line",
+        ),
+        (
+            "table t 1 owner 0 size 1 action a 1 (p:1 q:1)",
+            44,
+            "',' or ')'",
+            "'q:1'",
+        ),
+        (
+            "table t 1 owner 0 size 1 action a 1 (",
+            40,
+            "a parameter as name:width, or ')'",
+            "the end of the line",
+        ),
+        (
+            "table t 1 owner 0 size 1 action a 1 () b",
+            42,
+            "'action' or the end of the row",
+            "'b'",
+        ),
     ] {
         let message = format!("expected {expected}, found {found}");
         let text = format!("configure role 0\n  {row}");
@@ -404,9 +598,15 @@ fn mistakes_in_rows() {
     let row = |at: usize| format!("\n table t{at} 1 owner 0 size 1");
     let nine: String = (1..=9).map(row).collect();
     let message = "expected at most 8 rows, found one more".to_owned();
-    assert_eq!(mistake(&format!("configure role 0{nine}")), (10, 2, message));
+    assert_eq!(
+        mistake(&format!("configure role 0{nine}")),
+        (10, 2, message)
+    );
     let twice = format!("configure role 0{}{}", row(1), row(1));
-    assert_eq!(mistake(&twice).2, "expected each name once, found 't1' again");
+    assert_eq!(
+        mistake(&twice).2,
+        "expected each name once, found 't1' again"
+    );
 }
 
 #[test]
@@ -419,23 +619,68 @@ fn mistakes_in_updates() {
         ("expect 0", 3, "no blanks before an expectation", "'expect'"),
         ("insert t", 10, "'table'", "'t'"),
         ("insert table x", 16, "a table (t, u) or its number", "'x'"),
-        ("insert table t x=1", 18, "a field (a, b, c, d) or a place 1 to 4", "'x'"),
-        ("insert table t 5=1", 18, "a field (a, b, c, d) or a place 1 to 4", "'5'"),
+        (
+            "insert table t x=1",
+            18,
+            "a field (a, b, c, d) or a place 1 to 4",
+            "'x'",
+        ),
+        (
+            "insert table t 5=1",
+            18,
+            "a field (a, b, c, d) or a place 1 to 4",
+            "'5'",
+        ),
         ("insert table t a", 18, words, "'a'"),
         ("insert table t a=", 20, value, "the end of the line"),
         ("insert table t a=1 a=2", 22, "each field once", "it again"),
         ("insert table t a=x", 20, value, "'x'"),
         ("insert table t a=1/", 22, value, "the end of the line"),
         ("insert table t a=1.2.3", 20, value, "'1.2.3'"),
-        ("insert table t a=0x112233445566778899aabbccddeeff0011", 20, "a value of at most 16 bytes", "'0x112233445566778899aabbccddeeff0011'"),
-        ("insert table t priority x", 27, "a priority, up to 32 bits", "'x'"),
+        (
+            "insert table t a=0x112233445566778899aabbccddeeff0011",
+            20,
+            "a value of at most 16 bytes",
+            "'0x112233445566778899aabbccddeeff0011'",
+        ),
+        (
+            "insert table t priority x",
+            27,
+            "a priority, up to 32 bits",
+            "'x'",
+        ),
         ("insert table t drop()", 18, words, "'drop'"),
-        ("insert table t go", 20, "'(' and the parameters after the action", "the end of the line"),
+        (
+            "insert table t go",
+            20,
+            "'(' and the parameters after the action",
+            "the end of the line",
+        ),
         ("insert table t go(1 2)", 23, "',' or ')'", "'2'"),
-        ("insert table t go(r=1)", 21, "a parameter (p, q) or a place 1 to 4", "'r'"),
-        ("insert table t go(1, 2, 3, 4, 5)", 33, "at most 4 parameters", "one more"),
-        ("insert table t go(q=1, 2)", 26, "each parameter once", "one again"),
-        ("insert table t go(1) a=2", 24, "the end of the line after the action", "'a'"),
+        (
+            "insert table t go(r=1)",
+            21,
+            "a parameter (p, q) or a place 1 to 4",
+            "'r'",
+        ),
+        (
+            "insert table t go(1, 2, 3, 4, 5)",
+            33,
+            "at most 4 parameters",
+            "one more",
+        ),
+        (
+            "insert table t go(q=1, 2)",
+            26,
+            "each parameter once",
+            "one again",
+        ),
+        (
+            "insert table t go(1) a=2",
+            24,
+            "the end of the line after the action",
+            "'a'",
+        ),
         ("type x table t", 8, "a type, 0 to 255", "'x'"),
     ] {
         let message = format!("expected {expected}, found {found}");
@@ -458,14 +703,39 @@ fn mistakes_in_expectations() {
         ("25", 8, what, "'25'"),
         ("not-primry", 8, what, "'not-primry'"),
         ("0 0", 10, "the end of the line", "'0'"),
-        ("told", 12, "a stream, 0 to 255, or 'nobody'", "the end of the line"),
+        (
+            "told",
+            12,
+            "a stream, 0 to 255, or 'nobody'",
+            "the end of the line",
+        ),
         ("told 1 5", 15, "'status'", "'5'"),
-        ("told 1 status x", 22, "a status, 0 to 255: 0 primary, 5 none, 6 another", "'x'"),
-        ("told 1 status 5 mark", 28, "an election id, up to 128 bits", "the end of the line"),
+        (
+            "told 1 status x",
+            22,
+            "a status, 0 to 255: 0 primary, 5 none, 6 another",
+            "'x'",
+        ),
+        (
+            "told 1 status 5 mark",
+            28,
+            "an election id, up to 128 bits",
+            "the end of the line",
+        ),
         ("pairs 0 x", 16, reason, "'x'"),
         ("primary 0 none", 16, "'role'", "'0'"),
-        ("primary role 0 2", 23, "'stream' and its number, or 'none'", "'2'"),
-        ("mark role 0", 19, "an election id, up to 128 bits", "the end of the line"),
+        (
+            "primary role 0 2",
+            23,
+            "'stream' and its number, or 'none'",
+            "'2'",
+        ),
+        (
+            "mark role 0",
+            19,
+            "an election id, up to 128 bits",
+            "the end of the line",
+        ),
         ("entries x", 16, "a number of entries", "'x'"),
         ("entry t", 14, "'table'", "'t'"),
         ("stream 1 shut", 17, "'closed', 'open' or 'bound'", "'shut'"),

@@ -126,8 +126,16 @@ impl Picture<'_> {
     }
 
     fn text(&mut self, x: usize, y: usize, style: &Style, text: &str) {
-        let anchor = if style.middle { " text-anchor=\"middle\"" } else { "" };
-        let weight = if style.bold { " font-weight=\"bold\"" } else { "" };
+        let anchor = if style.middle {
+            " text-anchor=\"middle\""
+        } else {
+            ""
+        };
+        let weight = if style.bold {
+            " font-weight=\"bold\""
+        } else {
+            ""
+        };
         let (size, colour) = (style.size, style.colour);
         self.body += &format!(
             "<text x=\"{x}\" y=\"{y}\" font-size=\"{size}\" fill=\"{colour}\"{anchor}{weight}>{}</text>\n",
@@ -136,9 +144,8 @@ impl Picture<'_> {
     }
 
     fn rect(&mut self, x: usize, y: usize, width: usize, height: usize, paint: &str) {
-        self.body += &format!(
-            "<rect x=\"{x}\" y=\"{y}\" width=\"{width}\" height=\"{height}\" {paint}/>\n"
-        );
+        self.body +=
+            &format!("<rect x=\"{x}\" y=\"{y}\" width=\"{width}\" height=\"{height}\" {paint}/>\n");
     }
 
     fn line(&mut self, from: (usize, usize), to: (usize, usize), paint: &str) {
@@ -160,7 +167,12 @@ impl Picture<'_> {
             let number = (at + 1).to_string();
             self.text(x, y + LINE, &Style::new(INK).bold().middle(), &number);
             for (line, part) in (2..).zip(&moment.title) {
-                self.text(x, y + LINE * line, &Style::new(INK).middle(), &cut(part, room));
+                self.text(
+                    x,
+                    y + LINE * line,
+                    &Style::new(INK).middle(),
+                    &cut(part, room),
+                );
             }
             self.answer(x, y + LINE * 5, moment.reason);
         }
@@ -206,7 +218,9 @@ impl Picture<'_> {
             State::Closed => return,
             State::Open => (OPEN, GREY, "open".to_owned()),
             State::Backup { role, id } => {
-                let id = id.map_or("no id".to_owned(), |id| format!("id {}", self.notations.id(id)));
+                let id = id.map_or("no id".to_owned(), |id| {
+                    format!("id {}", self.notations.id(id))
+                });
                 (BACKED, INK, format!("{id} (role {role})"))
             }
             State::Primary { role, id } => {
@@ -226,7 +240,11 @@ impl Picture<'_> {
         let room = width.saturating_sub(10) / BOLD;
         // Rather the id alone than half of the role.
         let short = text.split(" (").next().unwrap_or(text);
-        let text = if text.chars().count() <= room { text } else { short };
+        let text = if text.chars().count() <= room {
+            text
+        } else {
+            short
+        };
         self.text(x + 6, y + 17, style, &cut(text, room));
     }
 
@@ -320,8 +338,14 @@ impl Picture<'_> {
         x += 150;
         self.line((x, y + 2), (x + 10, y + 12), SOLID);
         self.line((x, y + 12), (x + 10, y + 2), SOLID);
-        self.text(x + 16, y + 12, &Style::new(REFUSED), "refused, or updates failed");
-        let told = "told N: the stream is told status N: 0 it is primary, 5 nobody is, 6 another is";
+        self.text(
+            x + 16,
+            y + 12,
+            &Style::new(REFUSED),
+            "refused, or updates failed",
+        );
+        let told =
+            "told N: the stream is told status N: 0 it is primary, 5 nobody is, 6 another is";
         self.text(LEFT / 6, y + 34, &Style::new(INK), told);
         self.y += 50;
     }

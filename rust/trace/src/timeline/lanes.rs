@@ -42,3 +42,16 @@ pub fn roles(moments: &[Moment]) -> Vec<u8> {
     let marked = |&role: &u8| last.is_some_and(|agent| agent.mark(role).is_some());
     (0..8).filter(marked).collect()
 }
+
+#[cfg(test)]
+mod tests {
+    use super::*;
+
+    #[test]
+    fn equal_neighbours_are_one_span() {
+        let span = |from, to, what| Span { from, to, what };
+        let found = spans([1, 1, 2, 1].into_iter());
+        assert_eq!(found, [span(0, 2, 1), span(2, 3, 2), span(3, 4, 1)]);
+        assert_eq!(spans([0; 0].into_iter()), []);
+    }
+}

@@ -32,7 +32,10 @@ pub fn hyphenated(name: &str, room: usize) -> Vec<String> {
 /// A text in lines that break at blanks.
 pub fn folded(text: &str, room: usize) -> Vec<String> {
     let lines = fold(text.split_inclusive(' '), room);
-    lines.iter().map(|line| line.trim_end().to_owned()).collect()
+    lines
+        .iter()
+        .map(|line| line.trim_end().to_owned())
+        .collect()
 }
 
 /// Parts put together as long as they fit; a part that is too long alone stays so.
@@ -46,4 +49,25 @@ fn fold<'t>(parts: impl Iterator<Item = &'t str>, room: usize) -> Vec<String> {
         }
     }
     lines
+}
+
+#[cfg(test)]
+mod tests {
+    use super::*;
+
+    #[test]
+    fn texts_fit() {
+        assert_eq!(cut("stream 1", 8), "stream 1");
+        assert_eq!(cut("stream 12", 8), "stream..");
+        assert_eq!(cut("stream", 0), "..");
+        assert_eq!(hyphenated("not-primary", 11), ["not-primary"]);
+        assert_eq!(hyphenated("rows-not-allowed", 9), ["rows-not-", "allowed"]);
+        assert_eq!(folded("a bc def", 4), ["a bc", "def"]);
+        assert_eq!(folded("abcdef a", 3), ["abcdef", "a"]);
+    }
+
+    #[test]
+    fn texts_are_xml() {
+        assert_eq!(escaped("a<b>&\"\u{1}"), "a&lt;b&gt;&amp;\" ");
+    }
 }
