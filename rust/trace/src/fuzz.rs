@@ -173,24 +173,21 @@ fn what_explain_says_of_a_call_is_a_script_again() {
 fn scripted(trace: &str) -> String {
     let mut script = String::new();
     for line in trace.lines() {
-        let words: Vec<&str> = line.split_whitespace().collect();
-        match words[..] {
-            [number, ref statement @ ..] if !line.starts_with(' ') => {
-                if number.parse::<usize>().is_ok()
-                    && !statement.is_empty()
-                    && statement[0] != "calls"
-                {
-                    script += &format!("{}\n", statement.join(" "));
-                }
-            }
-            ["row", _, ref row @ ..] => script += &format!("  {}\n", row.join(" ")),
-            ["update", _, ref update @ ..] => {
-                let text = update.join(" ");
-                let text = text.split(" -> ").next().unwrap_or("");
+        let (first, rest) = line.trim_start().split_once(' ').unwrap_or((line, ""));
+        let rest = rest.trim_start();
+        let behind = rest
+            .split_once(' ')
+            .map_or("", |(_, behind)| behind.trim_start());
+        match first {
+            _ if !line.starts_with(' ') => script += &format!("{rest}\n"),
+            "row" => script += &format!("  {behind}\n"),
+            "update" => {
+                let text = behind.split(" -> ").next().unwrap_or("");
                 script += &format!("  {text}\n");
             }
             _ => {}
         }
     }
-    script
+    // The last line is no call.
+    script.trim_end().trim_end_matches("calls").to_owned()
 }

@@ -12,22 +12,21 @@ use crate::words::{some, Words};
 pub fn instead(expected: &Expected, outcome: &Outcome, words: &Words) -> Option<String> {
     let after = &outcome.after;
     let (holds, is) = match expected {
-        Expected::Reason(reason) => (
-            outcome.reason == *reason,
-            format!("the reason is {}", named(outcome.reason)),
-        ),
+        Expected::Reason(reason) => {
+            let is = format!("the reason is {}", named(outcome.reason));
+            (outcome.reason == *reason, is)
+        }
         Expected::Told {
             stream,
             status,
             mark,
-        } => (
-            outcome.told.iter().any(|told| {
-                told.stream == *stream
-                    && told.status as u8 == *status
+        } => {
+            let same = |told: &Notification| {
+                (told.stream, told.status as u8) == (*stream, *status)
                     && mark.is_none_or(|mark| told.mark == mark)
-            }),
-            told(&outcome.told, words),
-        ),
+            };
+            (outcome.told.iter().any(same), told(&outcome.told, words))
+        }
         Expected::ToldNobody => (outcome.told.is_empty(), told(&outcome.told, words)),
         Expected::Pairs(reasons) => (outcome.pairs == *reasons, pairs(&outcome.pairs)),
         Expected::Primary { role, stream } => {
@@ -36,31 +35,37 @@ pub fn instead(expected: &Expected, outcome: &Outcome, words: &Words) -> Option<
         }
         Expected::Mark { role, id } => {
             let mark = after.mark(*role);
-            let shown = mark.map_or("none".to_owned(), |mark| words.id(mark));
-            (mark == *id, format!("it is {shown}"))
+            (mark == *id, format!("it is {}", id_or_none(mark, words)))
         }
         Expected::Entries(count) => {
-            let shown = some(outcome.entries.len(), "entry", "entries");
+            let shown = outcome.entries.len();
             (
-                outcome.entries.len() == *count,
-                format!("the call shows {shown}"),
+                shown == *count,
+                format!("the call shows {}", entries(shown)),
             )
         }
-        Expected::Entry { entry, action } => {
-            let same =
-                |other: &Entry| other.same_key(entry) && (!action || other.same_action(entry));
-            let is = match outcome.entries.len() {
-                0 => "the call shows no entry".to_owned(),
-                shown => {
-                    let shown = some(shown, "entry", "entries");
-                    format!("it is not among the {shown} that the call shows")
-                }
-            };
-            (outcome.entries.iter().any(same), is)
-        }
+        Expected::Entry { entry, action } => among(entry, *action, &outcome.entries),
         Expected::Stream { stream, state } => stream_state(*stream, *state, after, words),
     };
     (!holds).then_some(is)
+}
+
+/// Is an entry among those that a call shows? The action need not be compared.
+fn among(entry: &Entry, action: bool, shown: &[Entry]) -> (bool, String) {
+    let same = |other: &Entry| other.same_key(entry) && (!action || other.same_action(entry));
+    let is = match shown.len() {
+        0 => "the call shows no entry".to_owned(),
+        count => format!("it is not among the {} that the call shows", entries(count)),
+    };
+    (shown.iter().any(same), is)
+}
+
+fn entries(count: usize) -> String {
+    some(count, "entry", "entries")
+}
+
+fn id_or_none(id: Option<u128>, words: &Words) -> String {
+    id.map_or("none".to_owned(), |id| words.id(id))
 }
 
 /// A reason by name and number.
@@ -76,7 +81,7 @@ fn told(told: &[Notification], words: &Words) -> String {
     let each: Vec<String> = told
         .iter()
         .map(|told| {
-            let mark = told.mark.map_or("none".to_owned(), |mark| words.id(mark));
+            let mark = id_or_none(told.mark, words);
             format!("{} status {} mark {mark}", told.stream, told.status as u8)
         })
         .collect();

@@ -7,6 +7,17 @@
 //! scripts, `raw` frames and captures are shown alike. [`timeline`] draws it.
 
 #![forbid(unsafe_code)]
+// No input may stop the program.
+#![cfg_attr(
+    not(test),
+    deny(
+        clippy::expect_used,
+        clippy::indexing_slicing,
+        clippy::panic,
+        clippy::unreachable,
+        clippy::unwrap_used
+    )
+)]
 
 #[cfg(test)]
 mod dice;

@@ -1,6 +1,17 @@
 //! `savorylatch`: plays a script on the proved agent and says what came of each call.
 
 #![forbid(unsafe_code)]
+// No input may stop the program.
+#![cfg_attr(
+    not(test),
+    deny(
+        clippy::expect_used,
+        clippy::indexing_slicing,
+        clippy::panic,
+        clippy::unreachable,
+        clippy::unwrap_used
+    )
+)]
 
 use std::env;
 use std::ffi::OsStr;

@@ -34,46 +34,27 @@ fn closed(stream: u8, before: &Agent, words: &Words) -> String {
 
 fn arbitrated(stream: u8, head: &Head, before: &Agent, words: &Words) -> String {
     let role = head.role;
-    let bound = match before.stream(stream) {
-        StreamState::Bound { id: Some(id), .. } => {
-            format!(
-                "stream {stream} of role {role}, until now with id {}, now has",
-                words.id(id)
-            )
-        }
-        StreamState::Bound { id: None, .. } => {
-            format!("stream {stream} of role {role}, until now without an id, now has")
-        }
-        _ => format!("stream {stream} is bound to role {role} with"),
-    };
     let was = before.primary(role) == Some(stream);
-    let not = match was {
-        true => "it is primary no longer, and nobody is",
-        false => "it is not primary",
+    let (is, is_not) = match was {
+        true => ("it stays primary", "it is primary no longer, and nobody is"),
+        false => ("it is primary", "it is not primary"),
     };
-    match (head.id, before.mark(role)) {
-        (None, _) => format!("{bound} no id: {not}"),
-        (Some(id), Some(mark)) if id < mark => {
-            let (id, mark) = (words.id(id), words.id(mark));
-            format!("{bound} id {id}, below the mark {mark}: {not}")
+    let place = match (head.id.map(|id| (id, words.id(id))), before.mark(role)) {
+        (None, _) => format!("no id: {is_not}"),
+        (Some((number, id)), Some(mark)) if number < mark => {
+            format!("id {id}, below the mark {}: {is_not}", words.id(mark))
         }
-        (Some(id), Some(mark)) if id == mark => {
-            let still = if was {
-                "it stays primary"
-            } else {
-                "it is primary"
-            };
-            format!("{bound} id {}, which is the mark: {still}", words.id(id))
+        (Some((number, id)), Some(mark)) if number == mark => {
+            format!("id {id}, which is the mark: {is}")
         }
-        (Some(id), _) => {
-            let still = if was {
-                "it stays primary"
-            } else {
-                "it is primary"
-            };
-            format!("{bound} id {}, the new mark: {still}", words.id(id))
-        }
-    }
+        (Some((_, id)), _) => format!("id {id}, the new mark: {is}"),
+    };
+    let until = match before.stream(stream) {
+        StreamState::Bound { id: Some(id), .. } => format!("with id {}", words.id(id)),
+        StreamState::Bound { id: None, .. } => "without an id".to_owned(),
+        _ => return format!("stream {stream} is bound to role {role} with {place}"),
+    };
+    format!("stream {stream} of role {role}, until now {until}, now has {place}")
 }
 
 fn configured(rows: usize, entries: usize) -> String {

@@ -351,399 +351,53 @@ fn expectations() {
     assert_eq!(expectations[19].line, 25);
 }
 
-/// The mistake of a text: line, column, message.
-fn mistake(text: &str) -> (usize, usize, String) {
+/// The mistake of a text as the table has it.
+fn mistake(text: &str) -> (String, String) {
     let mistake = script(text).expect_err(text);
     let Place { line, column } = mistake.place;
-    (line, column, mistake.to_string())
+    (format!("{line}:{column}"), mistake.to_string())
 }
 
 #[test]
-fn mistakes_in_statements() {
-    let statements = "a statement (device, value, open, close, arbitrate, configure, write, read, raw or expect)";
-    let indented = "blanks before it, as rows and updates are indented";
-    let outdented =
-        "no blanks before it, as only `configure`, `write` and `raw` have lines under them";
-    for (text, line, column, expected, found) in [
-        ("oepn 1", 1, 1, statements, "'oepn'"),
-        ("= 1", 1, 1, statements, "'='"),
-        (
-            "# fine\n\n  open 1",
-            3,
-            3,
-            "a statement at the start of the line",
-            "'open'",
-        ),
-        ("open 1\n  open 2", 2, 3, outdented, "'open'"),
-        ("table x 1 owner 0 size 1", 1, 1, indented, "'table'"),
-        ("write role 0\ninsert table 1", 2, 1, indented, "'insert'"),
-        ("open", 1, 5, "a stream, 0 to 255", "the end of the line"),
-        (
-            "open # 1",
-            1,
-            5,
-            "a stream, 0 to 255",
-            "the end of the line",
-        ),
-        ("open 256", 1, 6, "a stream, 0 to 255", "'256'"),
-        ("open -1", 1, 6, "a stream, 0 to 255", "'-1'"),
-        ("open 1 2", 1, 8, "the end of the line", "'2'"),
-        ("arbitrate 1 id 5", 1, 13, "'role'", "'id'"),
-        ("arbitrate 1 role x id 5", 1, 18, "a role, 0 to 255", "'x'"),
-        (
-            "arbitrate 1 role 0 id",
-            1,
-            22,
-            "an election id, up to 128 bits",
-            "the end of the line",
-        ),
-        (
-            "arbitrate 1 role 0 id 1 id 2",
-            1,
-            25,
-            "'id', 'unset' or 'device', each once",
-            "'id'",
-        ),
-        (
-            "arbitrate 1 role 0 unset id 2",
-            1,
-            26,
-            "'id', 'unset' or 'device', each once",
-            "'id'",
-        ),
-        (
-            "arbitrate 1 role 0 atomicity 0",
-            1,
-            20,
-            "'id', 'unset' or 'device', each once",
-            "'atomicity'",
-        ),
-        (
-            "write role 0 atomicity 3",
-            1,
-            24,
-            "an atomicity: 0, 1 or 2",
-            "'3'",
-        ),
-        (
-            "write role 0 device",
-            1,
-            20,
-            "a device id, up to 64 bits",
-            "the end of the line",
-        ),
-        (
-            "open 1\ndevice 2",
-            2,
-            1,
-            "'device' once, before the first call",
-            "it here",
-        ),
-        (
-            "value 9 = 1",
-            1,
-            7,
-            "a name for the value: a letter, then letters, digits, '_' or '-'",
-            "'9'",
-        ),
-        ("value a 1", 1, 9, "'='", "'1'"),
-        (
-            "value a = b",
-            1,
-            11,
-            "a value: decimal, 0x hex, MAC, IPv4, or a name given above",
-            "'b'",
-        ),
-        (
-            "value a = 1\nvalue a = 2",
-            2,
-            7,
-            "each name once",
-            "'a' again",
-        ),
-        ("expect 0", 1, 1, "a call before 'expect'", "none"),
-        (
-            "read role 0 only",
-            1,
-            13,
-            "'table', 'device' or the end of the line",
-            "'only'",
-        ),
-        (
-            "read role 0 table 1 2=1",
-            1,
-            21,
-            "'only', 'device' or the end of the line",
-            "'2'",
-        ),
-        (
-            "read role 0 table 1 only x",
-            1,
-            26,
-            "'priority', a field with '=', or the end of the line",
-            "'x'",
-        ),
-        ("raw 0", 1, 5, "bytes of two hex digits", "'0'"),
-        ("open 1 & 2", 1, 8, "'&&&'", "'&'"),
-    ] {
-        let message = format!("expected {expected}, found {found}");
-        assert_eq!(mistake(text), (line, column, message), "{text}");
+fn mistakes() {
+    let mut before = String::new();
+    let mut tried = 0;
+    for line in include_str!("mistakes.txt").lines() {
+        let parts: Vec<&str> = line.split(" | ").collect();
+        match parts[..] {
+            ["@ nothing"] => before = String::new(),
+            ["@ row"] => before = "configure role 0\n  ".to_owned(),
+            ["@ update"] => before = format!("{CONFIGURE}write role 0\n  "),
+            ["@ expectation"] => before = "open 1\nexpect ".to_owned(),
+            [text, place, expected, found] if !line.starts_with("# M") => {
+                let text = format!("{before}{}", text.replace('~', "\n"));
+                let message = format!("expected {expected}, found {found}");
+                assert_eq!(mistake(&text), (place.to_owned(), message), "{line}");
+                tried += 1;
+            }
+            _ => assert!(line.is_empty() || line.starts_with('#'), "{line}"),
+        }
     }
+    assert!(tried > 90, "{tried}");
 }
 
 #[test]
-fn mistakes_in_rows() {
-    let name = "a name for the field: a letter, then letters, digits, '_' or '-'";
-    let kind = "a kind: exact, lpm, ternary, range, optional, or a number 0 to 255";
-    let width = "a width in bits, 0 to 255";
-    for (row, column, expected, found) in [
-        (
-            "insert",
-            3,
-            "a row: table NAME 0xID owner R size N ..",
-            "'insert'",
-        ),
-        (
-            "table 9",
-            9,
-            "a name for the table: a letter, then letters, digits, '_' or '-'",
-            "'9'",
-        ),
-        ("table t x", 11, "the table's id, up to 32 bits", "'x'"),
-        ("table t 1 size", 13, "'owner'", "'size'"),
-        (
-            "table t 1 owner 0 size 65536",
-            26,
-            "a size, 0 to 65535",
-            "'65536'",
-        ),
-        (
-            "table t 1 owner 0 size 1 k:exact:8",
-            28,
-            "'key', 'action' or the end of the row",
-            "'k:exact:8'",
-        ),
-        (
-            "table t 1 owner 0 size 1 key",
-            31,
-            "a field as name:kind:width",
-            "the end of the line",
-        ),
-        ("table t 1 owner 0 size 1 key 9:exact:8", 32, name, "'9'"),
-        (
-            "table t 1 owner 0 size 1 key k:exakt:8",
-            34,
-            kind,
-            "'exakt'",
-        ),
-        (
-            "table t 1 owner 0 size 1 key k:exact:256",
-            40,
-            width,
-            "'256'",
-        ),
-        (
-            "table t 1 owner 0 size 1 key k:exact",
-            39,
-            "':' and a width in bits, 0 to 255",
-            "the end of 'k:exact'",
-        ),
-        (
-            "table t 1 owner 0 size 1 key k:exact:8:9",
-            42,
-            "no further part",
-            "'9'",
-        ),
-        (
-            "table t 1 owner 0 size 1 key k:1:1 k:1:1",
-            38,
-            "each name once",
-            "'k' again",
-        ),
-        (
-            "table t 1 owner 0 size 1 key a:1:1 b:1:1 c:1:1 d:1:1 e:1:1",
-            56,
-            "at most 4 fields",
-            "one more",
-        ),
-        (
-            "table t 1 owner 0 size 1 action a 1",
-            38,
-            "'(' and the parameters",
-            "the end of the line",
-        ),
-        (
-            "table t 1 owner 0 size 1 action a 1 (p:1 q:1)",
-            44,
-            "',' or ')'",
-            "'q:1'",
-        ),
-        (
-            "table t 1 owner 0 size 1 action a 1 (",
-            40,
-            "a parameter as name:width, or ')'",
-            "the end of the line",
-        ),
-        (
-            "table t 1 owner 0 size 1 action a 1 () b",
-            42,
-            "'action' or the end of the row",
-            "'b'",
-        ),
-    ] {
-        let message = format!("expected {expected}, found {found}");
-        let text = format!("configure role 0\n  {row}");
-        assert_eq!(mistake(&text), (2, column, message), "{row}");
-    }
+fn too_many_rows_and_updates() {
     let row = |at: usize| format!("\n table t{at} 1 owner 0 size 1");
-    let nine: String = (1..=9).map(row).collect();
+    let rows = |count| {
+        format!(
+            "configure role 0{}",
+            (0..count).map(row).collect::<String>()
+        )
+    };
+    assert_eq!(calls(&rows(8)).len(), 1);
     let message = "expected at most 8 rows, found one more".to_owned();
-    assert_eq!(
-        mistake(&format!("configure role 0{nine}")),
-        (10, 2, message)
-    );
-    let twice = format!("configure role 0{}{}", row(1), row(1));
-    assert_eq!(
-        mistake(&twice).2,
-        "expected each name once, found 't1' again"
-    );
-}
+    assert_eq!(mistake(&rows(9)), ("10:2".to_owned(), message));
 
-#[test]
-fn mistakes_in_updates() {
-    let verbs = "an update: insert, modify, delete or type N";
-    let words = "'priority', a field with '=' (a, b, c, d) or an action with '(' (go, no)";
-    let value = "a value: decimal, 0x hex, MAC, IPv4, or a name given above";
-    for (update, column, expected, found) in [
-        ("upsert table t", 3, verbs, "'upsert'"),
-        ("expect 0", 3, "no blanks before an expectation", "'expect'"),
-        ("insert t", 10, "'table'", "'t'"),
-        ("insert table x", 16, "a table (t, u) or its number", "'x'"),
-        (
-            "insert table t x=1",
-            18,
-            "a field (a, b, c, d) or a place 1 to 4",
-            "'x'",
-        ),
-        (
-            "insert table t 5=1",
-            18,
-            "a field (a, b, c, d) or a place 1 to 4",
-            "'5'",
-        ),
-        ("insert table t a", 18, words, "'a'"),
-        ("insert table t a=", 20, value, "the end of the line"),
-        ("insert table t a=1 a=2", 22, "each field once", "it again"),
-        ("insert table t a=x", 20, value, "'x'"),
-        ("insert table t a=1/", 22, value, "the end of the line"),
-        ("insert table t a=1.2.3", 20, value, "'1.2.3'"),
-        (
-            "insert table t a=0x112233445566778899aabbccddeeff0011",
-            20,
-            "a value of at most 16 bytes",
-            "'0x112233445566778899aabbccddeeff0011'",
-        ),
-        (
-            "insert table t priority x",
-            27,
-            "a priority, up to 32 bits",
-            "'x'",
-        ),
-        ("insert table t drop()", 18, words, "'drop'"),
-        (
-            "insert table t go",
-            20,
-            "'(' and the parameters after the action",
-            "the end of the line",
-        ),
-        ("insert table t go(1 2)", 23, "',' or ')'", "'2'"),
-        (
-            "insert table t go(r=1)",
-            21,
-            "a parameter (p, q) or a place 1 to 4",
-            "'r'",
-        ),
-        (
-            "insert table t go(1, 2, 3, 4, 5)",
-            33,
-            "at most 4 parameters",
-            "one more",
-        ),
-        (
-            "insert table t go(q=1, 2)",
-            26,
-            "each parameter once",
-            "one again",
-        ),
-        (
-            "insert table t go(1) a=2",
-            24,
-            "the end of the line after the action",
-            "'a'",
-        ),
-        ("type x table t", 8, "a type, 0 to 255", "'x'"),
-    ] {
-        let message = format!("expected {expected}, found {found}");
-        let text = format!("{CONFIGURE}write role 0\n  {update}");
-        assert_eq!(mistake(&text), (7, column, message), "{update}");
-    }
-    let many = "\n insert table 1".repeat(65);
+    let updates = |count| format!("write role 0{}", "\n insert table 1".repeat(count));
+    assert_eq!(calls(&updates(64)).len(), 1);
     let message = "expected at most 64 updates, found one more".to_owned();
-    assert_eq!(mistake(&format!("write role 0{many}")), (66, 2, message));
-    let unnamed = mistake("write role 0\n insert table t").2;
-    assert!(unnamed.contains("a table's number, as no `configure` above names one"));
-}
-
-#[test]
-fn mistakes_in_expectations() {
-    let what = "a reason by number, 0 to 24, or name, or told, pairs, primary, mark, entries, entry or stream";
-    let reason = "a reason by number, 0 to 24, or name";
-    for (expectation, column, expected, found) in [
-        ("", 7, what, "the end of the line"),
-        ("25", 8, what, "'25'"),
-        ("not-primry", 8, what, "'not-primry'"),
-        ("0 0", 10, "the end of the line", "'0'"),
-        (
-            "told",
-            12,
-            "a stream, 0 to 255, or 'nobody'",
-            "the end of the line",
-        ),
-        ("told 1 5", 15, "'status'", "'5'"),
-        (
-            "told 1 status x",
-            22,
-            "a status, 0 to 255: 0 primary, 5 none, 6 another",
-            "'x'",
-        ),
-        (
-            "told 1 status 5 mark",
-            28,
-            "an election id, up to 128 bits",
-            "the end of the line",
-        ),
-        ("pairs 0 x", 16, reason, "'x'"),
-        ("primary 0 none", 16, "'role'", "'0'"),
-        (
-            "primary role 0 2",
-            23,
-            "'stream' and its number, or 'none'",
-            "'2'",
-        ),
-        (
-            "mark role 0",
-            19,
-            "an election id, up to 128 bits",
-            "the end of the line",
-        ),
-        ("entries x", 16, "a number of entries", "'x'"),
-        ("entry t", 14, "'table'", "'t'"),
-        ("stream 1 shut", 17, "'closed', 'open' or 'bound'", "'shut'"),
-    ] {
-        let message = format!("expected {expected}, found {found}");
-        let text = format!("open 1\nexpect {expectation}");
-        assert_eq!(mistake(&text), (2, column, message), "{expectation}");
-    }
+    assert_eq!(mistake(&updates(65)), ("66:2".to_owned(), message));
 }
 
 #[test]
@@ -763,8 +417,4 @@ fn other_ways_to_write_a_file() {
     assert_eq!(calls("\u{feff}open 1\r\nclose 1\r\n").len(), 2);
     assert_eq!(calls("").len(), 0);
     assert_eq!(calls("open\t1\t# tab").len(), 1);
-    // Columns are counted in characters.
-    assert_eq!(mistake("open é é").1, 6);
-    assert_eq!(mistake("value é = 1").1, 7);
-    assert_eq!(mistake("open 1 é x").1, 8);
 }
