@@ -10,11 +10,13 @@ use crate::timeline::lanes::{roles, spans, streams, Span};
 use crate::timeline::text::{cut, escaped, folded, hyphenated};
 use crate::timeline::{state, Moment, State};
 
-const LEFT: usize = 120;
-const RIGHT: usize = 20;
+const LEFT: usize = 94;
+const RIGHT: usize = 16;
+/// Where labels and sentences begin.
+const MARGIN: usize = 20;
 /// The least width of the picture and of a column.
 const WIDTH: usize = 1000;
-const COLUMN: usize = 76;
+const COLUMN: usize = 77;
 /// Heights.
 const TOP: usize = 44;
 const CALLS: usize = 134;
@@ -44,16 +46,17 @@ const CROSS: &str = "stroke=\"#b3261e\" stroke-width=\"2\" stroke-dasharray=\"6 
 /// The picture of a script's calls.
 pub fn svg(title: &str, moments: &[Moment], notations: &Notations) -> String {
     let columns = moments.len().max(1);
-    let width = WIDTH.max(LEFT + RIGHT + COLUMN * columns);
+    // Half a column more, so that there is room for what holds after the last call.
+    let halves = 2 * columns + 1;
+    let width = WIDTH.max(LEFT + RIGHT + COLUMN * halves / 2);
     let mut picture = Picture {
         body: String::new(),
-        column: (width - LEFT - RIGHT) / columns,
+        column: 2 * (width - LEFT - RIGHT) / halves,
         width,
-        columns,
         y: TOP,
         notations,
     };
-    picture.text(LEFT / 6, 28, &Style::title(), title);
+    picture.text(MARGIN, 28, &Style::title(), title);
     picture.calls(moments);
     for stream in streams(moments) {
         picture.stream(stream, moments);
@@ -110,19 +113,15 @@ struct Picture<'n> {
     body: String,
     width: usize,
     column: usize,
-    columns: usize,
     /// Where the next lane begins.
     y: usize,
     notations: &'n Notations,
 }
 
 impl Picture<'_> {
-    /// The middle of a column; the right edge for the column after the last.
+    /// The middle of a column. That of the one after the last is where all spans end.
     fn x(&self, at: usize) -> usize {
-        match at < self.columns {
-            true => LEFT + self.column * at + self.column / 2,
-            false => LEFT + self.column * self.columns,
-        }
+        LEFT + self.column * at + self.column / 2
     }
 
     fn text(&mut self, x: usize, y: usize, style: &Style, text: &str) {
@@ -159,20 +158,16 @@ impl Picture<'_> {
     fn calls(&mut self, moments: &[Moment]) {
         let y = self.y;
         let label = Style::new(GREY);
-        self.text(LEFT / 6, y + LINE, &label, "call");
-        self.text(LEFT / 6, y + LINE * 5, &label, "answer");
-        let room = self.column / CHARACTER;
+        self.text(MARGIN, y + LINE, &label, "call");
+        self.text(MARGIN, y + LINE * 5, &label, "answer");
         for (at, moment) in moments.iter().enumerate() {
             let x = self.x(at);
+            let [command, role, id] = &moment.title;
+            let id = cut(id, self.column / BOLD);
             let number = (at + 1).to_string();
             self.text(x, y + LINE, &Style::new(INK).bold().middle(), &number);
-            for (line, part) in (2..).zip(&moment.title) {
-                self.text(
-                    x,
-                    y + LINE * line,
-                    &Style::new(INK).middle(),
-                    &cut(part, room),
-                );
+            for (line, part) in (2..).zip([command, role, &id]) {
+                self.text(x, y + LINE * line, &Style::new(INK).middle(), part);
             }
             self.answer(x, y + LINE * 5, moment.reason);
         }
@@ -197,7 +192,7 @@ impl Picture<'_> {
     fn stream(&mut self, stream: u8, moments: &[Moment]) {
         let y = self.y;
         let name = format!("stream {stream}");
-        self.text(LEFT / 6, y + BAR - 8, &Style::new(INK).bold(), &name);
+        self.text(MARGIN, y + BAR - 8, &Style::new(INK).bold(), &name);
         let states = moments.iter().map(|moment| state(&moment.after, stream));
         for span in spans(states) {
             self.bar(&span);
@@ -252,11 +247,11 @@ impl Picture<'_> {
     fn primary(&mut self, role: u8, moments: &[Moment]) {
         let name = format!("role {role}");
         let y = self.y;
-        self.line((LEFT / 6, y - 6), (self.width - RIGHT, y - 6), THIN);
+        self.line((MARGIN, y - 6), (self.width - RIGHT, y - 6), THIN);
         self.y += 8;
         let y = self.y;
-        self.text(LEFT / 6, y + 10, &Style::new(INK).bold(), &name);
-        self.text(LEFT / 6, y + 25, &Style::new(GREY), "primary");
+        self.text(MARGIN, y + 10, &Style::new(INK).bold(), &name);
+        self.text(MARGIN, y + 25, &Style::new(GREY), "primary");
         let known = moments.iter().map(|moment| {
             let agent = &moment.after;
             (agent.mark(role).is_some(), agent.primary(role))
@@ -280,12 +275,13 @@ impl Picture<'_> {
 
     /// The mark of a role, as steps upwards.
     fn mark(&mut self, role: u8, moments: &[Moment]) {
-        const HEIGHT: usize = 56;
+        const RISES: usize = 32;
         let marks = spans(moments.iter().map(|moment| moment.after.mark(role)));
         let steps = marks.iter().filter(|span| span.what.is_some()).count();
-        let rise = (HEIGHT - 24) / steps.max(2);
-        let mut y = self.y + HEIGHT;
-        self.text(LEFT / 6, y + 4, &Style::new(GREY), "mark");
+        let rise = (RISES / steps.max(1)).min(16);
+        self.y += 22 + rise * steps.saturating_sub(1);
+        let mut y = self.y;
+        self.text(MARGIN, y + 4, &Style::new(GREY), "mark");
         let mut before = None;
         for span in marks {
             let Some(mark) = span.what else { continue };
@@ -300,19 +296,19 @@ impl Picture<'_> {
             self.text(x + 6, y - 5, &Style::new(MARK).bold(), &text);
             before = Some(y);
         }
-        self.y += HEIGHT + 14;
+        self.y += 18;
     }
 
     /// The sentences of what was refused.
     fn refusals(&mut self, moments: &[Moment]) {
-        let room = (self.width - LEFT / 6 - RIGHT) / CHARACTER;
+        let room = (self.width - MARGIN - RIGHT) / CHARACTER;
         for (at, moment) in moments.iter().enumerate() {
             let Some(why) = &moment.why else { continue };
             let (name, number) = (moment.reason.name(), moment.reason.number());
             let text = format!("Call {}, {name} ({number}): {why}.", at + 1);
             for line in folded(&text, room) {
                 self.y += LINE;
-                self.text(LEFT / 6, self.y, &Style::new(REFUSED), &line);
+                self.text(MARGIN, self.y, &Style::new(REFUSED), &line);
             }
         }
         self.y += LINE;
@@ -327,7 +323,7 @@ impl Picture<'_> {
             (OPEN, "open, not bound", 160),
             (VACANT, "no primary", 130),
         ];
-        let mut x = LEFT / 6;
+        let mut x = MARGIN;
         for (paint, text, width) in parts {
             self.rect(x, y, 26, 14, paint);
             self.text(x + 33, y + 12, &Style::new(INK), text);
@@ -346,7 +342,7 @@ impl Picture<'_> {
         );
         let told =
             "told N: the stream is told status N: 0 it is primary, 5 nobody is, 6 another is";
-        self.text(LEFT / 6, y + 34, &Style::new(INK), told);
+        self.text(MARGIN, y + 34, &Style::new(INK), told);
         self.y += 50;
     }
 
