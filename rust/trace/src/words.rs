@@ -80,7 +80,12 @@ impl Words<'_> {
             let names = names.and_then(|table| table.fields.get(at));
             let name = named("f", at, names.map(|field| &field.name));
             let key = if at == 0 { " key" } else { "" };
-            text += &format!("{key} {name}:{}:{}", kind(field.kind), field.width);
+            // A slot may be omitted, a field not.
+            let kind = match field.kind {
+                0 => "0".to_owned(),
+                number => kind(number),
+            };
+            text += &format!("{key} {name}:{kind}:{}", field.width);
         }
         let actions = row.actions.iter().take(usize::from(row.action_count));
         for (at, action) in actions.enumerate() {
@@ -155,7 +160,7 @@ impl Words<'_> {
             2 if both => format!("{first}/{second}"),
             3 if both => format!("{first}&&&{second}"),
             4 if both => format!("{first}..{second}"),
-            kind_ => format!("[{} {first} {second}]", kind(kind_)),
+            other => format!("[kind {}: {first} {second}]", kind(other)),
         }
     }
 

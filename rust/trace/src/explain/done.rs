@@ -49,12 +49,19 @@ fn arbitrated(stream: u8, head: &Head, before: &Agent, words: &Words) -> String 
         }
         (Some((_, id)), _) => format!("id {id}, the new mark: {is}"),
     };
-    let until = match before.stream(stream) {
-        StreamState::Bound { id: Some(id), .. } => format!("with id {}", words.id(id)),
-        StreamState::Bound { id: None, .. } => "without an id".to_owned(),
-        _ => return format!("stream {stream} is bound to role {role} with {place}"),
-    };
-    format!("stream {stream} of role {role}, until now {until}, now has {place}")
+    match before.stream(stream) {
+        StreamState::Bound { id, .. } if id == head.id => {
+            format!("stream {stream} of role {role} still has {place}")
+        }
+        StreamState::Bound { id: Some(id), .. } => {
+            let id = words.id(id);
+            format!("stream {stream} of role {role}, until now with id {id}, now has {place}")
+        }
+        StreamState::Bound { id: None, .. } => {
+            format!("stream {stream} of role {role}, until now without an id, now has {place}")
+        }
+        _ => format!("stream {stream} is bound to role {role} with {place}"),
+    }
 }
 
 fn configured(rows: usize, entries: usize) -> String {
