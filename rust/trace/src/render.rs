@@ -102,22 +102,18 @@ impl Lines {
         }
     }
 
-    /// Primary and mark of the roles that have or had one.
+    /// Primary and mark of the roles that have a mark. One that has none never had a primary.
     fn roles(&mut self, outcome: &Outcome, words: &Words) {
         for role in 0..8 {
-            let now = (outcome.after.primary(role), outcome.after.mark(role));
-            let before = (outcome.before.primary(role), outcome.before.mark(role));
-            if now == (None, None) && before == now {
+            let Some(mark) = outcome.after.mark(role) else {
                 continue;
-            }
-            let primary = match now.0 {
+            };
+            let primary = match outcome.after.primary(role) {
                 Some(stream) => format!("primary is stream {stream}"),
                 None => "no primary".to_owned(),
             };
-            let mark = now.1.map_or("no mark".to_owned(), |mark| {
-                format!("the mark is {}", words.id(mark))
-            });
-            self.add(&format!("role {role}"), &format!("{primary}, {mark}"));
+            let text = format!("{primary}, the mark is {}", words.id(mark));
+            self.add(&format!("role {role}"), &text);
         }
     }
 }
@@ -154,5 +150,61 @@ fn raw(frame: &[u8]) -> String {
             format!("raw {}.. ({} bytes)", hex(start), frame.len())
         }
         _ => format!("raw {}", hex(frame)).trim_end().to_owned(),
+    }
+}
+
+#[cfg(test)]
+mod tests {
+    use crate::{parse, session};
+
+    /// The lines of a script's last call.
+    fn last(script: &str) -> Vec<String> {
+        let report = session::trace(&parse::script(script).unwrap()).unwrap();
+        let mut lines: Vec<&str> = report.text.lines().rev().skip(1).collect();
+        let length = lines.iter().position(|line| !line.starts_with(' '));
+        lines.truncate(length.map_or(0, |at| at + 1));
+        lines.iter().rev().map(|line| (*line).to_owned()).collect()
+    }
+
+    #[test]
+    fn parts_that_no_statement_can_send_are_shown() {
+        let head = "00*7.01 00 01 00*15.05";
+        let before = format!(
+            "open 1\narbitrate 1 role 0 id 5\nconfigure role 0 id 5\n \
+             table t 0x02000001 owner 0 size 4 key k:exact:8 action a 0x01000001 (p:8)\nraw 05 {head} 00 01 "
+        );
+        let action = "00*105 01000001 01.08.00*15";
+        for (update, shown, why) in [
+            ("01 02000001 00*4 01 01.07.00*15 01.08.00*15", "insert table t k=[kind exact: 0x07 0x08] a(p=0x08)", "field k (exact, 8 bits) has one value, but the second is not all zero"),
+            ("01 02000001 00*4 09 01.07.00*15 00*17", "insert table t k=[kind 9: 0x07 [empty]] a(p=0x08)", "field k (exact, 8 bits) is given a slot of kind 9"),
+            ("01 02000001 00*4 01 11.07.00*15 00*17", "insert table t k=[kind exact: [length 17: 07000000000000000000000000000000] [empty]] a(p=0x08)", "the value of field k (exact, 8 bits) has length 17, over 16"),
+            ("01 02000001 00*4 01 01.07.01.00*14 00*17", "insert table t k=[kind exact: [length 1: 07010000000000000000000000000000] [empty]] a(p=0x08)", "the value of field k (exact, 8 bits) has a byte after its length that is not 0"),
+            ("ff 02000001 00*4 01 01.07.00*15 00*17", "type 255 table t k=0x07 a(p=0x08)", "type 255 is none of 1 insert, 2 modify, 3 delete"),
+        ] {
+            let lines = last(&format!("{before}{update} {action} 00*51"));
+            assert_eq!(lines[0], "4  write role 0 id 5");
+            assert!(lines[2].contains(&format!("{shown}  -> bad-form (17)")), "{}", lines[2]);
+            assert_eq!(lines[3].trim(), why);
+        }
+    }
+
+    #[test]
+    fn frames_without_a_form_are_shortened() {
+        assert_eq!(
+            last("raw 09*40")[0],
+            format!("1  raw {}.. (40 bytes)", "09".repeat(32))
+        );
+        assert_eq!(last("raw 09*32")[0], format!("1  raw {}", "09".repeat(32)));
+        assert_eq!(last("raw")[0], "1  raw");
+    }
+
+    #[test]
+    fn what_is_not_the_usual_is_shown() {
+        assert_eq!(last("read role 0 device 7")[0], "1  read role 0 device 7");
+        assert_eq!(last("device 7\nread role 0 device 7")[0], "1  read role 0");
+        assert_eq!(
+            last("write role 3 id 0x10 atomicity 2")[0],
+            "1  write role 3 id 0x10 atomicity 2"
+        );
     }
 }

@@ -13,7 +13,7 @@ use crate::words::Words;
 /// The reasons that were met, by their numbers.
 type Met = [usize; 25];
 
-/// Plays frames; every refusal and every failed update must be found to be what the agent says.
+/// Plays frames and looks at each.
 fn agree(frames: &[Vec<u8>], met: &mut Met) {
     let (names, notations) = (Names::default(), Notations::default());
     let words = Words {
@@ -28,21 +28,24 @@ fn agree(frames: &[Vec<u8>], met: &mut Met) {
     }
 }
 
+/// What is found must be the agent's reason; and nothing where the agent finds nothing.
 fn one(outcome: &Outcome, words: &Words, met: &mut Met) {
     let reason = outcome.reason;
     met[usize::from(reason.number())] += 1;
-    if !reason.is_accepted() {
-        let finding = refused::sentence(outcome, words);
-        let found = finding.as_ref().map(|finding| finding.reason);
-        assert_eq!(found, Some(reason), "{:?}", outcome.call);
-    }
-    let findings = updates::findings(outcome, words);
-    assert_eq!(findings.len(), outcome.pairs.len());
-    for (at, (pair, finding)) in findings.iter().enumerate() {
+    let refused = Some(reason).filter(|reason| !reason.is_accepted());
+    let finding = refused::sentence(outcome, words);
+    let found = finding.map(|finding| finding.reason);
+    assert_eq!(found, refused, "{:?}", outcome.call);
+
+    let pairs = updates::each(outcome, |update, reason, past| {
+        let failed = Some(reason).filter(|&reason| reason != Reason::Done);
+        let found = past.finding(update, words).map(|finding| finding.reason);
+        assert_eq!(found, failed, "{update:?} of {:?}", outcome.call);
+        reason
+    });
+    assert_eq!(pairs, outcome.pairs);
+    for pair in pairs {
         met[usize::from(pair.number())] += 1;
-        let found = finding.as_ref().map(|finding| finding.reason);
-        let expected = Some(*pair).filter(|&pair| pair != Reason::Done);
-        assert_eq!(found, expected, "update {at} of {:?}", outcome.call);
     }
 }
 
@@ -102,4 +105,30 @@ fn change(frame: &mut Vec<u8>, dice: &mut Dice) {
         }
         _ => {}
     }
+}
+
+/// What bytes at random hardly meet: bounds.
+#[test]
+fn bounds_agree() {
+    let text = "open 1\narbitrate 1 role 0 id 5\nconfigure role 0 id 5\n\
+        \x20 table t 0x02000001 owner 0 size 255 key k:lpm:8 action a 0x01000001 (p:128)\n\
+        \x20 table u 0x02000002 owner 0 size 1 key k:range:128 m:ternary:128 action a 0x01000001 (p:1)\n\
+        write role 0 id 5\n\
+        \x20 insert table t k=0/256 a(1)\n\
+        \x20 insert table t k=0/0x0108 a(1)\n\
+        \x20 insert table t k=0/8 a(0xffffffffffffffffffffffffffffffff)\n\
+        \x20 insert table t k=255/8 a(1)\n\
+        \x20 insert table t k=128/1 a(1)\n\
+        \x20 insert table t k=64/1 a(1)\n\
+        \x20 insert table u priority 1 k=0..0xffffffffffffffffffffffffffffffff a(1)\n\
+        \x20 insert table u priority 1 k=1..0xffffffffffffffffffffffffffffffff a(1)\n\
+        \x20 insert table u priority 2 a(2)\n\
+        \x20 insert table u priority 2 m=0x80000000000000000000000000000000&&&1 a(1)\n\
+        expect pairs 19 19 0 0 0 19 19 0 18 19\n\
+        arbitrate 1 role 0 id 5\nexpect 0\n";
+    let script = parse::script(text).unwrap();
+    let report = crate::session::quiet(&script, "bounds").unwrap();
+    assert!(report.held, "{}", report.text);
+    let frames: Vec<Vec<u8>> = script.calls.into_iter().map(|call| call.frame).collect();
+    agree(&frames, &mut Met::default());
 }
