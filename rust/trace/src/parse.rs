@@ -82,13 +82,39 @@ impl<'a> Parser<'a> {
         let Statement { head, below } = statement;
         let cursor = &mut Cursor::new(&head.tokens);
         let verb = cursor.word(STATEMENTS)?;
-        if !["configure", "write", "raw"].contains(&verb.text) {
-            nothing_below(below)?;
-        }
-        let call = match verb.text {
-            "device" => return self.device(cursor, verb),
-            "value" => return self.named_value(cursor),
-            "expect" => return self.expect(cursor, head),
+        let frame = match verb.text {
+            "configure" => self.configure(cursor, below)?.encode(),
+            "write" => self.write(cursor, below)?.encode(),
+            "raw" => raw(head, below)?,
+            _ => {
+                let call = self.line(cursor, verb, head)?;
+                nothing_below(below)?;
+                match call {
+                    Some(call) => call.encode(),
+                    None => return Ok(()),
+                }
+            }
+        };
+        self.calls.push(script::Call {
+            line: verb.place.line,
+            frame,
+            names: Rc::clone(&self.names),
+            expectations: Vec::new(),
+        });
+        Ok(())
+    }
+
+    /// A statement without lines under it, after its first word; some are no calls.
+    fn line(
+        &mut self,
+        cursor: &mut Cursor<'_, 'a>,
+        verb: Token,
+        line: &Line,
+    ) -> Result<Option<Call>, Mistake> {
+        Ok(Some(match verb.text {
+            "device" => return self.device(cursor, verb).map(|()| None),
+            "value" => return self.named_value(cursor).map(|()| None),
+            "expect" => return self.expect(cursor, line).map(|()| None),
             "open" => Call::Open {
                 stream: last_stream(cursor)?,
             },
@@ -100,26 +126,9 @@ impl<'a> Parser<'a> {
                 let (head, _) = self.head(cursor, false)?;
                 Call::Arbitrate { stream, head }
             }
-            "configure" => self.configure(cursor, below)?,
-            "write" => self.write(cursor, below)?,
             "read" => self.read(cursor)?,
-            "raw" => {
-                let frame = raw(head, below)?;
-                return self.call(verb, frame);
-            }
             _ => return Err(unknown(verb)),
-        };
-        self.call(verb, call.encode())
-    }
-
-    fn call(&mut self, verb: Token, frame: Vec<u8>) -> Result<(), Mistake> {
-        self.calls.push(script::Call {
-            line: verb.place.line,
-            frame,
-            names: Rc::clone(&self.names),
-            expectations: Vec::new(),
-        });
-        Ok(())
+        }))
     }
 
     /// `device N`
@@ -166,11 +175,7 @@ impl<'a> Parser<'a> {
         let (head, _) = self.head(cursor, false)?;
         let mut rows = Vec::new();
         let mut names = Names::default();
-        for item in items(
-            below,
-            &["table"],
-            "a row: table NAME 0xID owner R size N ..",
-        )? {
+        for item in items(below, &["table"], A_ROW)? {
             let cursor = &mut Cursor::new(&item);
             at_most(rows.len(), ROWS, "rows", cursor)?;
             let place = cursor.place();
@@ -189,7 +194,7 @@ impl<'a> Parser<'a> {
         let (head, atomicity) = self.head(cursor, true)?;
         let mut updates = Vec::new();
         let verbs = ["insert", "modify", "delete", "type"];
-        for item in items(below, &verbs, "an update: insert, modify, delete or type N")? {
+        for item in items(below, &verbs, AN_UPDATE)? {
             let cursor = &mut Cursor::new(&item);
             at_most(updates.len(), UPDATES, "updates", cursor)?;
             updates.push(self.update(cursor)?);
@@ -298,6 +303,8 @@ impl<'a> Parser<'a> {
     }
 }
 
+const A_ROW: &str = "a row: table NAME 0xID owner R size N ..";
+const AN_UPDATE: &str = "an update: insert, modify, delete or type N";
 const A_ROLE: &str = "a role, 0 to 255";
 const A_STREAM: &str = "a stream, 0 to 255";
 const A_DEVICE: &str = "a device id, up to 64 bits";

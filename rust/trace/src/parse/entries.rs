@@ -7,7 +7,7 @@ use crate::mistake::{quoted, Mistake};
 use crate::names::{Names, Table};
 use crate::notation::Spot;
 use crate::parse::cursor::Cursor;
-use crate::parse::{values, Parser};
+use crate::parse::{values, Parser, AN_UPDATE};
 use crate::wire::{Entry, Key, Slot, Update, Value, PLACES, TYPES};
 
 /// The kinds of slots.
@@ -26,13 +26,13 @@ pub struct Named<'n> {
 impl<'a> Parser<'a> {
     /// `insert table ..`
     pub fn update(&mut self, cursor: &mut Cursor) -> Result<Update, Mistake> {
-        let verb = cursor.word(VERBS)?;
+        let verb = cursor.word(AN_UPDATE)?;
         let mut types = (0..).zip(TYPES);
         let named = types.find(|(_, name)| *name == verb.text);
         let kind = match (verb.text, named) {
             ("type", _) => cursor.number("a type, 0 to 255")?,
             (_, Some((kind, _))) => kind,
-            _ => return Err(Mistake::new(verb.place, VERBS, quoted(verb.text))),
+            _ => return Err(Mistake::new(verb.place, AN_UPDATE, quoted(verb.text))),
         };
         let (entry, _) = self.entry(cursor)?;
         Ok(Update { kind, entry })
@@ -165,8 +165,6 @@ impl<'a> Parser<'a> {
         Ok(literal.value)
     }
 }
-
-const VERBS: &str = "an update: insert, modify, delete or type N";
 
 impl Named<'_> {
     fn action(&self, name: &str) -> Option<&crate::names::Action> {

@@ -287,68 +287,69 @@ fn names_are_those_of_the_latest_configure() {
     assert_eq!((table(1), table(3)), (1, 2));
 }
 
+/// What an `expect` line after [`CONFIGURE`] asks for.
+fn expected(text: &str) -> Expected {
+    let script = script(&format!("{CONFIGURE}expect {text}")).unwrap();
+    script.calls[0].expectations[0].what.clone()
+}
+
 #[test]
-fn expectations() {
-    let text = format!(
-        "{CONFIGURE}expect 10\nexpect not-primary\nexpect told 3 status 5\nexpect told 3 status 6 mark 7\n\
-         expect told 3 status 5 mark none\nexpect told nobody\nexpect pairs 0 20 not-stored\nexpect pairs\n\
-         expect primary role 0 stream 2\nexpect primary role 0 none\nexpect mark role 1 0x10\n\
-         expect mark role 1 none\nexpect entries 3\nexpect entry table t a=1\nexpect entry table t a=1 no()\n\
-         expect stream 1 closed\nexpect stream 1 open\nexpect stream 1 bound role 2\n\
-         expect stream 1 bound role 2 id 5\nexpect stream 1   bound role 2 unset # so\n"
-    );
-    let script = script(&text).unwrap();
-    let expectations = &script.calls[0].expectations;
+fn expected_answers() {
+    let not_primary = Expected::Reason(Reason::NotPrimary);
+    assert_eq!(expected("10"), not_primary);
+    assert_eq!(expected("not-primary"), not_primary);
     let told = |status, mark| Expected::Told {
         stream: 3,
         status,
         mark,
     };
-    let plain = entry("table t a=1");
-    let acting = entry("table t a=1 no()");
+    assert_eq!(expected("told 3 status 5"), told(5, None));
+    assert_eq!(expected("told 3 status 6 mark 7"), told(6, Some(Some(7))));
+    assert_eq!(expected("told 3 status 5 mark none"), told(5, Some(None)));
+    assert_eq!(expected("told nobody"), Expected::ToldNobody);
+    let reasons = vec![Reason::Done, Reason::Stored, Reason::NotStored];
+    assert_eq!(expected("pairs 0 20 not-stored"), Expected::Pairs(reasons));
+    assert_eq!(expected("pairs"), Expected::Pairs(vec![]));
+    assert_eq!(expected("entries 3"), Expected::Entries(3));
+    let read = |text: &str, action| Expected::Entry {
+        entry: entry(text),
+        action,
+    };
+    assert_eq!(expected("entry table t a=1"), read("table t a=1", false));
+    assert_eq!(
+        expected("entry table t a=1 no()"),
+        read("table t a=1 no()", true)
+    );
+}
+
+#[test]
+fn expected_states() {
+    let primary = |stream| Expected::Primary { role: 0, stream };
+    assert_eq!(expected("primary role 0 stream 2"), primary(Some(2)));
+    assert_eq!(expected("primary role 0 none"), primary(None));
+    let mark = |id| Expected::Mark { role: 1, id };
+    assert_eq!(expected("mark role 1 0x10"), mark(Some(16)));
+    assert_eq!(expected("mark role 1 none"), mark(None));
     let stream = |state| Expected::Stream { stream: 1, state };
     let bound = |id| stream(ExpectedState::Bound { role: 2, id });
-    let expected = [
-        Expected::Reason(Reason::NotPrimary),
-        Expected::Reason(Reason::NotPrimary),
-        told(5, None),
-        told(6, Some(Some(7))),
-        told(5, Some(None)),
-        Expected::ToldNobody,
-        Expected::Pairs(vec![Reason::Done, Reason::Stored, Reason::NotStored]),
-        Expected::Pairs(vec![]),
-        Expected::Primary {
-            role: 0,
-            stream: Some(2),
-        },
-        Expected::Primary {
-            role: 0,
-            stream: None,
-        },
-        Expected::Mark {
-            role: 1,
-            id: Some(16),
-        },
-        Expected::Mark { role: 1, id: None },
-        Expected::Entries(3),
-        Expected::Entry {
-            entry: plain,
-            action: false,
-        },
-        Expected::Entry {
-            entry: acting,
-            action: true,
-        },
-        stream(ExpectedState::Closed),
-        stream(ExpectedState::Open),
-        bound(None),
-        bound(Some(Some(5))),
-        bound(Some(None)),
-    ];
-    let read: Vec<Expected> = expectations.iter().map(|e| e.what.clone()).collect();
-    assert_eq!(read, expected);
-    assert_eq!(expectations[19].text, "expect stream 1 bound role 2 unset");
-    assert_eq!(expectations[19].line, 25);
+    assert_eq!(expected("stream 1 closed"), stream(ExpectedState::Closed));
+    assert_eq!(expected("stream 1 open"), stream(ExpectedState::Open));
+    assert_eq!(expected("stream 1 bound role 2"), bound(None));
+    assert_eq!(expected("stream 1 bound role 2 id 5"), bound(Some(Some(5))));
+    assert_eq!(expected("stream 1 bound role 2 unset"), bound(Some(None)));
+}
+
+#[test]
+fn expectations_go_with_the_call_above() {
+    let text =
+        "open 1\nexpect 0\n\nexpect  told   nobody # so\nopen 2\nexpect entry table 1 1=2 3(4)\n";
+    let script = script(text).unwrap();
+    let lines = |at: usize| -> Vec<(usize, &str)> {
+        let expectations = script.calls[at].expectations.iter();
+        expectations.map(|e| (e.line, e.text.as_str())).collect()
+    };
+    assert_eq!(lines(0), [(2, "expect 0"), (4, "expect told nobody")]);
+    assert_eq!(lines(1), [(6, "expect entry table 1 1=2 3(4)")]);
 }
 
 /// The mistake of a text as the table has it.
