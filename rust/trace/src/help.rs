@@ -9,5 +9,9 @@ pub fn text() -> String {
         let code = format!("{code} ({})", code.number());
         format!("    {number:>2} {name:17} {code:23} {reason}\n")
     });
-    include_str!("help.txt").to_owned() + &reasons.collect::<String>()
+    let reasons: String = reasons.collect();
+    format!(
+        "{}{reasons}\ndocs/MANUAL.md says it all at length, with examples.\n",
+        include_str!("help.txt")
+    )
 }

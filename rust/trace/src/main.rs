@@ -20,11 +20,13 @@ use std::io::{self, Read, Write};
 use std::path::Path;
 use std::process::ExitCode;
 
+use savorylatch::answer::Unreadable;
 use trace::input::{self, Input};
 use trace::mistake::{Mistake, Place};
 use trace::options::{self, Wish};
 use trace::script::Script;
-use trace::{help, parse, session};
+use trace::session::{self, Report};
+use trace::{help, parse};
 
 /// An expectation did not hold.
 const NOT_HELD: u8 = 1;
@@ -49,28 +51,22 @@ fn run(wish: Wish) -> Result<ExitCode, String> {
         Wish::Version => print(concat!("savorylatch ", env!("CARGO_PKG_VERSION"), "\n").as_bytes()),
         Wish::Trace { file } => report(session::trace(&script(&file)?)),
         Wish::Quiet { file } => report(session::quiet(&script(&file)?, &name(&file))),
-        Wish::Frames { file } => {
-            let script = script(&file)?;
-            if script.device != parse::DEVICE {
-                eprintln!(
-                    "note: the script's device is {}, play's is 1",
-                    script.device
-                );
-            }
-            print(&session::frames(&script))
-        }
+        Wish::Frames { file } => frames(&script(&file)?),
         Wish::Timeline { file } => {
-            let stem = Path::new(&file).file_stem().unwrap_or(&file);
-            let title = stem.to_string_lossy();
-            let picture = session::timeline(&script(&file)?, &title);
-            print(
-                picture
-                    .map_err(|wrong| format!("savorylatch: {wrong}\n"))?
-                    .as_bytes(),
-            )
+            let picture = session::timeline(&script(&file)?, &title(&file));
+            print(picture.map_err(unreadable)?.as_bytes())
         }
         Wish::Explain { file, hex, device } => explain(&file, hex, device),
     }
+}
+
+fn frames(script: &Script) -> Result<ExitCode, String> {
+    if script.device != parse::DEVICE {
+        let device = script.device;
+        let note = format!("note: the script's device is {device}, and play's is 1\n");
+        let _ = io::stderr().write_all(note.as_bytes());
+    }
+    print(&session::frames(script))
 }
 
 fn explain(file: &OsStr, hex: bool, device: u64) -> Result<ExitCode, String> {
@@ -88,14 +84,11 @@ fn explain(file: &OsStr, hex: bool, device: u64) -> Result<ExitCode, String> {
         }
     };
     let text = session::explain(&input, device);
-    print(
-        text.map_err(|wrong| format!("savorylatch: {wrong}\n"))?
-            .as_bytes(),
-    )
+    print(text.map_err(unreadable)?.as_bytes())
 }
 
-fn report<E: std::fmt::Display>(report: Result<session::Report, E>) -> Result<ExitCode, String> {
-    let report = report.map_err(|wrong| format!("savorylatch: {wrong}\n"))?;
+fn report(report: Result<Report, Unreadable>) -> Result<ExitCode, String> {
+    let report = report.map_err(unreadable)?;
     let written = print(report.text.as_bytes())?;
     Ok(match report.held {
         true => written,
@@ -142,6 +135,17 @@ fn utf8<'b>(file: &OsStr, bytes: &'b [u8]) -> Result<&'b str, String> {
         let mistake = Mistake::new(place, "UTF-8 text", "other bytes");
         mistake.report(&name(file), &good)
     })
+}
+
+/// An answer that is none of the agent's, which an archive of another version may give.
+fn unreadable(wrong: Unreadable) -> String {
+    format!("savorylatch: an answer cannot be read: {wrong}\n")
+}
+
+/// A file's name over a picture.
+fn title(file: &OsStr) -> String {
+    let stem = Path::new(file).file_stem().filter(|_| file != "-");
+    stem.map_or(String::new(), |stem| stem.to_string_lossy().into_owned())
 }
 
 /// A file's name in messages.

@@ -4,7 +4,7 @@ use std::rc::Rc;
 
 use crate::lex::Sign;
 use crate::mistake::{quoted, Mistake};
-use crate::names::{Names, Table};
+use crate::names::{Action, Names, Table};
 use crate::notation::Spot;
 use crate::parse::cursor::Cursor;
 use crate::parse::{values, Parser, AN_UPDATE};
@@ -122,7 +122,8 @@ impl<'a> Parser<'a> {
         let id = id.ok_or_else(|| cursor.mistake(&*expected))?;
         cursor.advance();
         cursor.sign(Sign::Open, "'(' and the parameters after the action")?;
-        let action = table.names.and_then(|table| table.action(id));
+        // Two names may have one id on purpose.
+        let action = named.or_else(|| table.names?.action(id));
         let names = action.map_or(&[][..], |action| &action.parameters);
         Ok((id, self.parameters(cursor, table.id, id, names)?))
     }
@@ -166,12 +167,10 @@ impl<'a> Parser<'a> {
     }
 }
 
-impl Named<'_> {
-    fn action(&self, name: &str) -> Option<&crate::names::Action> {
-        self.names?
-            .actions
-            .iter()
-            .find(|action| action.name == name)
+impl<'n> Named<'n> {
+    fn action(&self, name: &str) -> Option<&'n Action> {
+        let mut actions = self.names?.actions.iter();
+        actions.find(|action| action.name == name)
     }
 
     /// What may stand after the table.

@@ -236,6 +236,18 @@ fn parts_that_are_left_out_are_sent_empty() {
 }
 
 #[test]
+fn two_names_may_have_one_id() {
+    let text =
+        "configure role 0\n table t 1 owner 0 size 1 action a 2 (p:8) action b 2 (q:8, r:8)\n\
+                write role 0\n insert table t b(r=7)";
+    let Call::Write { updates, .. } = call(text) else {
+        panic!();
+    };
+    assert_eq!(updates[0].entry.action, 2);
+    assert_eq!(updates[0].entry.parameters[1], Value::new(7));
+}
+
+#[test]
 fn reads() {
     let read = |wanted| Call::Read {
         device: 1,
