@@ -46,11 +46,6 @@ impl Notations {
         show(value, notation.unwrap_or(Notation::Hex))
     }
 
-    /// A number as the script wrote its place, or as hex.
-    pub fn number(&self, spot: Spot, number: u128) -> String {
-        self.value(spot, &Value::new(number))
-    }
-
     /// An id as the script wrote it, or in decimal up to 64 bits.
     pub fn id(&self, id: u128) -> String {
         match self.ids.get(&id) {
@@ -140,13 +135,14 @@ mod tests {
     #[test]
     fn the_first_notation_counts() {
         let spot = Spot::First { table: 1, field: 0 };
+        let ten = Value::new(10);
         let mut notations = Notations::default();
-        assert_eq!(notations.number(spot, 10), "0x0a");
+        assert_eq!(notations.value(spot, &ten), "0x0a");
         notations.note(spot, Notation::Decimal);
         notations.note(spot, Notation::Hex);
-        assert_eq!(notations.number(spot, 10), "10");
+        assert_eq!(notations.value(spot, &ten), "10");
         let other = Spot::Second { table: 1, field: 0 };
-        assert_eq!(notations.number(other, 10), "0x0a");
+        assert_eq!(notations.value(other, &ten), "0x0a");
     }
 
     #[test]
