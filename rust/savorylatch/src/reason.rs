@@ -112,6 +112,43 @@ impl Reason {
         self as u8
     }
 
+    /// A short name for logs and scripts: that of the C header's constant, in small letters.
+    ///
+    /// ```
+    /// use savorylatch::Reason;
+    ///
+    /// assert_eq!(Reason::NotPrimary.name(), "not-primary");
+    /// ```
+    pub const fn name(self) -> &'static str {
+        match self {
+            Reason::Done => "done",
+            Reason::BadFrame => "bad-frame",
+            Reason::TooShort => "too-short",
+            Reason::AlreadyOpen => "already-open",
+            Reason::NotOpen => "not-open",
+            Reason::OtherDevice => "other-device",
+            Reason::NoSuchRole => "no-such-role",
+            Reason::Rebound => "rebound",
+            Reason::IdInUse => "id-in-use",
+            Reason::RoleFull => "role-full",
+            Reason::NotPrimary => "not-primary",
+            Reason::NotRole0 => "not-role-0",
+            Reason::NotConfigured => "not-configured",
+            Reason::Atomicity => "atomicity",
+            Reason::RowsNotAllowed => "rows-not-allowed",
+            Reason::NoSuchTable => "no-such-table",
+            Reason::NotTheRoles => "not-the-roles",
+            Reason::BadForm => "bad-form",
+            Reason::TooWide => "too-wide",
+            Reason::RuleBroken => "rule-broken",
+            Reason::Stored => "stored",
+            Reason::NotStored => "not-stored",
+            Reason::TableFull => "table-full",
+            Reason::SomeFailed => "some-failed",
+            Reason::StoreFull => "store-full",
+        }
+    }
+
     /// The status code that goes with the reason.
     pub const fn code(self) -> Code {
         match self {
@@ -291,6 +328,17 @@ mod tests {
             assert_eq!(reason.code().number(), code, "{reason:?}");
             assert_eq!(Code::try_from(code), Ok(reason.code()));
             assert_eq!(reason.is_accepted(), [0, 23].contains(&number));
+        }
+    }
+
+    #[test]
+    fn names_are_the_header_s() {
+        let header = include_str!("../../../include/savorylatch.h");
+        for reason in Reason::ALL {
+            let constant = reason.name().replace('-', "_").to_uppercase();
+            let line = format!("SAVORYLATCH_REASON_{constant} = {}", reason.number());
+            let ends = [",", " "].map(|end| header.contains(&(line.clone() + end)));
+            assert!(ends.contains(&true), "{line}");
         }
     }
 
