@@ -1,18 +1,18 @@
 -- From what a command leaves to what a call leaves: a call whose buffers are long enough is the command that its frame reads as.
 -- Assumes nothing.
-use Prim.Native.Nat.{ℕ, _+_, _*_, _<_, _≤_}
+use Prim.Native.Nat.{ℕ, _+_, _<_, _≤_}
 use native.Mathlib.Omega.{arith}
 use mathlib.Core.Path.{_≡_, refl, sym, ap, ap₂, _∙_, subst}
 use mathlib.Core.Bool.{Bool, true, false, _&&_}
 use mathlib.Core.Logic.{_⊎_, inl, inr}
-use mathlib.Core.List.{List, [], _∷_, _++_}
+use mathlib.Core.List.{List, _++_}
 use lib.Dec.{leb}
-use lib.ListN.{length, drop}
+use lib.ListN.{length}
 use borrow.Author.Tests.{le-leb, lt-leb}
 use Rattle.rules.specs.Bytes.{if_then_else_, part}
 use Rattle.rules.specs.Frame.{Command, cramped, READ, readFrame}
 use Rattle.rules.specs.Answer.{replyOf}
-use Rattle.rules.specs.Call.{Call, commandOf, nextControl, nextTables, next, answer, reply}
+use Rattle.rules.specs.Call.{commandOf, nextControl, nextTables, next, answer, reply}
 use Rattle.rules.specs.Sound.{Sound}
 use Rattle.rules.proofs.Formed.{parts-count, Formed, frame-formed, call-formed}
 use Rattle.rules.proofs.Lists.{part-part}

@@ -11,7 +11,7 @@ use lib.Seq.{take-append-le, drop-append-le}
 use Rattle.rules.specs.Bytes.{if_then_else_, int, bytesOf, concat, parts}
 use Rattle.rules.specs.Reason.{codeOf, pairs}
 use Rattle.rules.specs.Frame.{Head, Update, Query, Command, cramped, WRITE, READ}
-use Rattle.rules.specs.Answer.{Answer, Reply, answerBytes, replyOf}
+use Rattle.rules.specs.Answer.{Reply, answerBytes, replyOf}
 use Rattle.rules.specs.Call.{Call, State, fresh, accepted, refusal, plain, answer, commandOf, next, reply, run}
 use Rattle.rules.specs.LookBack.{Past, present, shows, tookEffect, noteUpdates, pairsSeen, someFailed, readSeen, answerSeen, replySeen}
 use Rattle.rules.specs.Agreement.{commandsOf, replyAfter, pastOf, pairAt}

@@ -1,37 +1,37 @@
 -- From what a handler leaves to what its command leaves under the rules. Assumes nothing.
-use Prim.Native.Nat.{ℕ, _*_, _≤_}
+use Prim.Native.Nat.{ℕ}
 use native.Mathlib.Omega.{arith}
 use mathlib.Core.Path.{_≡_, refl, sym, ap, ap₂, _∙_}
 use mathlib.Core.Bool.{Bool, true, false, not, _&&_, true≢false}
 use mathlib.Core.List.{List, [], _∷_, _++_, map}
 use lib.Dec.{eqb, ltb}
-use lib.ListN.{length, drop}
 use borrow.Author.Tests.{eqb-true, eq-eqb, ne-eqb}
-use Rattle.rules.specs.Bytes.{if_then_else_, parts, every, keep}
+use Rattle.rules.specs.Bytes.{if_then_else_, parts, every}
 use Rattle.rules.specs.Reason.{first}
 use Rattle.rules.specs.Frame.{Head, Update, Query, Command, cramped, malformed, OPEN, CLOSE, ARBITRATE, CONFIGURE, WRITE, READ}
 use Rattle.rules.specs.Streams as streams
 use Rattle.rules.specs.Row as row
 use Rattle.rules.specs.Key.{keyFormed, keyFits, keyRules}
 use Rattle.rules.specs.Answer.{Answer, answerBytes}
-use Rattle.rules.specs.Call.{Control, State, otherDevice, unconfigured, configureReason, writeReason, readReason, refusal, accepted, withStreams, withRows, nextControl, nextTables, next, batchOf, pairOf, headOf, gathered, shown, heard, plain, answer}
-use Rattle.rules.specs.Sound.{Sound}
+use Rattle.rules.specs.Call.{Control, unconfigured, configureReason, writeReason, readReason, refusal, withStreams, withRows, nextControl, nextTables, next, batchOf, pairOf, headOf, shown, heard, plain, answer}
 use Rattle.rules.proofs.Formed.{parts-count, Formed}
 use Rattle.rules.proofs.Orders.{first-more}
 use Rattle.rules.proofs.OneKey.{one-key}
 use Rattle.buffers.specs.Splice.{splice}
-use Rattle.arbitration.specs.declared.Streams.{Streams}
-use Rattle.arbitration.specs.declared.Notify.{Notify}
-use Rattle.arbitration.specs.Meaning.{streamsOf, recordsOf}
+use Rattle.arbitration.specs.declared.Outcome.{Outcome}
+use Rattle.arbitration.specs.Meaning.{outcomeOf}
+use Rattle.rows.specs.Meaning.{rowsOf}
 use Rattle.entries.specs.Store.{entriesIn, tablesIn}
 use Rattle.entry_store.specs.declared.Written.{Written}
 use Rattle.entry_store.specs.Update.{Tidy, BatchApplied}
 use Rattle.entry_store.specs.Read.{keyReason, queryReason, readIn}
 use Rattle.agent.specs.declared.Agent.{Agent}
 use Rattle.agent.specs.declared.Called.{Called}
+use Rattle.agent.specs.declared.Configured.{Configured}
+use Rattle.agent.specs.declared.Wrote.{Wrote}
 use Rattle.agent.specs.Meaning.{controlOf, stateOf}
 use Rattle.agent.specs.Contract.{Kept, Obeyed}
-use Rattle.agent.specs.Handlers.{Refused, ObeysAny}
+use Rattle.agent.specs.Handlers.{elected, configured, wrote, unchanged, ObeysAny}
 use Rattle.agent.proofs.Answers.{replies, fills}
 
 -- a command that leaves the store as it is
@@ -49,76 +49,75 @@ module _ (a : Agent) (c : Command) (store d : List ℕ) (r : Called) (out : List
 
   -- a refusal that leaves the agent as it is
   pub refusal-obeyed : (reason : ℕ) → next (stateOf a store) c ≡ stateOf a store → answer (stateOf a store) c ≡ plain reason
-      → Refused a reason r d out → Obeyed a c store d r store out
-  refusal-obeyed reason stays told f =
-      store-stays (plain reason) told (ap (λ (b : Agent). stateOf b store) (f .same) ∙ sym stays) (f .returned) (f .filled)
+      → r ≡ unchanged a reason → out ≡ splice d 0 (answerBytes (plain reason)) → Obeyed a c store d r store out
+  refusal-obeyed reason stays told e f =
+      store-stays (plain reason) told (ap (λ (b : Called). stateOf (b .agent) store) e ∙ sym stays) (ap (λ (b : Called). b .reason) e) f
 
 -- ---- OPEN, CLOSE, ARBITRATE
 
--- the record with other streams, and the answer of the event that left them
-module _ (a : Agent) (left : Streams) (reason : ℕ) (d out : List ℕ) where
-  abbrev after : Called
-  after = record { agent = record { device = a .device; streams = left; rows = a .rows; count = a .count }; reason = reason }
+-- what an event left, and its answer
+module _ (a : Agent) (left : Outcome) (d out : List ℕ) (f : out ≡ splice d 0 (answerBytes (heard (outcomeOf left)))) where
+  event-obeyed : (c : Command) → (c ≡ cramped → ⊥) → (o : streams.Outcome) → outcomeOf left ≡ o
+      → ((store : List ℕ) → answer (stateOf a store) c ≡ heard o)
+      → ((store : List ℕ) → next (stateOf a store) c ≡ record { control = withStreams (controlOf a) (o .after); tables = tablesIn (a .count) store })
+      → ObeysAny a c (elected a left) d out
+  unfolding stateOf
+  event-obeyed c n o e told left′ store k =
+      store-stays a c store d (elected a left) out n (heard (outcomeOf left)) (told store ∙ ap heard (sym e))
+      (sym (left′ store ∙ ap (λ (x : streams.Outcome). record { control = withStreams (controlOf a) (x .after); tables = tablesIn (a .count) store }) (sym e)))
+      refl f
 
-  module _ (notify : Notify) (f : out ≡ splice d 0 (answerBytes (record { reason = reason; records = recordsOf notify (streamsOf left) }))) where
-    -- the outcome of the event, as it was computed
-    abbrev outcome : streams.Outcome
-    outcome = record { after = streamsOf left; reason = reason; records = recordsOf notify (streamsOf left) }
+  pub open-obeyed : (n : ℕ) → outcomeOf left ≡ streams.openStream (controlOf a .streams) n → ObeysAny a (OPEN n) (elected a left) d out
+  unfolding stateOf next nextControl nextTables answer
+  open-obeyed n e = event-obeyed (OPEN n) (λ z. let w : _≡_ {A = ℕ} 0 1 = cc in omega arith) _ e (λ s. refl) (λ s. refl)
 
-    event-obeyed : (c : Command) → (c ≡ cramped → ⊥) → (o : streams.Outcome) → outcome ≡ o
-        → ((store : List ℕ) → answer (stateOf a store) c ≡ heard o)
-        → ((store : List ℕ) → next (stateOf a store) c ≡ record { control = withStreams (controlOf a) (o .after); tables = tablesIn (a .count) store })
-        → ObeysAny a c after d out
-    unfolding stateOf
-    event-obeyed c n o e told left′ store k =
-        store-stays a c store d after out n (heard outcome) (told store ∙ ap heard (sym e))
-        (sym (left′ store ∙ ap (λ (x : streams.Outcome). record { control = withStreams (controlOf a) (x .after); tables = tablesIn (a .count) store }) (sym e)))
-        refl f
+  pub close-obeyed : (n : ℕ) → outcomeOf left ≡ streams.closeStream (controlOf a .streams) n → ObeysAny a (CLOSE n) (elected a left) d out
+  unfolding stateOf next nextControl nextTables answer
+  close-obeyed n e = event-obeyed (CLOSE n) (λ z. let w : _≡_ {A = ℕ} 0 1 = cc in omega arith) _ e (λ s. refl) (λ s. refl)
 
-    pub open-obeyed : (n : ℕ) → outcome ≡ streams.openStream (controlOf a .streams) n → ObeysAny a (OPEN n) after d out
-    unfolding stateOf next nextControl nextTables answer
-    open-obeyed n e = event-obeyed (OPEN n) (λ z. let w : _≡_ {A = ℕ} 0 1 = cc in omega arith) _ e (λ s. refl) (λ s. refl)
+  pub arbitrate-obeyed : (n : ℕ) (h : Head) → outcomeOf left ≡ streams.arbitrate (a .device) (controlOf a .streams) n h
+      → ObeysAny a (ARBITRATE n h) (elected a left) d out
+  unfolding stateOf next nextControl nextTables answer
+  arbitrate-obeyed n h e = event-obeyed (ARBITRATE n h) (λ z. let w : _≡_ {A = ℕ} 0 1 = cc in omega arith) _ e (λ s. refl) (λ s. refl)
 
-    pub close-obeyed : (n : ℕ) → outcome ≡ streams.closeStream (controlOf a .streams) n → ObeysAny a (CLOSE n) after d out
-    unfolding stateOf next nextControl nextTables answer
-    close-obeyed n e = event-obeyed (CLOSE n) (λ z. let w : _≡_ {A = ℕ} 0 1 = cc in omega arith) _ e (λ s. refl) (λ s. refl)
+-- an OPEN notifies nobody
+pub nobody-told : (left : Outcome) (e : streams.Streams) (n : ℕ) → outcomeOf left ≡ streams.openStream e n
+    → plain (left .reason) ≡ heard (outcomeOf left)
+unfolding streams.openStream
+nobody-told left e n p =
+    ap (λ (rs : List (List ℕ)). record { reason = left .reason; records = rs }) (sym (ap (λ (o : streams.Outcome). o .records) p))
 
-    pub arbitrate-obeyed : (n : ℕ) (h : Head) → outcome ≡ streams.arbitrate (a .device) (controlOf a .streams) n h
-        → ObeysAny a (ARBITRATE n h) after d out
-    unfolding stateOf next nextControl nextTables answer
-    arbitrate-obeyed n h e = event-obeyed (ARBITRATE n h) (λ z. let w : _≡_ {A = ℕ} 0 1 = cc in omega arith) _ e (λ s. refl) (λ s. refl)
+-- ---- refusals of the other commands: the record as it was, and a head alone
 
--- ---- refusals of the other commands
-
-module _ (a : Agent) (store d out : List ℕ) (r : Called) where
-  pub malformed-obeyed : Refused a 1 r d out → Obeyed a malformed store d r store out
+module _ (a : Agent) (store d out : List ℕ) where
+  pub malformed-obeyed : out ≡ splice d 0 (answerBytes (plain 1)) → Obeyed a malformed store d (unchanged a 1) store out
   unfolding stateOf next nextControl nextTables answer
   malformed-obeyed f =
-      refusal-obeyed a malformed store d r out (λ z. let w : _≡_ {A = ℕ} 0 1 = cc in omega arith) 1 refl refl f
+      refusal-obeyed a malformed store d (unchanged a 1) out (λ z. let w : _≡_ {A = ℕ} 0 1 = cc in omega arith) 1 refl refl refl f
 
-  module _ (reason : ℕ) (n : reason ≡ 0 → ⊥) (f : Refused a reason r d out) where
+  module _ (reason : ℕ) (n : reason ≡ 0 → ⊥) (f : out ≡ splice d 0 (answerBytes (plain reason))) where
     no : {m : ℕ} → m ≡ reason → eqb m 0 ≡ false
     no {m} e = ne-eqb m 0 (λ z. n (sym e ∙ z))
 
     pub configure-refused : (h : Head) (rows : List (List ℕ)) → configureReason (controlOf a) h rows ≡ reason
-        → Obeyed a (CONFIGURE h rows) store d r store out
+        → Obeyed a (CONFIGURE h rows) store d (unchanged a reason) store out
     unfolding stateOf next nextControl nextTables answer refusal
     configure-refused h rows e =
         let z : eqb (configureReason (controlOf a) h rows) 0 ≡ false = no e in
-        refusal-obeyed a (CONFIGURE h rows) store d r out (λ z. let w : _≡_ {A = ℕ} 0 1 = cc in omega arith) reason (rw z) (rw e) f
+        refusal-obeyed a (CONFIGURE h rows) store d (unchanged a reason) out (λ z. let w : _≡_ {A = ℕ} 0 1 = cc in omega arith) reason (rw z) (rw e) refl f
 
     pub write-refused : (h : Head) (atomicity : ℕ) (us : List Update) → writeReason (controlOf a) h atomicity ≡ reason
-        → Obeyed a (WRITE h atomicity us) store d r store out
+        → Obeyed a (WRITE h atomicity us) store d (unchanged a reason) store out
     unfolding stateOf next nextControl nextTables answer refusal
     write-refused h atomicity us e =
         let z : eqb (writeReason (controlOf a) h atomicity) 0 ≡ false = no e in
-        refusal-obeyed a (WRITE h atomicity us) store d r out (λ z. let w : _≡_ {A = ℕ} 0 1 = cc in omega arith) reason (rw z) (rw (z, e)) f
+        refusal-obeyed a (WRITE h atomicity us) store d (unchanged a reason) out (λ z. let w : _≡_ {A = ℕ} 0 1 = cc in omega arith) reason (rw z) (rw (z, e)) refl f
 
-    pub read-refused : (q : Query) → readReason (controlOf a) q ≡ reason → Obeyed a (READ q) store d r store out
+    pub read-refused : (q : Query) → readReason (controlOf a) q ≡ reason → Obeyed a (READ q) store d (unchanged a reason) store out
     unfolding stateOf next nextControl nextTables answer refusal
     read-refused q e =
         let z : eqb (readReason (controlOf a) q) 0 ≡ false = no e in
-        refusal-obeyed a (READ q) store d r out (λ z. let w : _≡_ {A = ℕ} 0 1 = cc in omega arith) reason refl (rw (z, e)) f
+        refusal-obeyed a (READ q) store d (unchanged a reason) out (λ z. let w : _≡_ {A = ℕ} 0 1 = cc in omega arith) reason refl (rw (z, e)) refl f
 
 -- ---- CONFIGURE
 
@@ -140,13 +139,13 @@ module _ (a : Agent) (h : Head) (rows : List (List ℕ)) where
       ∷ (not (streams.byPrimary (controlOf a .streams) (h .role) (h .id)), 10) ∷ [])
       ((not (row.configurationAllowed rows), 14) ∷ []) refl ∙ (rw (last (row.configurationAllowed rows))))
 
-  pub configured : (store d out : List ℕ) (r : Called) → configureReason (controlOf a) h rows ≡ 0
-      → controlOf (r .agent) ≡ withRows (controlOf a) (map row.rowOf rows) → r .agent .count ≡ 0 → r .reason ≡ 0
-      → out ≡ splice d 0 (answerBytes (plain 0)) → Obeyed a (CONFIGURE h rows) store d r store out
+  pub was-configured : (store d out : List ℕ) (r : Configured) → configureReason (controlOf a) h rows ≡ 0
+      → rowsOf (r .rows) ≡ map row.rowOf rows → r .count ≡ 0 → r .reason ≡ 0
+      → out ≡ splice d 0 (answerBytes (plain 0)) → Obeyed a (CONFIGURE h rows) store d (configured a r) store out
   unfolding stateOf next nextControl nextTables answer refusal parts
-  configured store d out r e k c q o =
-      store-stays a (CONFIGURE h rows) store d r out (λ z. let w : _≡_ {A = ℕ} 0 1 = cc in omega arith) (plain 0) (rw e)
-      (rw e (ap₂ (λ (k : Control) (n : ℕ). record { control = k; tables = tablesIn n store }) k c)) q o
+  was-configured store d out r e l c q o =
+      store-stays a (CONFIGURE h rows) store d (configured a r) out (λ z. let w : _≡_ {A = ℕ} 0 1 = cc in omega arith) (plain 0) (rw e)
+      (rw e (ap₂ (λ (k : Control) (n : ℕ). record { control = k; tables = tablesIn n store }) (ap (withRows (controlOf a)) l) c)) q o
 
 -- ---- WRITE
 
@@ -158,19 +157,19 @@ module _ (a : Agent) (h : Head) (atomicity : ℕ) where
   unfolding writeReason
   write-order e p u q = rw (q, e, p, u)
 
-  pub wrote : (us : List Update) (store store′ d out : List ℕ) (r : Called) (w : Written) → writeReason (controlOf a) h atomicity ≡ 0
+  pub was-written : (us : List Update) (store store′ d out : List ℕ) (r : Wrote) (w : Written) → writeReason (controlOf a) h atomicity ≡ 0
       → BatchApplied (controlOf a .rows) (h .role) (a .count) store store′ us w
-      → controlOf (r .agent) ≡ controlOf a → r .agent .count ≡ w .count → r .reason ≡ (if w .failed then 23 else 0)
+      → r .count ≡ w .count → r .reason ≡ (if w .failed then 23 else 0)
       → out ≡ splice d 0 (answerBytes (record { reason = r .reason; records = map pairOf (batchOf (stateOf a store) h us .reasons) }))
-      → Obeyed a (WRITE h atomicity us) store d r store′ out
+      → Obeyed a (WRITE h atomicity us) store d (wrote a r) store′ out
   unfolding stateOf next nextControl nextTables answer refusal
-  wrote us store store′ d out r w e b k c q o =
+  was-written us store store′ d out r w e b c q o =
       let told : r .reason ≡ headOf (batchOf (stateOf a store) h us .reasons) = q ∙ head-told (every (eqb 0) (batchOf (stateOf a store) h us .reasons)) (b .failed) in
       let x : Answer = record { reason = headOf (batchOf (stateOf a store) h us .reasons); records = map pairOf (batchOf (stateOf a store) h us .reasons) } in
       let y : answer (stateOf a store) (WRITE h atomicity us) ≡ x = rw e in
       let i : entriesIn (w .count) store′ ≡ batchOf (stateOf a store) h us .tables .entries = b .left .holds in
       record {
-        state = rw e (ap₂ (λ (k : Control) (l : List (List ℕ)). record { control = k; tables = record { entries = l } }) k (ap (λ (n : ℕ). entriesIn n store′) c ∙ i));
+        state = rw e (ap (λ (l : List (List ℕ)). record { control = controlOf a; tables = record { entries = l } }) (ap (λ (n : ℕ). entriesIn n store′) c ∙ i));
         returned = replies (stateOf a store) (WRITE h atomicity us) x y told;
         filled = fills (stateOf a store) (WRITE h atomicity us) x y d (λ z. let w : _≡_ {A = ℕ} 0 1 = cc in omega arith)
             (o ∙ ap (λ (m : ℕ). splice d 0 (answerBytes (record { reason = m; records = map pairOf (batchOf (stateOf a store) h us .reasons) }))) told);
@@ -218,14 +217,13 @@ module _ (a : Agent) (q : Query) where
       ((not (eqb (q .device) (a .device)), 5) ∷ (ltb 7 (q .role), 6) ∷ (unconfigured (controlOf a .rows), 12) ∷ []) (tables ++ keys) refl
       ∙ (rw (first-more tables keys refl, only-one one x y z)))
 
-  pub was-read : (store d out : List ℕ) (r : Called) → Formed (READ q) → Kept a store → readReason (controlOf a) q ≡ 0
-      → r .agent ≡ a → r .reason ≡ 0
+  pub was-read : (store d out : List ℕ) → readReason (controlOf a) q ≡ 0
       → out ≡ splice d 0 (answerBytes (record { reason = 0; records = shown (stateOf a store) q }))
-      → Obeyed a (READ q) store d r store out
+      → Obeyed a (READ q) store d (unchanged a 0) store out
   unfolding stateOf next nextControl nextTables answer refusal
-  was-read store d out r f k e g c o =
-      store-stays a (READ q) store d r out (λ z. let w : _≡_ {A = ℕ} 0 1 = cc in omega arith) (record { reason = 0; records = shown (stateOf a store) q })
-      (rw e) (ap (λ (b : Agent). stateOf b store) g) c o
+  was-read store d out e o =
+      store-stays a (READ q) store d (unchanged a 0) out (λ z. let w : _≡_ {A = ℕ} 0 1 = cc in omega arith) (record { reason = 0; records = shown (stateOf a store) q })
+      (rw e) refl refl o
 
   -- the entries that the store's reader takes are those shown
   pub taken : (store : List ℕ) → Formed (READ q) → Kept a store → readReason (controlOf a) q ≡ 0

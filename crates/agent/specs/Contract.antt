@@ -5,7 +5,7 @@ use mathlib.Core.List.{List, _++_}
 use Prim.Native.Nat.{ℕ}
 use lib.ListN.{length, drop}
 use Rattle.rules.specs.Frame.{Command}
-use Rattle.rules.specs.Call.{Call, State, fresh, accepted, commandOf, next, reply}
+use Rattle.rules.specs.Call.{fresh, accepted, commandOf, next, reply}
 use Rattle.rules.specs.Sound.{Sound}
 use Rattle.agent.specs.declared.Agent.{Agent}
 use Rattle.agent.specs.declared.Called.{Called}

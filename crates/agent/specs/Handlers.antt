@@ -4,13 +4,13 @@ use mathlib.Core.List.{List}
 use Prim.Native.Nat.{ℕ}
 use Rattle.rules.specs.Frame as rules
 use Rattle.rules.specs.Key.{tableOf}
-use Rattle.rules.specs.Answer.{answerBytes}
-use Rattle.rules.specs.Call.{plain}
-use Rattle.buffers.specs.Splice.{splice}
+use Rattle.arbitration.specs.declared.Outcome.{Outcome}
 use Rattle.frames.specs.declared.Query.{Query}
 use Rattle.entry_store.specs.Read.{keyIn}
 use Rattle.agent.specs.declared.Agent.{Agent}
 use Rattle.agent.specs.declared.Called.{Called}
+use Rattle.agent.specs.declared.Configured.{Configured}
+use Rattle.agent.specs.declared.Wrote.{Wrote}
 use Rattle.agent.specs.Contract.{Kept, Obeyed}
 
 -- what a READ asks for, where its bytes from the table on are these
@@ -21,11 +21,23 @@ queryIn q b = record { device = q .device; role = q .role; table = q .table; onl
 abbrev pub Named : rules.Query → Type 0
 Named q = (tableOf (q .key) ≡ q .table) × (q .only ≡ 1 → q .table ≡ 0 → ⊥)
 
--- a refusal: the record as it was, and a head alone
-pub record Refused (a : Agent) (reason : ℕ) (r : Called) (answer answer′ : List ℕ) : Type 0 where
-  pub same : r .agent ≡ a
-  pub returned : r .reason ≡ reason
-  pub filled : answer′ ≡ splice answer 0 (answerBytes (plain reason))
+-- What a call hands back, where a handler hands back no more than its command changes: the rest of the record is as it was.
+
+-- an event of the streams
+abbrev pub elected : Agent → Outcome → Called
+elected a o = record { agent = record { device = a .device; streams = o .streams; rows = a .rows; count = a .count }; reason = o .reason }
+
+-- CONFIGURE
+abbrev pub configured : Agent → Configured → Called
+configured a r = record { agent = record { device = a .device; streams = a .streams; rows = r .rows; count = r .count }; reason = r .reason }
+
+-- WRITE
+abbrev pub wrote : Agent → Wrote → Called
+wrote a r = record { agent = record { device = a .device; streams = a .streams; rows = a .rows; count = r .count }; reason = r .reason }
+
+-- READ, and every refusal but of an arbitration
+abbrev pub unchanged : Agent → ℕ → Called
+unchanged a reason = record { agent = a; reason = reason }
 
 -- a command that is given the store
 abbrev pub Obeys : Agent → rules.Command → List ℕ → List ℕ → Called → List ℕ → List ℕ → Type 0

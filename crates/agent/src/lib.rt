@@ -1,21 +1,23 @@
 // The agent: one call hands in a frame and gets its answer (document 01).
 ghost use mathlib.Core.Path.{_≡_};
 ghost use mathlib.Core.Bool.{not};
-ghost use mathlib.Core.List.{List, [], _∷_};
-ghost use Prim.Native.Nat.{ℕ, _+_, _*_, _≤_};
+ghost use mathlib.Core.List.{[], _∷_};
+ghost use Prim.Native.Nat.{_*_, _≤_};
 ghost use lib.Dec.{ltb};
 ghost use lib.ListN.{length};
 ghost use Rattle.rules.specs.Bytes.{parts, bytesOf, if_then_else_};
 ghost use Rattle.rules.specs.Reason.{first, codeOf};
 ghost use Rattle.rules.specs.Frame as rules;
 ghost use Rattle.rules.specs.Answer.{answerBytes};
+ghost use Rattle.rules.specs.Call.{heard};
 ghost use Rattle.buffers.specs.Splice.{splice};
-ghost use Rattle.arbitration.specs.Meaning.{headOf, streamsOf, recordsOf};
+ghost use Rattle.arbitration.specs.Meaning.{headOf, outcomeOf};
 ghost use Rattle.entry_store.specs.Update.{updatesIn};
+ghost use Rattle.frames.specs.Meaning.{commandOf, Fits};
 ghost use Rattle.agent.specs.Contract.{Fresh, Meets};
-ghost use Rattle.agent.specs.Handlers.{queryIn, Named, Refused, Obeys, ObeysAny};
+ghost use Rattle.agent.specs.Handlers.{queryIn, Named, elected, configured, wrote, unchanged, Obeys, ObeysAny};
 use arbitration::Head;
-use arbitration::Notify;
+use arbitration::Outcome;
 use arbitration::Streams;
 use frames::Command;
 use frames::Frame;
@@ -64,66 +66,61 @@ fn write_head(reason: u8, count: usize, answer: &mut [u8])
     answer[3] = (count % 256) as u8;
 }
 
-// A refusal, which leaves the agent as it is: a head, count 0, and nothing else.
-fn refuse(agent: Agent, reason: u8, answer: &mut [u8]) -> Called
-    requires { ⌜ 4 ≤ length (now answer) ⌝ }
-    ensures { λ r. ⌜ Refused agent reason r (now (answer .entry)) (now (answer .exit)) ⌝ }
-{
-    write_head(reason, 0, answer);
-    Called { agent, reason }
+// What CONFIGURE leaves.
+struct Configured {
+    rows: Rows,
+    count: usize,
+    reason: u8,
+}
+
+// What WRITE leaves.
+struct Wrote {
+    count: usize,
+    reason: u8,
 }
 
 // ---- OPEN, CLOSE, ARBITRATE
 
 // Writes the answer to an event of the streams: its records from byte 4 on, and before them the head.
-fn respond(streams: Streams, notify: Notify, reason: u8, answer: &mut [u8])
+fn respond(outcome: Outcome, answer: &mut [u8])
     requires { ⌜ 644 ≤ length (now answer) ⌝ }
-    ensures { λ _. ⌜ now (answer .exit) ≡ splice (now (answer .entry)) 0 (answerBytes (record { reason = reason; records = recordsOf notify (streamsOf streams) })) ⌝ }
+    ensures { λ _. ⌜ now (answer .exit) ≡ splice (now (answer .entry)) 0 (answerBytes (heard (outcomeOf outcome))) ⌝ }
 {
+    let streams = outcome.streams;
+    let notify = outcome.notify;
     let count = streams.write_notifications(notify, &mut answer[4..]);
-    write_head(reason, count, answer);
+    write_head(outcome.reason, count, answer);
 }
 
-fn open(mut agent: Agent, stream: u8, answer: &mut [u8]) -> Called
+// An OPEN notifies nobody.
+fn open(agent: Agent, stream: u8, answer: &mut [u8]) -> Outcome
     requires { ⌜ 644 ≤ length (now answer) ⌝ }
-    ensures { λ r. ⌜ ObeysAny agent (rules.OPEN stream) r (now (answer .entry)) (now (answer .exit)) ⌝ }
+    ensures { λ r. ⌜ ObeysAny agent (rules.OPEN stream) (elected agent r) (now (answer .entry)) (now (answer .exit)) ⌝ }
 {
     let streams = agent.streams;
     let outcome = streams.open(stream);
-    let left = outcome.streams;
-    let notify = outcome.notify;
-    let reason = outcome.reason;
-    agent.streams = left;
-    respond(left, notify, reason, answer);
-    Called { agent, reason }
+    write_head(outcome.reason, 0, answer);
+    outcome
 }
 
-fn close(mut agent: Agent, stream: u8, answer: &mut [u8]) -> Called
+fn close(agent: Agent, stream: u8, answer: &mut [u8]) -> Outcome
     requires { ⌜ 644 ≤ length (now answer) ⌝ }
-    ensures { λ r. ⌜ ObeysAny agent (rules.CLOSE stream) r (now (answer .entry)) (now (answer .exit)) ⌝ }
+    ensures { λ r. ⌜ ObeysAny agent (rules.CLOSE stream) (elected agent r) (now (answer .entry)) (now (answer .exit)) ⌝ }
 {
     let streams = agent.streams;
     let outcome = streams.close(stream);
-    let left = outcome.streams;
-    let notify = outcome.notify;
-    let reason = outcome.reason;
-    agent.streams = left;
-    respond(left, notify, reason, answer);
-    Called { agent, reason }
+    respond(outcome, answer);
+    outcome
 }
 
-fn arbitrate(mut agent: Agent, stream: u8, head: Head, answer: &mut [u8]) -> Called
+fn arbitrate(agent: Agent, stream: u8, head: Head, answer: &mut [u8]) -> Outcome
     requires { ⌜ 644 ≤ length (now answer) ⌝ }
-    ensures { λ r. ⌜ ObeysAny agent (rules.ARBITRATE stream (headOf head)) r (now (answer .entry)) (now (answer .exit)) ⌝ }
+    ensures { λ r. ⌜ ObeysAny agent (rules.ARBITRATE stream (headOf head)) (elected agent r) (now (answer .entry)) (now (answer .exit)) ⌝ }
 {
     let streams = agent.streams;
     let outcome = streams.arbitrate(agent.device, stream, head);
-    let left = outcome.streams;
-    let notify = outcome.notify;
-    let reason = outcome.reason;
-    agent.streams = left;
-    respond(left, notify, reason, answer);
-    Called { agent, reason }
+    respond(outcome, answer);
+    outcome
 }
 
 // ---- CONFIGURE
@@ -148,25 +145,39 @@ fn configure_reason(here: bool, role: u8, primary: bool) -> u8
 }
 
 // Replaces all rows and empties the store.
-fn configure(mut agent: Agent, head: Head, t: usize, rows: &[u8], answer: &mut [u8]) -> Called
+fn configure(agent: Agent, head: Head, t: usize, rows: &[u8], answer: &mut [u8]) -> Configured
     requires { ⌜ (t ≤ 8) × (length (now rows) ≡ 53 * t) × (4 ≤ length (now answer)) ⌝ }
-    ensures { λ r. ⌜ ObeysAny agent (rules.CONFIGURE (headOf head) (parts t 53 (now (rows .entry)))) r (now (answer .entry)) (now (answer .exit)) ⌝ }
+    ensures { λ r. ⌜ ObeysAny agent (rules.CONFIGURE (headOf head) (parts t 53 (now (rows .entry)))) (configured agent r) (now (answer .entry)) (now (answer .exit)) ⌝ }
 {
     let streams = agent.streams;
+    let old = agent.rows;
+    let count = agent.count;
     let primary = streams.by_primary(head.role, head.id);
     let reason = configure_reason(head.device == agent.device, head.role, primary);
     if reason != 0 {
-        return refuse(agent, reason, answer);
+        write_head(reason, 0, answer);
+        return Configured {
+            rows: old,
+            count,
+            reason,
+        };
     }
     let reading = Rows::read(rows, t);
     if !reading.allowed {
-        return refuse(agent, 14, answer);
+        write_head(14, 0, answer);
+        return Configured {
+            rows: old,
+            count,
+            reason: 14,
+        };
     }
     write_head(0, 0, answer);
     let read = reading.rows;
-    agent.rows = read;
-    agent.count = 0;
-    Called { agent, reason: 0 }
+    Configured {
+        rows: read,
+        count: 0,
+        reason: 0,
+    }
 }
 
 // ---- WRITE
@@ -205,38 +216,37 @@ fn head_reason(failed: bool) -> u8
 
 // Takes the updates in order; their pairs stand from byte 4 on, and before them the head.
 fn write(
-    mut agent: Agent,
+    agent: Agent,
     head: Head,
     atomicity: u8,
     n: usize,
     updates: &[u8],
     store: &mut [u8],
     answer: &mut [u8],
-) -> Called
+) -> Wrote
     requires { ⌜ (n ≤ 64) × (length (now updates) ≡ 221 * n) × (56320 ≤ length (now store)) × (132 ≤ length (now answer)) ⌝ }
-    ensures { λ r. ⌜ Obeys agent (rules.WRITE (headOf head) atomicity (updatesIn n (now (updates .entry)))) (now (store .entry)) (now (answer .entry)) r (now (store .exit)) (now (answer .exit)) ⌝ }
+    ensures { λ r. ⌜ Obeys agent (rules.WRITE (headOf head) atomicity (updatesIn n (now (updates .entry)))) (now (store .entry)) (now (answer .entry)) (wrote agent r) (now (store .exit)) (now (answer .exit)) ⌝ }
 {
     let streams = agent.streams;
     let rows = agent.rows;
+    let count = agent.count;
     let primary = streams.by_primary(head.role, head.id);
     let here = head.device == agent.device;
     let refused = write_reason(here, head.role, primary, rows.is_empty(), atomicity);
     if refused != 0 {
-        return refuse(agent, refused, answer);
+        write_head(refused, 0, answer);
+        return Wrote {
+            count,
+            reason: refused,
+        };
     }
-    let done = entry_store::batch(
-        rows,
-        head.role,
-        store,
-        agent.count,
-        updates,
-        n,
-        &mut answer[4..],
-    );
+    let done = entry_store::batch(rows, head.role, store, count, updates, n, &mut answer[4..]);
     let reason = head_reason(done.failed);
     write_head(reason, n, answer);
-    agent.count = done.count;
-    Called { agent, reason }
+    Wrote {
+        count: done.count,
+        reason,
+    }
 }
 
 // ---- READ
@@ -257,20 +267,22 @@ fn read_reason(here: bool, role: u8, unconfigured: bool) -> u8
     0
 }
 
-// Writes the entries asked for from byte 4 on, and before them the head. The query stands in 149 bytes, from its table on.
-fn read(agent: Agent, query: Query, bytes: &[u8], store: &[u8], answer: &mut [u8]) -> Called
+// Writes the entries asked for from byte 4 on, and before them the head; the reason. The query stands in 149 bytes, from its table on.
+fn read(agent: Agent, query: Query, bytes: &[u8], store: &[u8], answer: &mut [u8]) -> u8
     requires { ⌜ (length (now bytes) ≡ 149) × (220 * agent .count ≤ length (now store)) × (57344 ≤ length (now answer)) ⌝ }
-    ensures { λ r. ⌜ (Named (queryIn query (now (bytes .entry))) → Obeys agent (rules.READ (queryIn query (now (bytes .entry)))) (now (store .entry)) (now (answer .entry)) r (now (store .entry)) (now (answer .exit))) ⌝ }
+    ensures { λ r. ⌜ (Named (queryIn query (now (bytes .entry))) → Obeys agent (rules.READ (queryIn query (now (bytes .entry)))) (now (store .entry)) (now (answer .entry)) (unchanged agent r) (now (store .entry)) (now (answer .exit))) ⌝ }
 {
     let rows = agent.rows;
     let here = query.device == agent.device;
     let barred = read_reason(here, query.role, rows.is_empty());
     if barred != 0 {
-        return refuse(agent, barred, answer);
+        write_head(barred, 0, answer);
+        return barred;
     }
     let wrong = entry_store::query_reason(rows, query.role, query.table, query.only, bytes);
     if wrong != 0 {
-        return refuse(agent, wrong, answer);
+        write_head(wrong, 0, answer);
+        return wrong;
     }
     let held = agent.count;
     let count = entry_store::read(
@@ -284,10 +296,58 @@ fn read(agent: Agent, query: Query, bytes: &[u8], store: &[u8], answer: &mut [u8
         &mut answer[4..],
     );
     write_head(0, count, answer);
-    Called { agent, reason: 0 }
+    0
 }
 
 // ---- a call
+
+// Does what the command of a frame asks, and hands back the record with what changed of it. In place: each handler is given the
+// record and hands back no more than its command changes.
+fn obey(
+    mut agent: Agent,
+    command: Command,
+    frame: &[u8],
+    store: &mut [u8],
+    answer: &mut [u8],
+) -> Called
+    requires { ⌜ (rules.readFrame (now frame) ≡ commandOf command (now frame)) × Fits command (now frame) × (agent .count ≤ 256) × (56320 ≤ length (now store)) × (57344 ≤ length (now answer)) ⌝ }
+    ensures { λ r. ⌜ Obeys agent (commandOf command (now (frame .entry))) (now (store .entry)) (now (answer .entry)) r (now (store .exit)) (now (answer .exit)) ⌝ }
+{
+    let reason = match command {
+        Command::Open(stream) => {
+            let outcome = open(agent, stream, answer);
+            let left = outcome.streams;
+            agent.streams = left;
+            outcome.reason
+        }
+        Command::Close(stream) => {
+            let outcome = close(agent, stream, answer);
+            let left = outcome.streams;
+            agent.streams = left;
+            outcome.reason
+        }
+        Command::Arbitrate(stream, head) => {
+            let outcome = arbitrate(agent, stream, head, answer);
+            let left = outcome.streams;
+            agent.streams = left;
+            outcome.reason
+        }
+        Command::Configure(head, t) => {
+            let configured = configure(agent, head, t, &frame[28..], answer);
+            let rows = configured.rows;
+            agent.rows = rows;
+            agent.count = configured.count;
+            configured.reason
+        }
+        Command::Write(head, atomicity, n) => {
+            let wrote = write(agent, head, atomicity, n, &frame[29..], store, answer);
+            agent.count = wrote.count;
+            wrote.reason
+        }
+        Command::Read(query) => read(agent, query, &frame[10..], store, answer),
+    };
+    Called { agent, reason }
+}
 
 // One call: 2 is tested first, and nothing is written; then 1.
 pub fn call(agent: Agent, frame: &[u8], store: &mut [u8], answer: &mut [u8]) -> Called
@@ -305,22 +365,8 @@ pub fn call(agent: Agent, frame: &[u8], store: &mut [u8], answer: &mut [u8]) -> 
         return Called { agent, reason: 2 };
     }
     let Frame::Asks(command) = frames::read_frame(frame) else {
-        return refuse(agent, 1, answer);
+        write_head(1, 0, answer);
+        return Called { agent, reason: 1 };
     };
-    match command {
-        Command::Open(stream) => open(agent, stream, answer),
-        Command::Close(stream) => close(agent, stream, answer),
-        Command::Arbitrate(stream, head) => arbitrate(agent, stream, head, answer),
-        Command::Configure(head, t) => configure(agent, head, t, &frame[28..], answer),
-        Command::Write(head, atomicity, n) => write(
-            agent,
-            head,
-            atomicity,
-            n,
-            &frame[29..],
-            store,
-            answer,
-        ),
-        Command::Read(query) => read(agent, query, &frame[10..], store, answer),
-    }
+    obey(agent, command, frame, store, answer)
 }

@@ -424,7 +424,8 @@ impl Streams {
         Primary::Nobody
     }
 
-    // Whether the id is set, and is the mark of a role that has a primary: what 10 asks of a call.
+    // Whether the id is set, and is the mark of a role that has a primary: what 10 asks of a call. Its own walk, so that the record
+    // is not copied once more for `primary`: where the id is the mark, an open stream that holds it is the primary.
     pub fn by_primary(self, role: u8, id: ElectionId) -> bool
         ensures { λ r. ⌜ r ≡ rules.byPrimary (streamsOf self) role (idOf id) ⌝ }
     {
@@ -440,11 +441,16 @@ impl Streams {
         if mark.below(id) {
             return false;
         }
-        let p = self.primary(role);
-        match p {
-            Primary::Nobody => false,
-            Primary::Is(_) => true,
+        let mut k: usize = 0;
+        while k < 32 {
+            let s = self.streams[k];
+            let b = s.binding();
+            if b.holds(role, id) {
+                return true;
+            }
+            k += 1;
         }
+        false
     }
 
     // Writes the records of all streams of the role, by rising stream; the number of records.

@@ -6,14 +6,13 @@ use mathlib.Core.Bool.{Bool, true, false, _&&_, _||_, not, false≢true}
 use mathlib.Core.List.{List, [], _∷_, map, append-nil}
 use native.Mathlib.Omega.{arith}
 use lib.Dec.{eqb}
-use lib.ListN.{length}
 use borrow.Author.Tests.{eqb-true, eq-eqb, ne-eqb, not-false}
 use Rattle.rules.specs.Bytes.{if_then_else_, keep, some-of, distinct}
 use Rattle.rules.specs.Frame.{Query, READ}
 use Rattle.rules.specs.Row.{Row, known, rowFor}
 use Rattle.rules.specs.Key.{tableOf, keyOf, hasKey, shortKey}
 use Rattle.rules.specs.Update.{inTable}
-use Rattle.rules.specs.Call.{State, readReason, refusal, accepted, gathered, shown}
+use Rattle.rules.specs.Call.{State, readReason, refusal, accepted, shown}
 use Rattle.rules.specs.Sound.{Sound}
 use Rattle.rules.proofs.Tests.{or-false, and-false, same-true}
 use Rattle.rules.proofs.Orders.{first-clear}

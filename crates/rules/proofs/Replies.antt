@@ -1,8 +1,7 @@
 -- Only a call whose buffers are too short is answered with 2: what any other call answers is written. Assumes nothing.
 use Prim.Native.Nat.{ℕ}
-use mathlib.Core.Path.{_≡_, refl, sym, _∙_, ap}
+use mathlib.Core.Path.{_≡_, refl}
 use mathlib.Core.Bool.{Bool, true, false}
-use mathlib.Core.List.{List, []}
 use native.Mathlib.Omega.{arith}
 use lib.Dec.{eqb}
 use borrow.Author.Tests.{ne-eqb}
@@ -11,7 +10,7 @@ use Rattle.rules.specs.Reason.{first}
 use Rattle.rules.specs.Frame.{Command, cramped, malformed, OPEN, CLOSE, ARBITRATE, CONFIGURE, WRITE, READ}
 use Rattle.rules.specs.Streams.{Stream, closed, unbound, bound, orderOf, streamAt, openStream, closeStream, arbitrateReason, arbitrate}
 use Rattle.rules.specs.Answer.{Answer, answerBytes, replyOf}
-use Rattle.rules.specs.Call.{State, configureReason, writeReason, readReason, refusal, accepted, plain, pairOf, headOf, batchOf, shown, answer, reply}
+use Rattle.rules.specs.Call.{State, configureReason, writeReason, readReason, refusal, accepted, plain, batchOf, shown, answer, reply}
 use Rattle.rules.proofs.Orders.{first-avoids}
 
 -- no refusal but that of `cramped` is 2

@@ -17,10 +17,10 @@ same-length c = search needs
 
 returns : tie.Need-returns
 returns c =
-    let a = c .before .before .before .before .before .before .before .before .args in
-    let o = c .before .before .before .before .before .arbitrate in
+    let a = c .before .before .before .before .before .before .before .args in
+    let o = c .before .before .before .before .arbitrate in
     let p = c .before .before .respond in
-    arbitrate-obeyed (a .agent) (o .result .streams) (o .result .reason) (now (a .answer)) (p .last .1 .1 .1 .0) (o .result .notify) (p .ensures) (a .stream) (headOf (a .head)) (o .ensures)
+    arbitrate-obeyed (a .agent) (o .result) (now (a .answer)) (p .last .1 .0) (p .ensures) (a .stream) (headOf (a .head)) (o .ensures)
 
 pub arbitrate-spec : {M : Type 1} → statement M
 arbitrate-spec = tie.close (tie.spec arbitrate-requires respond-requires same-length returns)

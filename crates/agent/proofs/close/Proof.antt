@@ -16,10 +16,10 @@ same-length c = search needs
 
 returns : tie.Need-returns
 returns c =
-    let a = c .before .before .before .before .before .before .before .before .args in
-    let o = c .before .before .before .before .before .close in
+    let a = c .before .before .before .before .before .before .before .args in
+    let o = c .before .before .before .before .close in
     let p = c .before .before .respond in
-    close-obeyed (a .agent) (o .result .streams) (o .result .reason) (now (a .answer)) (p .last .1 .1 .1 .0) (o .result .notify) (p .ensures) (a .stream) (o .ensures)
+    close-obeyed (a .agent) (o .result) (now (a .answer)) (p .last .1 .0) (p .ensures) (a .stream) (o .ensures)
 
 pub close-spec : {M : Type 1} → statement M
 close-spec = tie.close (tie.spec close-requires respond-requires same-length returns)

@@ -17,7 +17,7 @@ use Rattle.entry_store.specs.Read.{queryReason, Reads}
 use Rattle.entry_store.proofs.Queries.{key-length, reads-all}
 use Rattle.agent.specs.Meaning.{controlOf, stateOf}
 use Rattle.agent.specs.Handlers.{queryIn}
-use Rattle.agent.proofs.Answers.{records-then-head}
+use Rattle.agent.proofs.Answers.{records-then-head, head-alone}
 use Rattle.agent.proofs.Obeying.{read-refused, read-order, was-read, taken, tidy}
 use borrow.Author.Needs.{needs}
 use Rattle.agent.proofs.read.Statement.{statement}
@@ -29,8 +29,8 @@ is-empty-requires c κs = search needs
 read-reason-requires : tie.Need-read-reason-requires
 read-reason-requires c κs = search needs
 
-refuse-requires : tie.Need-refuse-requires
-refuse-requires c κs = search needs
+write-head-requires : tie.Need-write-head-requires
+write-head-requires c κs = search needs
 
 same-length : tie.Need-same-length
 same-length c = search needs
@@ -48,15 +48,15 @@ order e =
 returns : tie.Need-returns
 returns c m k =
     let a = c .before .before .before .before .before .before .before .before .before .before .before .before .before .args in
-    let r = c .before .before .refuse in
-    read-refused (a .agent) (now (a .store)) (now (a .answer)) (r .last .1 .1 .0) (r .result) (c .before .before .before .before .before .read-reason .result) (c .before .before .before .before .if1 .taken) (r .ensures)
-    (queryIn (a .query) (now (a .bytes))) (order (c .before .before .before .before .before) ∙ (rw (ne-eqb _ 0 (c .before .before .before .before .if1 .taken))))
+    let h = c .before .before .write-head in
+    read-refused (a .agent) (now (a .store)) (now (a .answer)) (h .last .1 .1 .0) (c .before .before .before .before .before .read-reason .result) (c .before .before .before .before .if1 .taken)
+    (head-alone _ (now (a .answer)) _ (h .ensures)) (queryIn (a .query) (now (a .bytes))) (order (c .before .before .before .before .before) ∙ (rw (ne-eqb _ 0 (c .before .before .before .before .if1 .taken))))
 
 query-reason-requires : tie.Need-query-reason-requires
 query-reason-requires c κs = search needs
 
-refuse-requires-2 : tie.Need-refuse-requires-2
-refuse-requires-2 c κs = search needs
+write-head-requires-2 : tie.Need-write-head-requires-2
+write-head-requires-2 c κs = search needs
 
 same-length-2 : tie.Need-same-length-2
 same-length-2 c = search needs
@@ -64,9 +64,11 @@ same-length-2 c = search needs
 returns-2 : tie.Need-returns-2
 returns-2 c m k =
     let a = c .before .before .before .before .before .before .before .before .before .before .before .before .before .before .before .args in
-    let r = c .before .before .refuse2 in
-    read-refused (a .agent) (now (a .store)) (now (a .answer)) (r .last .1 .1 .0) (r .result) (c .before .before .before .before .before .query-reason .result) (c .before .before .before .before .if2 .taken) (r .ensures)
-    (queryIn (a .query) (now (a .bytes))) (order (c .before .before .before .before .before .before .before) ∙ (rw (eq-eqb _ 0 (c .before .before .before .before .before .before .if1 .left))) ∙ sym (c .before .before .before .before .before .query-reason .ensures))
+    let h = c .before .before .write-head2 in
+    let w = c .before .before .before .before .before .query-reason in
+    read-refused (a .agent) (now (a .store)) (now (a .answer)) (h .last .1 .1 .0) (w .result) (c .before .before .before .before .if2 .taken)
+    (head-alone _ (now (a .answer)) _ (h .ensures)) (queryIn (a .query) (now (a .bytes)))
+    (order (c .before .before .before .before .before .before .before) ∙ (rw (eq-eqb _ 0 (c .before .before .before .before .before .before .if1 .left))) ∙ sym (w .ensures))
 
 sub-read : tie.Need-sub-read
 sub-read c = search needs
@@ -80,8 +82,8 @@ part-read-end c = search needs
 read-requires : tie.Need-read-requires
 read-requires c κs = search needs
 
-write-head-requires : tie.Need-write-head-requires
-write-head-requires c κs = search needs
+write-head-requires-3 : tie.Need-write-head-requires-3
+write-head-requires-3 c κs = search needs
 
 same-length-3 : tie.Need-same-length-3
 same-length-3 c = search needs
@@ -93,11 +95,10 @@ returns-3 c m k =
     let s = now (a .store) in
     let d = now (a .answer) in
     let r = c .before .before .before .before .before .before .read in
-    let h = c .before .before .write-head in
+    let h = c .before .before .write-head3 in
     let l : length (q .key) ≡ 148 = key-length (now (a .bytes)) (c .before .before .before .before .before .before .before .before .before .before .before .before .before .before .before .before .before .before .before .pre .0) in
     let f : Formed (READ q) = (l, m .0, m .1) in
-    let e : readReason (controlOf (a .agent)) q ≡ 0 =
-    order (c .before .before .before .before .before .before .before .before .before .before .before) ∙ (rw (eq-eqb _ 0 (c .before .before .before .before .before .before .before .before .before .before .if1 .left))) ∙ sym (c .before .before .before .before .before .before .before .before .before .query-reason .ensures) ∙ c .before .before .before .before .before .before .before .before .if2 .left in
+    let e : readReason (controlOf (a .agent)) q ≡ 0 = order (c .before .before .before .before .before .before .before .before .before .before .before) ∙ (rw (eq-eqb _ 0 (c .before .before .before .before .before .before .before .before .before .before .if1 .left))) ∙ sym (c .before .before .before .before .before .before .before .before .before .query-reason .ensures) ∙ c .before .before .before .before .before .before .before .before .if2 .left in
     let es = shown (stateOf (a .agent) s) q in
     let z = shown-sized (stateOf (a .agent) s) q k in
     let t : Reads es (take (length d - 4) (drop 4 d)) (r .last .1 .1 .1 .1 .1 .1 .1 .0) (r .result) =
@@ -106,7 +107,7 @@ returns-3 c m k =
     let big = c .before .before .before .before .before .before .before .before .before .before .before .before .before .before .before .before .before .before .before .pre .2 in
     let w : length (take (length d - 4) (drop 4 d)) ≡ length d - 4 = length-window 4 (length d - 4) d (omega arith) in
     let n = reads-all es (take (length d - 4) (drop 4 d)) (omega (arith, z .1)) t in
-    was-read (a .agent) q s d (h .last .1 .1 .0) (record { agent = a .agent; reason = 0 }) f k e refl refl
+    was-read (a .agent) q s d (h .last .1 .1 .0) e
     (records-then-head 0 (r .result) es d (r .last .1 .1 .1 .1 .1 .1 .1 .0) (h .last .1 .1 .0) (omega arith) (n .0) (r .kept .1 .1 .1 .1 .1 .1 .1 .0) (n .1) (h .ensures))
 
 pub read-spec : {M : Type 1} → statement M
@@ -115,17 +116,17 @@ read-spec =
     (tie.spec
     is-empty-requires
     read-reason-requires
-    refuse-requires
+    write-head-requires
     same-length
     returns
     query-reason-requires
-    refuse-requires-2
+    write-head-requires-2
     same-length-2
     returns-2
     sub-read
     part-read-start
     part-read-end
     read-requires
-    write-head-requires
+    write-head-requires-3
     same-length-3
     returns-3)

@@ -1,6 +1,6 @@
 -- Right because the records stand behind the head. Assumes nothing.
 use denote.Ref.{now}
-use Rattle.arbitration.specs.Meaning.{streamsOf, recordsOf}
+use Rattle.arbitration.specs.Meaning.{outcomeOf}
 use Rattle.agent.proofs.Answers.{records-then-head}
 use borrow.Author.Needs.{needs}
 use Rattle.agent.proofs.respond.Statement.{statement}
@@ -26,10 +26,11 @@ same-length c = search needs
 
 returns : tie.Need-returns
 returns c =
-    let a = c .before .before .before .before .before .before .before .before .before .args in
+    let a = c .before .before .before .before .before .before .before .before .before .before .args in
     let w = c .before .before .before .before .before .before .write-notifications in
-    records-then-head (a .reason) (w .result) (recordsOf (a .notify) (streamsOf (a .streams))) (now (a .answer)) (w .last .1 .1 .0)
-    (c .before .before .write-head .last .1 .1 .0) (search needs) (w .ensures .0) (w .kept .1 .1 .0) (w .ensures .1) (c .before .before .write-head .ensures)
+    let h = c .before .before .write-head in
+    records-then-head (a .outcome .reason) (w .result) (outcomeOf (a .outcome) .records) (now (a .answer)) (w .last .1 .1 .0)
+    (h .last .1 .1 .0) (search needs) (w .ensures .0) (w .kept .1 .1 .0) (w .ensures .1) (h .ensures)
 
 pub respond-spec : {M : Type 1} → statement M
 respond-spec =

@@ -14,8 +14,8 @@ use Rattle.rows.specs.Meaning.{rowsOf}
 use Rattle.entries.specs.Store.{tablesIn}
 use Rattle.entry_store.specs.Update.{updatesIn}
 use Rattle.agent.specs.Meaning.{controlOf, stateOf}
-use Rattle.agent.proofs.Answers.{records-then-head}
-use Rattle.agent.proofs.Obeying.{write-refused, write-order, wrote, tidy}
+use Rattle.agent.proofs.Answers.{records-then-head, head-alone}
+use Rattle.agent.proofs.Obeying.{write-refused, write-order, was-written, tidy}
 use borrow.Author.Needs.{needs}
 use Rattle.agent.proofs.write.Statement.{statement}
 use Rattle.agent.proofs.write.Tie as tie
@@ -29,8 +29,8 @@ is-empty-requires c κs = search needs
 write-reason-requires : tie.Need-write-reason-requires
 write-reason-requires c κs = search needs
 
-refuse-requires : tie.Need-refuse-requires
-refuse-requires c κs = search needs
+write-head-requires : tie.Need-write-head-requires
+write-head-requires c κs = search needs
 
 same-length : tie.Need-same-length
 same-length c = search needs
@@ -45,9 +45,9 @@ order e =
 returns : tie.Need-returns
 returns c k =
     let a = c .before .before .before .before .before .before .before .before .before .before .before .before .before .before .before .args in
-    let r = c .before .before .refuse in
-    write-refused (a .agent) (now (a .store)) (now (a .answer)) (r .last .1 .1 .0) (r .result) (c .before .before .before .before .before .write-reason .result) (c .before .before .before .before .if1 .taken) (r .ensures)
-    (headOf (a .head)) (a .atomicity) (updatesIn (a .n) (now (a .updates))) (order (c .before .before .before .before .before))
+    let h = c .before .before .write-head in
+    write-refused (a .agent) (now (a .store)) (now (a .answer)) (h .last .1 .1 .0) (c .before .before .before .before .before .write-reason .result) (c .before .before .before .before .if1 .taken)
+    (head-alone _ (now (a .answer)) _ (h .ensures)) (headOf (a .head)) (a .atomicity) (updatesIn (a .n) (now (a .updates))) (order (c .before .before .before .before .before))
 
 sub-batch : tie.Need-sub-batch
 sub-batch c = search needs
@@ -64,8 +64,8 @@ batch-requires c κs = search needs
 head-reason-requires : tie.Need-head-reason-requires
 head-reason-requires c κs = search needs
 
-write-head-requires : tie.Need-write-head-requires
-write-head-requires c κs = search needs
+write-head-requires-2 : tie.Need-write-head-requires-2
+write-head-requires-2 c κs = search needs
 
 same-length-2 : tie.Need-same-length-2
 same-length-2 c = search needs
@@ -78,16 +78,17 @@ unfolding stateOf
 returns-2 c k =
     let a = c .before .before .before .before .before .before .before .before .before .before .before .before .before .before .before .before .before .before .before .before .before .before .before .args in
     let b = c .before .before .before .before .before .before .before .before .before .batch in
-    let h = c .before .before .write-head in
+    let g = c .before .before .before .before .head-reason in
+    let h = c .before .before .write-head2 in
     let us = updatesIn (a .n) (now (a .updates)) in
     let t = tidy (a .agent) (now (a .store)) k in
     let rs = batchOf (stateOf (a .agent) (now (a .store))) (headOf (a .head)) us .reasons in
     let n : a .n ≡ length (map pairOf rs) =
     sym (length-map rs pairOf ∙ reasons-count (rowsOf (a .agent .rows)) (a .head .role) (tablesIn (a .agent .count) (now (a .store))) us
     ∙ length-map (parts (a .n) 221 (now (a .updates))) updateOf ∙ parts-count (a .n) 221 (now (a .updates))) in
-    wrote (a .agent) (headOf (a .head)) (a .atomicity) us (now (a .store)) (b .last .1 .1 .0) (now (a .answer)) (h .last .1 .1 .0) (record { agent = _; reason = _ }) (b .result)
-    (order (c .before .before .before .before .before .before .before .before .before .before .before .before .before) ∙ c .before .before .before .before .before .before .before .before .before .before .before .before .if1 .left) (b .ensures .0 t) refl refl (c .before .before .before .before .head-reason .ensures)
-    (records-then-head (c .before .before .before .before .head-reason .result) (a .n) (map pairOf rs) (now (a .answer)) (b .last .1 .1 .1 .1 .1 .1 .0) (h .last .1 .1 .0) (omega (arith, c .before .before .before .before .before .before .before .before .before .before .before .before .before .before .before .before .before .before .before .before .before .before .before .pre .3))
+    was-written (a .agent) (headOf (a .head)) (a .atomicity) us (now (a .store)) (b .last .1 .1 .0) (now (a .answer)) (h .last .1 .1 .0)
+    (record { count = b .result .count; reason = g .result }) (b .result) (order (c .before .before .before .before .before .before .before .before .before .before .before .before .before) ∙ c .before .before .before .before .before .before .before .before .before .before .before .before .if1 .left) (b .ensures .0 t) refl (g .ensures)
+    (records-then-head (g .result) (a .n) (map pairOf rs) (now (a .answer)) (b .last .1 .1 .1 .1 .1 .1 .0) (h .last .1 .1 .0) (omega (arith, c .before .before .before .before .before .before .before .before .before .before .before .before .before .before .before .before .before .before .before .before .before .before .before .pre .3))
     n (b .kept .1 .1 .1 .1 .1 .1 .0) (b .ensures .1 t) (h .ensures))
 
 pub write-spec : {M : Type 1} → statement M
@@ -97,7 +98,7 @@ write-spec =
     by-primary-requires
     is-empty-requires
     write-reason-requires
-    refuse-requires
+    write-head-requires
     same-length
     returns
     sub-batch
@@ -105,7 +106,7 @@ write-spec =
     part-batch-end
     batch-requires
     head-reason-requires
-    write-head-requires
+    write-head-requires-2
     same-length-2
     same-length-3
     returns-2)

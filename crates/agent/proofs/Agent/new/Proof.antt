@@ -1,5 +1,4 @@
 -- Right because there are no streams, rows or entries. Assumes nothing.
-use mathlib.Core.Path.{ap₂}
 use Rattle.rules.specs.Bytes.{parts}
 use Rattle.rules.specs.Call.{fresh}
 use Rattle.agent.specs.Meaning.{stateOf}
