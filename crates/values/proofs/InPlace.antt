@@ -1,7 +1,6 @@
 -- Bytes replaced where they stand: what is written over them is their shortest form, and the rest stays. Assumes nothing.
-use Prim.Native.Nat.{ℕ, zero, suc, _+_, _-_, _*_, _≤_}
+use Prim.Native.Nat.{ℕ, suc, _+_, _-_, _*_, _≤_}
 use native.Mathlib.Nat.{zero-mul}
-use native.Mathlib.Numerals.{add-one}
 use native.Mathlib.Omega.{arith}
 use mathlib.Core.Path.{_≡_, refl, sym, ap, ap₂, _∙_}
 use mathlib.Core.List.{List, [], _∷_, _++_, map, append-nil, append-assoc}
@@ -11,7 +10,7 @@ use Rattle.rules.specs.Bytes.{concat, byte, part, parts}
 use Rattle.rules.specs.Value.{padded, short}
 use Rattle.rules.specs.Key.{kind, shortSlot, shortKey}
 use Rattle.rules.specs.Entry.{parameters, shortEntry}
-use Rattle.rules.proofs.Lists.{part-part}
+use Rattle.rules.proofs.Lists.{part-part, drop-take}
 use Rattle.rules.proofs.Shortest.{part-length, short-length, key-length, key-of-key}
 use Rattle.buffers.specs.Splice.{splice}
 use Rattle.buffers.proofs.Splice.{length-splice, take-splice, drop-splice, splice-none, splice-front, splice-set, splice-next, window-splice}
@@ -52,68 +51,73 @@ splice-end : (d : List ℕ) (a : ℕ) (ys : List ℕ) → a + length ys ≡ leng
 unfolding splice
 splice-end d a ys e = rw (e, drop-length d, append-nil ys)
 
--- ---- parts, one after the other
+-- of two pieces, the second up to the first
+splice-before : (d : List ℕ) (a b : ℕ) (xs ys : List ℕ) → b ≡ a + length ys → b + length xs ≤ length d
+    → splice (splice d b xs) a ys ≡ splice d a (ys ++ xs)
+unfolding splice
+splice-before d a b xs ys e room =
+    let rest : List ℕ = drop (b + length xs) d in
+    let l : length (ys ++ xs) ≡ length ys + length xs = length-append ys xs in
+    let m : b + length xs ≡ a + length (ys ++ xs) = omega arith in
+    ap₂ (λ (x y : List ℕ). x ++ (ys ++ y)) (take-splice a d b xs (omega arith) (omega arith))
+    (ap (λ (n : ℕ). drop n (splice d b xs)) (sym e) ∙ window-splice d b xs (omega arith))
+    ∙ ap (λ (x : List ℕ). take a d ++ x) (sym (append-assoc ys xs rest) ∙ ap (λ (n : ℕ). ys ++ xs ++ drop n d) m)
 
--- one part more
-parts-next : (n w : ℕ) (l : List ℕ) → parts (suc n) w l ≡ parts n w l ++ (part (n * w) w l ∷ [])
+-- what stands before a piece
+part-before : (d xs : List ℕ) (a n b : ℕ) → a + n ≤ b → b ≤ length d → part a n (splice d b xs) ≡ part a n d
+part-before d xs a n b h g =
+    let e : a + n - a ≡ n = omega arith in
+    ap (λ (m : ℕ). take m (drop a (splice d b xs))) (sym e)
+    ∙ sym (drop-take a (a + n) (splice d b xs)) ∙ ap (drop a) (take-splice (a + n) d b xs h g) ∙ drop-take a (a + n) d
+    ∙ ap (λ (m : ℕ). take m (drop a d)) e
+
+-- ---- parts, the last first
+
+-- out is d, with f of each of the n parts of k from place b on, of w bytes, in the place that the part has in k
+pub record Replaced (f : List ℕ → List ℕ) (w : ℕ) (k d : List ℕ) (b n : ℕ) (out : List ℕ) : Type 0 where
+  pub width : length (concat (map f (parts n w (drop b k)))) ≡ n * w
+  pub bytes : out ≡ splice d b (concat (map f (parts n w (drop b k))))
+
+pub replaced-none : (f : List ℕ → List ℕ) (w : ℕ) (k d : List ℕ) (b : ℕ) → Replaced f w k d b 0 d
 unfolding parts
-parts-next zero w l = rw (zero-mul w)
-parts-next (suc n) w l =
-    let e : suc n * w ≡ w + n * w = omega arith in
-    rw (e, ← drop-drop (n * w) w l) (ap {B = List (List ℕ)} (λ x. take w l ∷ x) (parts-next n w (drop w l)))
-
-concat-next : (f : List ℕ → List ℕ) (xs : List (List ℕ)) (x : List ℕ)
-    → concat (map f (xs ++ (x ∷ []))) ≡ concat (map f xs) ++ f x
-concat-next f [] x = append-nil (f x)
-concat-next f (y ∷ xs) x = rw (concat-next f xs x) (sym (append-assoc (f y) (concat (map f xs)) (f x)))
-
-mapped-next : (f : List ℕ → List ℕ) (n w : ℕ) (l : List ℕ)
-    → concat (map f (parts (suc n) w l)) ≡ concat (map f (parts n w l)) ++ f (part (n * w) w l)
-mapped-next f n w l = rw (parts-next n w l) (concat-next f (parts n w l) (part (n * w) w l))
-
--- out is d, with f of each of the first n parts of k from place a, of w bytes, in the place that the part has in k
-pub record Replaced (f : List ℕ → List ℕ) (a w : ℕ) (k d : List ℕ) (n : ℕ) (out : List ℕ) : Type 0 where
-  pub width : length (concat (map f (parts n w (drop a k)))) ≡ n * w
-  pub bytes : out ≡ splice d a (concat (map f (parts n w (drop a k))))
-
-pub replaced-none : (f : List ℕ → List ℕ) (a w : ℕ) (k d : List ℕ) → Replaced f a w k d 0 d
-unfolding parts
-replaced-none f a w k d = record { width = sym (zero-mul w); bytes = splice-none d a }
+replaced-none f w k d b = record { width = sym (zero-mul w); bytes = splice-none d b }
 
 -- d is what there was before with k copied to its start
-module _ (f : List ℕ → List ℕ) (a w : ℕ) (k before d : List ℕ) (copied : d ≡ splice before 0 k) where
-  -- one part more, where f keeps the length
-  pub replaced-next : ((x : List ℕ) → length x ≡ w → length (f x) ≡ w) → (n at : ℕ) (out next : List ℕ) → at ≡ a + n * w
-      → at + w ≤ length k → Replaced f a w k d n out → next ≡ splice out at (f (part at w out)) → Replaced f a w k d (n + 1) next
-  replaced-next keeps n at out next ea inside h new =
-      let xs : List ℕ = concat (map f (parts n w (drop a k))) in
-      let x : List ℕ = part (n * w) w (drop a k) in
+module _ (f : List ℕ → List ℕ) (w : ℕ) (k before d : List ℕ) (copied : d ≡ splice before 0 k) where
+  -- one part more, before the others, where f keeps the length
+  pub replaced-next : ((x : List ℕ) → length x ≡ w → length (f x) ≡ w) → (b at n m : ℕ) (out next : List ℕ) → b ≡ at + w → m ≡ suc n
+      → b + n * w ≤ length k → Replaced f w k d b n out → next ≡ splice out at (f (part at w out)) → Replaced f w k d at m next
+  unfolding parts
+  replaced-next keeps b at n m out next eb em inside h new =
+      let xs : List ℕ = concat (map f (parts n w (drop b k))) in
+      let x : List ℕ = part at w k in
       let rest : List ℕ = drop (length k) before in
       let front : d ≡ k ++ rest = copied ∙ splice-front before k in
       let ld : length d ≡ length k + length rest = ap length front ∙ length-append k rest in
       let lw : length xs ≡ n * w = h .width in
       let lr : w ≤ length (drop at k) = simp length-drop (omega arith) in
+      let lx : length (f x) ≡ w = keeps x (part-length at w k (omega arith)) in
       let there : part at w out ≡ x =
       ap (part at w) (h .bytes)
-      ∙ ap (take w) (drop-splice at d a xs (omega arith) (omega arith) ∙ ap (drop at) front ∙ drop-append-le at k rest (omega arith))
-      ∙ take-append-le w (drop at k) rest lr
-      ∙ ap (take w) (ap (λ (m : ℕ). drop m k) ea ∙ sym (drop-drop (n * w) a k)) in
-      let lx : length (f x) ≡ w = keeps x (part-length (n * w) w (drop a k) (simp length-drop (omega arith))) in
-      let e : concat (map f (parts (n + 1) w (drop a k))) ≡ xs ++ f x = rw (add-one n) (mapped-next f n w (drop a k)) in
-      record {
-        width = ap length e ∙ length-append xs (f x) ∙ omega arith;
+      ∙ part-before d xs at w b (omega arith) (omega arith)
+      ∙ ap (take w) (ap (drop at) front ∙ drop-append-le at k rest (omega arith)) ∙ take-append-le w (drop at k) rest lr in
+      let e : concat (map f (parts (suc n) w (drop at k))) ≡ f x ++ xs =
+      ap (λ (l : List ℕ). f x ++ concat (map f (parts n w l))) (drop-drop w at k ∙ ap (λ (j : ℕ). drop j k) (sym eb)) in
+      rw em
+      (record {
+        width = ap length e ∙ length-append (f x) xs ∙ omega arith;
         bytes =
             new ∙ ap₂ (λ (y z : List ℕ). splice y at (f z)) (h .bytes) there
-            ∙ splice-next d a at xs (f x) (omega arith) (omega arith) ∙ ap (splice d a) (sym e);
-      }
+            ∙ splice-before d at b xs (f x) (omega arith) (omega arith) ∙ ap (splice d at) (sym e);
+      })
 
-  pub replaced-all : (n : ℕ) (out : List ℕ) → a + n * w ≡ length k → Replaced f a w k d n out
-      → out ≡ splice before 0 (take a k ++ concat (map f (parts n w (drop a k))))
-  replaced-all n out e h =
-      let xs : List ℕ = concat (map f (parts n w (drop a k))) in
+  pub replaced-all : (b n : ℕ) (out : List ℕ) → b + n * w ≡ length k → Replaced f w k d b n out
+      → out ≡ splice before 0 (take b k ++ concat (map f (parts n w (drop b k))))
+  replaced-all b n out e h =
+      let xs : List ℕ = concat (map f (parts n w (drop b k))) in
       let lw : length xs ≡ n * w = h .width in
-      h .bytes ∙ ap (λ (x : List ℕ). splice x a xs) copied ∙ splice-within before k a xs (omega arith)
-      ∙ ap (splice before 0) (splice-end k a xs (omega arith))
+      h .bytes ∙ ap (λ (x : List ℕ). splice x b xs) copied ∙ splice-within before k b xs (omega arith)
+      ∙ ap (splice before 0) (splice-end k b xs (omega arith))
 
 -- ---- a value, a slot, a key, an action
 
@@ -143,9 +147,9 @@ value-in-place d ds at few room =
     ∙ take-append-seam ds (drop (at + 1 + length ds) d) in
     rw e (splice-over d (at + 1) at ds (padded ds) (omega arith) (omega arith) (omega arith))
 
--- the two values after a kind, each in its place
+-- the two values after a kind, each in its place, the second first
 pub slot-in-place : (d d₁ d₂ : List ℕ) (at : ℕ) → at + 35 ≤ length d
-    → d₁ ≡ splice d (at + 1) (short (part (at + 1) 17 d)) → d₂ ≡ splice d₁ (at + 18) (short (part (at + 18) 17 d₁))
+    → d₁ ≡ splice d (at + 18) (short (part (at + 18) 17 d)) → d₂ ≡ splice d₁ (at + 1) (short (part (at + 1) 17 d₁))
     → d₂ ≡ splice d at (shortSlot (part at 35 d))
 unfolding shortSlot
 slot-in-place d d₁ d₂ at room e₁ e₂ =
@@ -153,15 +157,16 @@ slot-in-place d d₁ d₂ at room e₁ e₂ =
     let x : List ℕ = short (part (at + 1) 17 d) in
     let y : List ℕ = short (part (at + 18) 17 d) in
     let lx : length x ≡ 17 = short-length (part (at + 1) 17 d) (part-length (at + 1) 17 d (omega arith)) in
+    let ly : length y ≡ 17 = short-length (part (at + 18) 17 d) (part-length (at + 18) 17 d (omega arith)) in
     let ek : byte at d ≡ k = sym (first-byte at 35 d (omega arith)) in
     let kept : d ≡ splice d at (k ∷ []) =
     sym (set-getD d at 0) ∙ ap (set d at) ek ∙ splice-set d at k (omega arith) in
-    let first : d₁ ≡ splice d at (k ∷ x) =
-    e₁ ∙ ap (λ (z : List ℕ). splice z (at + 1) x) kept ∙ splice-next d at (at + 1) (k ∷ []) x refl (omega arith) in
-    let other : part (at + 18) 17 d₁ ≡ part (at + 18) 17 d =
-    ap (part (at + 18) 17) e₁ ∙ ap (take 17) (drop-splice (at + 18) d (at + 1) x (omega arith) (omega arith)) in
-    e₂ ∙ ap₂ (λ (z u : List ℕ). splice z (at + 18) (short u)) first other
-    ∙ splice-next d at (at + 18) (k ∷ x) y (omega arith) (omega arith)
+    let other : part (at + 1) 17 d₁ ≡ part (at + 1) 17 d =
+    ap (part (at + 1) 17) e₁ ∙ part-before d y (at + 1) 17 (at + 18) (omega arith) (omega arith) in
+    e₂ ∙ ap₂ (λ (z u : List ℕ). splice z (at + 1) (short u)) e₁ other
+    ∙ splice-before d (at + 1) (at + 18) y x (omega arith) (omega arith)
+    ∙ ap (λ (z : List ℕ). splice z (at + 1) (x ++ y)) kept
+    ∙ splice-next d at (at + 1) (k ∷ []) (x ++ y) refl (omega arith)
     ∙ ap₂ (λ (u v : List ℕ). splice d at (k ∷ short u ++ short v))
     (sym (part-part at 35 1 17 d (omega arith))) (sym (part-part at 35 18 17 d (omega arith)))
 

@@ -98,21 +98,22 @@ fn shorten_slot(dst: &mut [u8], at: usize)
     requires { ⌜ at + 35 ≤ length (now dst) ⌝ }
     ensures { λ _. ⌜ now (dst .exit) ≡ splice (now (dst .entry)) at (shortSlot (part at 35 (now (dst .entry)))) ⌝ }
 {
-    shorten_at(dst, at + 1);
     shorten_at(dst, at + 18);
+    shorten_at(dst, at + 1);
 }
 
 // Writes the key of an entry, its first 148 bytes, in shortest form. All bytes are copied first, since a copy of a
-// known length needs no loop over bytes; then each value is shortened where it stands.
+// known length needs no loop over bytes; then each value is shortened where it stands, the last first: a value is
+// not read just after zeros were written below it, which was seen to be slow.
 pub fn shorten_key(entry: &[u8], dst: &mut [u8])
     requires { ⌜ (148 ≤ length (now entry)) × (148 ≤ length (now dst)) ⌝ }
     ensures { λ _. ⌜ now (dst .exit) ≡ splice (now (dst .entry)) 0 (shortKey (now (entry .entry))) ⌝ }
 {
     buffers::copy(&entry[0..148], dst);
-    let mut i: usize = 0;
-    while i < 4 {
+    let mut i: usize = 4;
+    while 0 < i {
+        i -= 1;
         shorten_slot(dst, 35 * i + 8);
-        i += 1;
     }
 }
 
@@ -122,10 +123,10 @@ pub fn shorten_action(entry: &[u8], dst: &mut [u8])
     ensures { λ _. ⌜ now (dst .exit) ≡ splice (now (dst .entry)) 0 (drop 148 (shortEntry (now (entry .entry)))) ⌝ }
 {
     buffers::copy(&entry[148..220], dst);
-    let mut i: usize = 0;
-    while i < 4 {
+    let mut i: usize = 4;
+    while 0 < i {
+        i -= 1;
         shorten_at(dst, 17 * i + 4);
-        i += 1;
     }
 }
 

@@ -1,4 +1,4 @@
--- Right because all bytes are copied, and each turn brings one more of the parameters into shortest form where it stands. Assumes nothing.
+-- Right because all bytes are copied, and each turn, the last first, brings one more of the parameters into shortest form where it stands. Assumes nothing.
 use Prim.Native.Nat.{ℕ, _+_, _*_, _-_, _≤_}
 use native.Mathlib.Omega.{arith}
 use mathlib.Core.Path.{_≡_, refl, ap, _∙_}
@@ -16,10 +16,10 @@ use Rattle.values.proofs.shorten_action.Tie as tie
 
 abbrev Inv-loop : tie.InvT-loop
 Inv-loop entry dst₀ i₀ dst i =
-    (i ≤ 4) × (length dst ≡ length dst₀) × Replaced short 4 17 (part 148 72 entry) dst₀ i dst
+    (i ≤ 4) × (length dst ≡ length dst₀) × Replaced short 17 (part 148 72 entry) dst₀ (17 * i + 4) (4 - i) dst
 
 abbrev μ-loop : tie.MeasureT-loop
-μ-loop entry dst₀ i₀ dst i = 4 - i
+μ-loop entry dst₀ i₀ dst i = i
 
 sub-copy : tie.Need-sub-copy Inv-loop μ-loop
 sub-copy c = search needs
@@ -34,7 +34,10 @@ copy-requires : tie.Need-copy-requires Inv-loop μ-loop
 copy-requires c κs = search needs
 
 loop-holds : tie.Need-loop-holds Inv-loop μ-loop
-loop-holds c = (omega arith, refl, replaced-none short 4 17 _ _)
+loop-holds c = (omega arith, refl, replaced-none short 17 _ _ 72)
+
+sub-i : tie.Need-sub-i Inv-loop μ-loop
+sub-i c = search needs
 
 mul-shorten-at : tie.Need-mul-shorten-at Inv-loop μ-loop
 mul-shorten-at c = search needs
@@ -44,9 +47,6 @@ add-shorten-at c = search needs
 
 shorten-at-requires : tie.Need-shorten-at-requires Inv-loop μ-loop
 shorten-at-requires c κs = search needs
-
-add-i : tie.Need-add-i Inv-loop μ-loop
-add-i c = search needs
 
 loop-less : tie.Need-loop-less Inv-loop μ-loop
 loop-less c = search needs
@@ -58,11 +58,12 @@ loop-again c =
     let k : List ℕ = part 148 72 (now (a .entry)) in
     let lk : length k ≡ 72 = part-length 148 72 (now (a .entry)) (omega arith) in
     let m = l .before .before .before .copy in
-    let s = c .before .before .shorten-at in (
+    let s = c .before .before .shorten-at in
+    let i : ℕ = l .loop .i in (
       omega arith,
       s .kept .0 ∙ l .loop .inv .1,
-      replaced-next short 4 17 k (now (a .dst)) (m .last .1 .0) (m .ensures) short-length (l .loop .i) (17 * l .loop .i + 4) (l .loop .dst)
-          (s .last .0) (omega arith) (omega arith) (l .loop .inv .2) (s .ensures),
+      replaced-next short 17 k (now (a .dst)) (m .last .1 .0) (m .ensures) short-length (17 * i + 4) (17 * (i - 1) + 4) (4 - i) (4 - (i - 1))
+          (l .loop .dst) (s .last .0) (omega arith) (omega arith) (omega arith) (l .loop .inv .2) (s .ensures),
     )
 
 same-length : tie.Need-same-length Inv-loop μ-loop
@@ -75,9 +76,10 @@ returns c =
     let k : List ℕ = part 148 72 (now (a .entry)) in
     let lk : length k ≡ 72 = part-length 148 72 (now (a .entry)) (omega arith) in
     let m = l .before .before .before .copy in
-    let e : l .loop .i ≡ 4 = omega arith in
-    replaced-all short 4 17 k (now (a .dst)) (m .last .1 .0) (m .ensures) (l .loop .i) (l .loop .dst) (omega arith) (l .loop .inv .2)
-    ∙ ap (λ (n : ℕ). splice (now (a .dst)) 0 (take 4 k ++ concat (map short (parts n 17 (drop 4 k))))) e
+    let e : l .loop .i ≡ 0 = omega arith in
+    replaced-all short 17 k (now (a .dst)) (m .last .1 .0) (m .ensures) (17 * l .loop .i + 4) (4 - l .loop .i) (l .loop .dst) (omega arith)
+    (l .loop .inv .2)
+    ∙ ap (λ (i : ℕ). splice (now (a .dst)) 0 (take (17 * i + 4) k ++ concat (map short (parts (4 - i) 17 (drop (17 * i + 4) k))))) e
     ∙ ap (splice (now (a .dst)) 0) (action-parts (now (a .entry)) (omega arith))
 
 pub shorten-action-spec : {M : Type 1} → statement M
@@ -91,10 +93,10 @@ shorten-action-spec =
     part-copy-end
     copy-requires
     loop-holds
+    sub-i
     mul-shorten-at
     add-shorten-at
     shorten-at-requires
-    add-i
     loop-less
     loop-again
     same-length

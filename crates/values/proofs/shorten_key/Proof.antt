@@ -1,4 +1,4 @@
--- Right because all bytes are copied, and each turn brings one more of the slots into shortest form where it stands. Assumes nothing.
+-- Right because all bytes are copied, and each turn, the last first, brings one more of the slots into shortest form where it stands. Assumes nothing.
 use Prim.Native.Nat.{ℕ, _+_, _*_, _-_, _≤_}
 use native.Mathlib.Omega.{arith}
 use mathlib.Core.Path.{_≡_, refl, ap, _∙_}
@@ -16,10 +16,10 @@ use Rattle.values.proofs.shorten_key.Tie as tie
 
 abbrev Inv-loop : tie.InvT-loop
 Inv-loop entry dst₀ i₀ dst i =
-    (i ≤ 4) × (length dst ≡ length dst₀) × Replaced shortSlot 8 35 (part 0 148 entry) dst₀ i dst
+    (i ≤ 4) × (length dst ≡ length dst₀) × Replaced shortSlot 35 (part 0 148 entry) dst₀ (35 * i + 8) (4 - i) dst
 
 abbrev μ-loop : tie.MeasureT-loop
-μ-loop entry dst₀ i₀ dst i = 4 - i
+μ-loop entry dst₀ i₀ dst i = i
 
 sub-copy : tie.Need-sub-copy Inv-loop μ-loop
 sub-copy c = search needs
@@ -34,7 +34,10 @@ copy-requires : tie.Need-copy-requires Inv-loop μ-loop
 copy-requires c κs = search needs
 
 loop-holds : tie.Need-loop-holds Inv-loop μ-loop
-loop-holds c = (omega arith, refl, replaced-none shortSlot 8 35 _ _)
+loop-holds c = (omega arith, refl, replaced-none shortSlot 35 _ _ 148)
+
+sub-i : tie.Need-sub-i Inv-loop μ-loop
+sub-i c = search needs
 
 mul-shorten-slot : tie.Need-mul-shorten-slot Inv-loop μ-loop
 mul-shorten-slot c = search needs
@@ -44,9 +47,6 @@ add-shorten-slot c = search needs
 
 shorten-slot-requires : tie.Need-shorten-slot-requires Inv-loop μ-loop
 shorten-slot-requires c κs = search needs
-
-add-i : tie.Need-add-i Inv-loop μ-loop
-add-i c = search needs
 
 loop-less : tie.Need-loop-less Inv-loop μ-loop
 loop-less c = search needs
@@ -58,11 +58,12 @@ loop-again c =
     let k : List ℕ = part 0 148 (now (a .entry)) in
     let lk : length k ≡ 148 = part-length 0 148 (now (a .entry)) (omega arith) in
     let m = l .before .before .before .copy in
-    let s = c .before .before .shorten-slot in (
+    let s = c .before .before .shorten-slot in
+    let i : ℕ = l .loop .i in (
       omega arith,
       s .kept .0 ∙ l .loop .inv .1,
-      replaced-next shortSlot 8 35 k (now (a .dst)) (m .last .1 .0) (m .ensures) slot-length (l .loop .i) (35 * l .loop .i + 8) (l .loop .dst)
-          (s .last .0) (omega arith) (omega arith) (l .loop .inv .2) (s .ensures),
+      replaced-next shortSlot 35 k (now (a .dst)) (m .last .1 .0) (m .ensures) slot-length (35 * i + 8) (35 * (i - 1) + 8) (4 - i) (4 - (i - 1))
+          (l .loop .dst) (s .last .0) (omega arith) (omega arith) (omega arith) (l .loop .inv .2) (s .ensures),
     )
 
 same-length : tie.Need-same-length Inv-loop μ-loop
@@ -75,9 +76,10 @@ returns c =
     let k : List ℕ = part 0 148 (now (a .entry)) in
     let lk : length k ≡ 148 = part-length 0 148 (now (a .entry)) (omega arith) in
     let m = l .before .before .before .copy in
-    let e : l .loop .i ≡ 4 = omega arith in
-    replaced-all shortSlot 8 35 k (now (a .dst)) (m .last .1 .0) (m .ensures) (l .loop .i) (l .loop .dst) (omega arith) (l .loop .inv .2)
-    ∙ ap (λ (n : ℕ). splice (now (a .dst)) 0 (take 8 k ++ concat (map shortSlot (parts n 35 (drop 8 k))))) e
+    let e : l .loop .i ≡ 0 = omega arith in
+    replaced-all shortSlot 35 k (now (a .dst)) (m .last .1 .0) (m .ensures) (35 * l .loop .i + 8) (4 - l .loop .i) (l .loop .dst) (omega arith)
+    (l .loop .inv .2)
+    ∙ ap (λ (i : ℕ). splice (now (a .dst)) 0 (take (35 * i + 8) k ++ concat (map shortSlot (parts (4 - i) 35 (drop (35 * i + 8) k))))) e
     ∙ ap (splice (now (a .dst)) 0) (key-parts (now (a .entry)) (omega arith))
 
 pub shorten-key-spec : {M : Type 1} → statement M
@@ -91,10 +93,10 @@ shorten-key-spec =
     part-copy-end
     copy-requires
     loop-holds
+    sub-i
     mul-shorten-slot
     add-shorten-slot
     shorten-slot-requires
-    add-i
     loop-less
     loop-again
     same-length
