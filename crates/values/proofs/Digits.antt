@@ -1,7 +1,8 @@
 -- Stripping a part of a value is walking over its leading zeros, up to its last byte. Assumes nothing.
 use Prim.Native.Nat.{ℕ, suc, _-_, _<_, _≤_}
+use native.Mathlib.Nat.{add-zero}
 use native.Mathlib.Omega.{arith}
-use mathlib.Core.Path.{_≡_, refl, sym, _∙_}
+use mathlib.Core.Path.{_≡_, refl, sym, ap, _∙_}
 use mathlib.Core.Bool.{Bool, true, false}
 use mathlib.Core.List.{List, [], _∷_}
 use lib.Dec.{eqb}
@@ -10,6 +11,7 @@ use lib.Seq.{drop-cons, take-all}
 use borrow.Author.Tests.{eqb-true, eq-eqb, ne-eqb}
 use Rattle.rules.specs.Bytes.{if_then_else_, byte, part}
 use Rattle.rules.specs.Value.{stripped}
+use Rattle.rules.proofs.Lists.{byte-part}
 
 -- the k + 1 bytes of v from place i, and which of them stay
 module _ (v : List ℕ) (i k : ℕ) (inside : i < length v) where
@@ -39,3 +41,7 @@ rest-all a l = take-all (length l - a) (drop a l) (simp length-drop (omega arith
 -- a count past the end takes the bytes that are there
 pub part-all : (a m n : ℕ) (l : List ℕ) → length (drop a l) ≤ m → m ≤ n → part a m l ≡ part a n l
 part-all a m n l h g = take-all m (drop a l) h ∙ sym (take-all n (drop a l) (omega arith))
+
+-- the first byte of a part
+pub first-byte : (a n : ℕ) (l : List ℕ) → 0 < n → byte 0 (part a n l) ≡ byte a l
+first-byte a n l h = byte-part a n 0 l h ∙ ap (λ (m : ℕ). byte m l) (add-zero a)

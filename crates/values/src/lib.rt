@@ -1,10 +1,9 @@
-// Values of 17 bytes, slots of 35, keys and entries: their shortest form, written where it is wanted
+// Values of 17 bytes, slots of 35, keys and entries: their shortest form, made where they stand
 // (document 01, "Configuration and entries").
 ghost use mathlib.Core.Path.{_≡_};
-ghost use mathlib.Core.List.{map};
 ghost use Prim.Native.Nat.{_+_, _-_, _≤_, _<_};
 ghost use lib.ListN.{length, drop};
-ghost use Rattle.rules.specs.Bytes.{concat, part, parts};
+ghost use Rattle.rules.specs.Bytes.{part};
 ghost use Rattle.rules.specs.Value.{isValue, fits as below, stripped, padded, short};
 ghost use Rattle.rules.specs.Key.{shortSlot, shortKey};
 ghost use Rattle.rules.specs.Entry.{shortEntry};
@@ -35,15 +34,15 @@ pub fn fits(v: &[u8], width: u8) -> bool
     Number::of_value(v).fits(width)
 }
 
-// Where the digits of the shortest form start, in a value of n digits, 1 to 16.
-fn significant(v: &[u8], n: usize) -> usize
-    requires { ⌜ (1 ≤ n) × (n < length (now v)) ⌝ }
+// The place, 1 to n, of the first digit of the shortest form of the value at `at`, which has n digits.
+fn significant(v: &[u8], at: usize, n: usize) -> usize
+    requires { ⌜ (1 ≤ n) × (at + n < length (now v)) ⌝ }
     ensures bounds { λ r. ⌜ (1 ≤ r) × (r ≤ n) ⌝ }
-    ensures digits { λ r. ⌜ stripped (part 1 n (now (v .entry))) ≡ part r (n + 1 - r) (now (v .entry)) ⌝ }
+    ensures digits { λ r. ⌜ stripped (part (at + 1) n (now (v .entry))) ≡ part (at + r) (n + 1 - r) (now (v .entry)) ⌝ }
 {
     let mut i: usize = 1;
     while i < n {
-        if v[i] != 0 {
+        if v[at + i] != 0 {
             return i;
         }
         i += 1;
@@ -51,89 +50,71 @@ fn significant(v: &[u8], n: usize) -> usize
     i
 }
 
-// Writes up to 16 digits as a value over the first 17 bytes of dst.
-fn pad(digits: &[u8], dst: &mut [u8])
-    requires { ⌜ (length (now digits) ≤ 16) × (17 ≤ length (now dst)) ⌝ }
-    ensures { λ _. ⌜ now (dst .exit) ≡ splice (now (dst .entry)) 0 (padded (now (digits .entry))) ⌝ }
+// Moves the digits that stay, of the n digits after `at`, down to the first place; returns how many they are.
+fn strip_at(dst: &mut [u8], at: usize, n: usize) -> usize
+    requires { ⌜ (1 ≤ n) × (at + n < length (now dst)) ⌝ }
+    ensures bound { λ r. ⌜ r ≤ n ⌝ }
+    ensures count { λ r. ⌜ r ≡ length (stripped (part (at + 1) n (now (dst .entry)))) ⌝ }
+    ensures bytes { λ _. ⌜ now (dst .exit) ≡ splice (now (dst .entry)) (at + 1) (stripped (part (at + 1) n (now (dst .entry)))) ⌝ }
 {
-    let n = digits.len();
-    let end = n + 1;
-    dst[0] = n as u8;
-    buffers::copy(digits, &mut dst[1..end]);
-    buffers::clear(&mut dst[end..17]);
+    let first = significant(dst, at, n);
+    if first == 1 {
+        return n;
+    }
+    let digits = n + 1 - first;
+    buffers::move_down(dst, at + 1, at + first, digits);
+    digits
 }
 
-// Writes the shortest form of a value over the first 17 bytes of dst. The zeros of an unused part stay.
-pub fn shorten(v: &[u8], dst: &mut [u8])
-    requires { ⌜ (length (now v) ≡ 17) × (17 ≤ length (now dst)) ⌝ }
-    ensures { λ _. ⌜ now (dst .exit) ≡ splice (now (dst .entry)) 0 (short (now (v .entry))) ⌝ }
+// Makes the digits after `at`, up to 16, a value: their number before them, zeros after them up to the 17th byte.
+fn pad_at(dst: &mut [u8], at: usize, digits: usize)
+    requires { ⌜ (digits ≤ 16) × (at + 17 ≤ length (now dst)) ⌝ }
+    ensures { λ _. ⌜ now (dst .exit) ≡ splice (now (dst .entry)) at (padded (part (at + 1) digits (now (dst .entry)))) ⌝ }
 {
-    let mut n = v[0] as usize;
+    dst[at] = digits as u8;
+    let past = at + digits + 1;
+    let end = at + 17;
+    buffers::clear(&mut dst[past..end]);
+}
+
+// Brings the value at a place into shortest form, where it stands. The zeros of an unused part stay.
+fn shorten_at(dst: &mut [u8], at: usize)
+    requires { ⌜ at + 17 ≤ length (now dst) ⌝ }
+    ensures { λ _. ⌜ now (dst .exit) ≡ splice (now (dst .entry)) at (short (part at 17 (now (dst .entry)))) ⌝ }
+{
+    let mut n = dst[at] as usize;
     if n == 0 {
-        buffers::copy(v, dst);
         return;
     }
     if 16 < n {
         n = 16;
     }
-    let first = significant(v, n);
-    let past = n + 1;
-    pad(&v[first..past], dst);
+    let digits = strip_at(dst, at, n);
+    pad_at(dst, at, digits);
 }
 
-// Writes the shortest form of a value at a place of dst.
-fn shorten_at(v: &[u8], dst: &mut [u8], at: usize)
-    requires { ⌜ (length (now v) ≡ 17) × (at + 17 ≤ length (now dst)) ⌝ }
-    ensures { λ _. ⌜ now (dst .exit) ≡ splice (now (dst .entry)) at (short (now (v .entry))) ⌝ }
+// Brings the slot of 35 bytes at a place into shortest form, where it stands.
+fn shorten_slot(dst: &mut [u8], at: usize)
+    requires { ⌜ at + 35 ≤ length (now dst) ⌝ }
+    ensures { λ _. ⌜ now (dst .exit) ≡ splice (now (dst .entry)) at (shortSlot (part at 35 (now (dst .entry)))) ⌝ }
 {
-    shorten(v, &mut dst[at..]);
+    shorten_at(dst, at + 18);
+    shorten_at(dst, at + 1);
 }
 
-// Writes a slot of 35 bytes in shortest form at a place of dst.
-fn slot_at(slot: &[u8], dst: &mut [u8], at: usize)
-    requires { ⌜ (length (now slot) ≡ 35) × (at + 35 ≤ length (now dst)) ⌝ }
-    ensures { λ _. ⌜ now (dst .exit) ≡ splice (now (dst .entry)) at (shortSlot (now (slot .entry))) ⌝ }
-{
-    dst[at] = slot[0];
-    shorten_at(&slot[1..18], dst, at + 1);
-    shorten_at(&slot[18..35], dst, at + 18);
-}
-
-// Writes four slots, 140 bytes, in shortest form.
-pub fn shorten_slots(src: &[u8], dst: &mut [u8])
-    requires { ⌜ (length (now src) ≡ 140) × (140 ≤ length (now dst)) ⌝ }
-    ensures { λ _. ⌜ now (dst .exit) ≡ splice (now (dst .entry)) 0 (concat (map shortSlot (parts 4 35 (now (src .entry))))) ⌝ }
-{
-    let mut i: usize = 0;
-    while i < 4 {
-        let at = 35 * i;
-        let end = at + 35;
-        slot_at(&src[at..end], dst, at);
-        i += 1;
-    }
-}
-
-// Writes four values, 68 bytes, in shortest form.
-fn shorten_values(src: &[u8], dst: &mut [u8])
-    requires { ⌜ (length (now src) ≡ 68) × (68 ≤ length (now dst)) ⌝ }
-    ensures { λ _. ⌜ now (dst .exit) ≡ splice (now (dst .entry)) 0 (concat (map short (parts 4 17 (now (src .entry))))) ⌝ }
-{
-    let mut i: usize = 0;
-    while i < 4 {
-        let at = 17 * i;
-        let end = at + 17;
-        shorten_at(&src[at..end], dst, at);
-        i += 1;
-    }
-}
-
-// Writes the key of an entry, its first 148 bytes, in shortest form.
+// Writes the key of an entry, its first 148 bytes, in shortest form. All bytes are copied first, since a copy of a
+// known length needs no loop over bytes; then each value is shortened where it stands, the last first: a value is
+// not read just after zeros were written below it, which was seen to be slow.
 pub fn shorten_key(entry: &[u8], dst: &mut [u8])
     requires { ⌜ (148 ≤ length (now entry)) × (148 ≤ length (now dst)) ⌝ }
     ensures { λ _. ⌜ now (dst .exit) ≡ splice (now (dst .entry)) 0 (shortKey (now (entry .entry))) ⌝ }
 {
-    buffers::copy(&entry[0..8], dst);
-    shorten_slots(&entry[8..148], &mut dst[8..]);
+    buffers::copy(&entry[0..148], dst);
+    let mut i: usize = 4;
+    while 0 < i {
+        i -= 1;
+        shorten_slot(dst, 35 * i + 8);
+    }
 }
 
 // Writes the action of an entry of 220 bytes and its parameters, the last 72 bytes, in shortest form.
@@ -141,8 +122,12 @@ pub fn shorten_action(entry: &[u8], dst: &mut [u8])
     requires { ⌜ (length (now entry) ≡ 220) × (72 ≤ length (now dst)) ⌝ }
     ensures { λ _. ⌜ now (dst .exit) ≡ splice (now (dst .entry)) 0 (drop 148 (shortEntry (now (entry .entry)))) ⌝ }
 {
-    buffers::copy(&entry[148..152], dst);
-    shorten_values(&entry[152..220], &mut dst[4..]);
+    buffers::copy(&entry[148..220], dst);
+    let mut i: usize = 4;
+    while 0 < i {
+        i -= 1;
+        shorten_at(dst, 17 * i + 4);
+    }
 }
 
 // Writes an entry of 220 bytes in shortest form.

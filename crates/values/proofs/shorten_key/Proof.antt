@@ -1,79 +1,103 @@
--- Right because the slots are written after table and priority. Assumes nothing.
-use Prim.Native.Nat.{ℕ}
+-- Right because all bytes are copied, and each turn, the last first, brings one more of the slots into shortest form where it stands. Assumes nothing.
+use Prim.Native.Nat.{ℕ, _+_, _*_, _-_, _≤_}
 use native.Mathlib.Omega.{arith}
-use mathlib.Core.Path.{_≡_}
-use mathlib.Core.List.{List, map}
-use lib.ListN.{length}
+use mathlib.Core.Path.{_≡_, refl, ap, _∙_}
+use mathlib.Core.List.{List, _++_, map}
+use lib.ListN.{length, take, drop}
 use denote.Ref.{now}
-use Rattle.rules.specs.Bytes.{concat, part, parts}
-use Rattle.rules.specs.Key.{shortSlot, shortKey}
-use Rattle.rules.proofs.Shortest.{part-length, key-length}
-use Rattle.values.proofs.Pieces.{rest-after, key-parts}
 use borrow.Author.Needs.{needs}
+use Rattle.rules.specs.Bytes.{concat, part, parts}
+use Rattle.rules.specs.Key.{shortSlot}
+use Rattle.rules.proofs.Shortest.{part-length, slot-length}
+use Rattle.buffers.specs.Splice.{splice}
+use Rattle.values.proofs.InPlace.{Replaced, replaced-none, replaced-next, replaced-all, key-parts}
 use Rattle.values.proofs.shorten_key.Statement.{statement}
 use Rattle.values.proofs.shorten_key.Tie as tie
 
-sub-copy : tie.Need-sub-copy
+abbrev Inv-loop : tie.InvT-loop
+Inv-loop entry dst₀ i₀ dst i =
+    (i ≤ 4) × (length dst ≡ length dst₀) × Replaced shortSlot 35 (part 0 148 entry) dst₀ (35 * i + 8) (4 - i) dst
+
+abbrev μ-loop : tie.MeasureT-loop
+μ-loop entry dst₀ i₀ dst i = i
+
+sub-copy : tie.Need-sub-copy Inv-loop μ-loop
 sub-copy c = search needs
 
-part-copy-start : tie.Need-part-copy-start
+part-copy-start : tie.Need-part-copy-start Inv-loop μ-loop
 part-copy-start c = search needs
 
-part-copy-end : tie.Need-part-copy-end
+part-copy-end : tie.Need-part-copy-end Inv-loop μ-loop
 part-copy-end c = search needs
 
-copy-requires : tie.Need-copy-requires
+copy-requires : tie.Need-copy-requires Inv-loop μ-loop
 copy-requires c κs = search needs
 
-sub-shorten-slots : tie.Need-sub-shorten-slots
-sub-shorten-slots c = search needs
+loop-holds : tie.Need-loop-holds Inv-loop μ-loop
+loop-holds c = (omega arith, refl, replaced-none shortSlot 35 _ _ 148)
 
-part-shorten-slots-start : tie.Need-part-shorten-slots-start
-part-shorten-slots-start c = search needs
+sub-i : tie.Need-sub-i Inv-loop μ-loop
+sub-i c = search needs
 
-part-shorten-slots-end : tie.Need-part-shorten-slots-end
-part-shorten-slots-end c = search needs
+mul-shorten-slot : tie.Need-mul-shorten-slot Inv-loop μ-loop
+mul-shorten-slot c = search needs
 
-sub-shorten-slots-2 : tie.Need-sub-shorten-slots-2
-sub-shorten-slots-2 c = search needs
+add-shorten-slot : tie.Need-add-shorten-slot Inv-loop μ-loop
+add-shorten-slot c = search needs
 
-part-shorten-slots-start-2 : tie.Need-part-shorten-slots-start-2
-part-shorten-slots-start-2 c = search needs
+shorten-slot-requires : tie.Need-shorten-slot-requires Inv-loop μ-loop
+shorten-slot-requires c κs = search needs
 
-part-shorten-slots-end-2 : tie.Need-part-shorten-slots-end-2
-part-shorten-slots-end-2 c = search needs
+loop-less : tie.Need-loop-less Inv-loop μ-loop
+loop-less c = search needs
 
-shorten-slots-requires : tie.Need-shorten-slots-requires
-shorten-slots-requires c κs = search needs
+loop-again : tie.Need-loop-again Inv-loop μ-loop
+loop-again c =
+    let l = c .before .before .before .before .before in
+    let a = l .before .before .before .before .before .before .before .before .args in
+    let k : List ℕ = part 0 148 (now (a .entry)) in
+    let lk : length k ≡ 148 = part-length 0 148 (now (a .entry)) (omega arith) in
+    let m = l .before .before .before .copy in
+    let s = c .before .before .shorten-slot in
+    let i : ℕ = l .loop .i in (
+      omega arith,
+      s .kept .0 ∙ l .loop .inv .1,
+      replaced-next shortSlot 35 k (now (a .dst)) (m .last .1 .0) (m .ensures) slot-length (35 * i + 8) (35 * (i - 1) + 8) (4 - i) (4 - (i - 1))
+          (l .loop .dst) (s .last .0) (omega arith) (omega arith) (omega arith) (l .loop .inv .2) (s .ensures),
+    )
 
-same-length : tie.Need-same-length
+same-length : tie.Need-same-length Inv-loop μ-loop
 same-length c = search needs
 
-returns : tie.Need-returns
+returns : tie.Need-returns Inv-loop μ-loop
 returns c =
-    let k = c .before .before .before .before .before .before .before in
-    let a = k .before .before .before .before .before .args in
-    let e : List ℕ = now (a .entry) in
-    let l : length (shortKey e) ≡ 148 = key-length e (omega arith) in
-    let s = c .before .before .shorten-slots in
-    rest-after (now (a .dst)) (k .copy .last .1 .0) (s .last .1 .0)
-    (part 0 8 e) (concat (map shortSlot (parts 4 35 (part 8 140 e)))) (shortKey e) 8
-    (part-length 0 8 e (omega arith)) (key-parts e (omega arith)) (omega arith) (k .copy .ensures) (s .ensures)
+    let l = c .before in
+    let a = l .before .before .before .before .before .before .before .before .args in
+    let k : List ℕ = part 0 148 (now (a .entry)) in
+    let lk : length k ≡ 148 = part-length 0 148 (now (a .entry)) (omega arith) in
+    let m = l .before .before .before .copy in
+    let e : l .loop .i ≡ 0 = omega arith in
+    replaced-all shortSlot 35 k (now (a .dst)) (m .last .1 .0) (m .ensures) (35 * l .loop .i + 8) (4 - l .loop .i) (l .loop .dst) (omega arith)
+    (l .loop .inv .2)
+    ∙ ap (λ (i : ℕ). splice (now (a .dst)) 0 (take (35 * i + 8) k ++ concat (map shortSlot (parts (4 - i) 35 (drop (35 * i + 8) k))))) e
+    ∙ ap (splice (now (a .dst)) 0) (key-parts (now (a .entry)) (omega arith))
 
 pub shorten-key-spec : {M : Type 1} → statement M
 shorten-key-spec =
     tie.close
     (tie.spec
+    Inv-loop
+    μ-loop
     sub-copy
     part-copy-start
     part-copy-end
     copy-requires
-    sub-shorten-slots
-    part-shorten-slots-start
-    part-shorten-slots-end
-    sub-shorten-slots-2
-    part-shorten-slots-start-2
-    part-shorten-slots-end-2
-    shorten-slots-requires
+    loop-holds
+    sub-i
+    mul-shorten-slot
+    add-shorten-slot
+    shorten-slot-requires
+    loop-less
+    loop-again
     same-length
     returns)

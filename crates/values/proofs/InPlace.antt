@@ -1,0 +1,186 @@
+-- Bytes replaced where they stand: what is written over them is their shortest form, and the rest stays. Assumes nothing.
+use Prim.Native.Nat.{ℕ, suc, _+_, _-_, _*_, _≤_}
+use native.Mathlib.Nat.{zero-mul}
+use native.Mathlib.Omega.{arith}
+use mathlib.Core.Path.{_≡_, refl, sym, ap, ap₂, _∙_}
+use mathlib.Core.List.{List, [], _∷_, _++_, map, append-nil, append-assoc}
+use lib.ListN.{length, take, drop, set, replicate, length-append, length-drop, length-set, length-replicate, take-append-drop}
+use lib.Seq.{take-all, drop-length, take-append-seam, take-append-le, drop-append-le, drop-at, drop-drop, drop-set-lt, set-getD}
+use Rattle.rules.specs.Bytes.{concat, byte, part, parts}
+use Rattle.rules.specs.Value.{padded, short}
+use Rattle.rules.specs.Key.{kind, shortSlot, shortKey}
+use Rattle.rules.specs.Entry.{parameters, shortEntry}
+use Rattle.rules.proofs.Lists.{part-part, drop-take}
+use Rattle.rules.proofs.Shortest.{part-length, short-length, key-length, key-of-key}
+use Rattle.buffers.specs.Splice.{splice}
+use Rattle.buffers.proofs.Splice.{length-splice, take-splice, drop-splice, splice-none, splice-front, splice-set, splice-next, window-splice}
+use Rattle.values.proofs.Digits.{first-byte}
+
+-- ---- pieces over what stands there
+
+-- what stands at a place, written there
+pub splice-same : (d : List ℕ) (a n : ℕ) → a + n ≤ length d → splice d a (part a n d) ≡ d
+unfolding splice
+splice-same d a n h =
+    let l : length (part a n d) ≡ n = part-length a n d h in
+    rw (l, ← drop-drop n a d, take-append-drop n (drop a d)) (take-append-drop a d)
+
+-- of two pieces, the second over all of the first
+splice-over : (d : List ℕ) (a b : ℕ) (xs ys : List ℕ) → b ≤ a → a + length xs ≤ b + length ys → a ≤ length d
+    → splice (splice d a xs) b ys ≡ splice d b ys
+unfolding splice
+splice-over d a b xs ys h g r =
+    ap₂ (λ (x y : List ℕ). x ++ (ys ++ y)) (take-splice b d a xs h r) (drop-splice (b + length ys) d a xs g r)
+
+-- a piece within one that was written to the start
+splice-front-within : (xs rest : List ℕ) (a : ℕ) (ys : List ℕ) → a + length ys ≤ length xs
+    → splice (xs ++ rest) a ys ≡ splice xs a ys ++ rest
+unfolding splice
+splice-front-within xs rest a ys h =
+    rw (take-append-le a xs rest (omega arith), drop-append-le (a + length ys) xs rest h) (simp append-assoc)
+
+splice-within : (d xs : List ℕ) (a : ℕ) (ys : List ℕ) → a + length ys ≤ length xs
+    → splice (splice d 0 xs) a ys ≡ splice d 0 (splice xs a ys)
+splice-within d xs a ys h =
+    ap (λ (x : List ℕ). splice x a ys) (splice-front d xs)
+    ∙ splice-front-within xs (drop (length xs) d) a ys h
+    ∙ sym (splice-front d (splice xs a ys) ∙ ap (λ (n : ℕ). splice xs a ys ++ drop n d) (length-splice xs a ys h))
+
+-- a piece up to the end
+splice-end : (d : List ℕ) (a : ℕ) (ys : List ℕ) → a + length ys ≡ length d → splice d a ys ≡ take a d ++ ys
+unfolding splice
+splice-end d a ys e = rw (e, drop-length d, append-nil ys)
+
+-- of two pieces, the second up to the first
+splice-before : (d : List ℕ) (a b : ℕ) (xs ys : List ℕ) → b ≡ a + length ys → b + length xs ≤ length d
+    → splice (splice d b xs) a ys ≡ splice d a (ys ++ xs)
+unfolding splice
+splice-before d a b xs ys e room =
+    let rest : List ℕ = drop (b + length xs) d in
+    let l : length (ys ++ xs) ≡ length ys + length xs = length-append ys xs in
+    let m : b + length xs ≡ a + length (ys ++ xs) = omega arith in
+    ap₂ (λ (x y : List ℕ). x ++ (ys ++ y)) (take-splice a d b xs (omega arith) (omega arith))
+    (ap (λ (n : ℕ). drop n (splice d b xs)) (sym e) ∙ window-splice d b xs (omega arith))
+    ∙ ap (λ (x : List ℕ). take a d ++ x) (sym (append-assoc ys xs rest) ∙ ap (λ (n : ℕ). ys ++ xs ++ drop n d) m)
+
+-- what stands before a piece
+part-before : (d xs : List ℕ) (a n b : ℕ) → a + n ≤ b → b ≤ length d → part a n (splice d b xs) ≡ part a n d
+part-before d xs a n b h g =
+    let e : a + n - a ≡ n = omega arith in
+    ap (λ (m : ℕ). take m (drop a (splice d b xs))) (sym e)
+    ∙ sym (drop-take a (a + n) (splice d b xs)) ∙ ap (drop a) (take-splice (a + n) d b xs h g) ∙ drop-take a (a + n) d
+    ∙ ap (λ (m : ℕ). take m (drop a d)) e
+
+-- ---- parts, the last first
+
+-- out is d, with f of each of the n parts of k from place b on, of w bytes, in the place that the part has in k
+pub record Replaced (f : List ℕ → List ℕ) (w : ℕ) (k d : List ℕ) (b n : ℕ) (out : List ℕ) : Type 0 where
+  pub width : length (concat (map f (parts n w (drop b k)))) ≡ n * w
+  pub bytes : out ≡ splice d b (concat (map f (parts n w (drop b k))))
+
+pub replaced-none : (f : List ℕ → List ℕ) (w : ℕ) (k d : List ℕ) (b : ℕ) → Replaced f w k d b 0 d
+unfolding parts
+replaced-none f w k d b = record { width = sym (zero-mul w); bytes = splice-none d b }
+
+-- d is what there was before with k copied to its start
+module _ (f : List ℕ → List ℕ) (w : ℕ) (k before d : List ℕ) (copied : d ≡ splice before 0 k) where
+  -- one part more, before the others, where f keeps the length
+  pub replaced-next : ((x : List ℕ) → length x ≡ w → length (f x) ≡ w) → (b at n m : ℕ) (out next : List ℕ) → b ≡ at + w → m ≡ suc n
+      → b + n * w ≤ length k → Replaced f w k d b n out → next ≡ splice out at (f (part at w out)) → Replaced f w k d at m next
+  unfolding parts
+  replaced-next keeps b at n m out next eb em inside h new =
+      let xs : List ℕ = concat (map f (parts n w (drop b k))) in
+      let x : List ℕ = part at w k in
+      let rest : List ℕ = drop (length k) before in
+      let front : d ≡ k ++ rest = copied ∙ splice-front before k in
+      let ld : length d ≡ length k + length rest = ap length front ∙ length-append k rest in
+      let lw : length xs ≡ n * w = h .width in
+      let lr : w ≤ length (drop at k) = simp length-drop (omega arith) in
+      let lx : length (f x) ≡ w = keeps x (part-length at w k (omega arith)) in
+      let there : part at w out ≡ x =
+      ap (part at w) (h .bytes)
+      ∙ part-before d xs at w b (omega arith) (omega arith)
+      ∙ ap (take w) (ap (drop at) front ∙ drop-append-le at k rest (omega arith)) ∙ take-append-le w (drop at k) rest lr in
+      let e : concat (map f (parts (suc n) w (drop at k))) ≡ f x ++ xs =
+      ap (λ (l : List ℕ). f x ++ concat (map f (parts n w l))) (drop-drop w at k ∙ ap (λ (j : ℕ). drop j k) (sym eb)) in
+      rw em
+      (record {
+        width = ap length e ∙ length-append (f x) xs ∙ omega arith;
+        bytes =
+            new ∙ ap₂ (λ (y z : List ℕ). splice y at (f z)) (h .bytes) there
+            ∙ splice-before d at b xs (f x) (omega arith) (omega arith) ∙ ap (splice d at) (sym e);
+      })
+
+  pub replaced-all : (b n : ℕ) (out : List ℕ) → b + n * w ≡ length k → Replaced f w k d b n out
+      → out ≡ splice before 0 (take b k ++ concat (map f (parts n w (drop b k))))
+  replaced-all b n out e h =
+      let xs : List ℕ = concat (map f (parts n w (drop b k))) in
+      let lw : length xs ≡ n * w = h .width in
+      h .bytes ∙ ap (λ (x : List ℕ). splice x b xs) copied ∙ splice-within before k b xs (omega arith)
+      ∙ ap (splice before 0) (splice-end k b xs (omega arith))
+
+-- ---- a value, a slot, a key, an action
+
+-- a count before n digits, and zeros after them
+pub pad-in-place : (d : List ℕ) (at n : ℕ) → n ≤ 16 → at + 17 ≤ length d
+    → splice (set d at n) (at + n + 1) (replicate (16 - n) 0) ≡ splice d at (padded (part (at + 1) n d))
+pad-in-place d at n few room =
+    let ds : List ℕ = part (at + 1) n d in
+    let l : length ds ≡ n = part-length (at + 1) n d (omega arith) in
+    let ls : length (set d at n) ≡ length d = length-set d at n in
+    let kept : part (at + 1) n (set d at n) ≡ ds = ap (take n) (drop-set-lt (at + 1) d at n (omega arith)) in
+    let front : set d at n ≡ splice d at (n ∷ ds) =
+    sym (splice-same (set d at n) (at + 1) n (omega arith))
+    ∙ ap₂ (λ (x y : List ℕ). splice x (at + 1) y) (splice-set d at n (omega arith)) kept
+    ∙ splice-next d at (at + 1) (n ∷ []) ds refl (omega arith) in
+    ap (λ (x : List ℕ). splice x (at + n + 1) (replicate (16 - n) 0)) front
+    ∙ splice-next d at (at + n + 1) (n ∷ ds) (replicate (16 - n) 0) (omega arith) (omega arith)
+    ∙ ap (λ (m : ℕ). splice d at (m ∷ ds ++ replicate (16 - m) 0)) (sym l)
+
+-- digits moved to their place, then padded
+pub value-in-place : (d ds : List ℕ) (at : ℕ) → length ds ≤ 16 → at + 17 ≤ length d
+    → splice (splice d (at + 1) ds) at (padded (part (at + 1) (length ds) (splice d (at + 1) ds))) ≡ splice d at (padded ds)
+value-in-place d ds at few room =
+    let l : length (padded ds) ≡ 17 = simp (length-append, length-replicate) (omega arith) in
+    let e : part (at + 1) (length ds) (splice d (at + 1) ds) ≡ ds =
+    ap (take (length ds)) (window-splice d (at + 1) ds (omega arith))
+    ∙ take-append-seam ds (drop (at + 1 + length ds) d) in
+    rw e (splice-over d (at + 1) at ds (padded ds) (omega arith) (omega arith) (omega arith))
+
+-- the two values after a kind, each in its place, the second first
+pub slot-in-place : (d d₁ d₂ : List ℕ) (at : ℕ) → at + 35 ≤ length d
+    → d₁ ≡ splice d (at + 18) (short (part (at + 18) 17 d)) → d₂ ≡ splice d₁ (at + 1) (short (part (at + 1) 17 d₁))
+    → d₂ ≡ splice d at (shortSlot (part at 35 d))
+unfolding shortSlot
+slot-in-place d d₁ d₂ at room e₁ e₂ =
+    let k : ℕ = kind (part at 35 d) in
+    let x : List ℕ = short (part (at + 1) 17 d) in
+    let y : List ℕ = short (part (at + 18) 17 d) in
+    let lx : length x ≡ 17 = short-length (part (at + 1) 17 d) (part-length (at + 1) 17 d (omega arith)) in
+    let ly : length y ≡ 17 = short-length (part (at + 18) 17 d) (part-length (at + 18) 17 d (omega arith)) in
+    let ek : byte at d ≡ k = sym (first-byte at 35 d (omega arith)) in
+    let kept : d ≡ splice d at (k ∷ []) =
+    sym (set-getD d at 0) ∙ ap (set d at) ek ∙ splice-set d at k (omega arith) in
+    let other : part (at + 1) 17 d₁ ≡ part (at + 1) 17 d =
+    ap (part (at + 1) 17) e₁ ∙ part-before d y (at + 1) 17 (at + 18) (omega arith) (omega arith) in
+    e₂ ∙ ap₂ (λ (z u : List ℕ). splice z (at + 1) (short u)) e₁ other
+    ∙ splice-before d (at + 1) (at + 18) y x (omega arith) (omega arith)
+    ∙ ap (λ (z : List ℕ). splice z (at + 1) (x ++ y)) kept
+    ∙ splice-next d at (at + 1) (k ∷ []) (x ++ y) refl (omega arith)
+    ∙ ap₂ (λ (u v : List ℕ). splice d at (k ∷ short u ++ short v))
+    (sym (part-part at 35 1 17 d (omega arith))) (sym (part-part at 35 18 17 d (omega arith)))
+
+-- the key, the first 148 bytes of an entry
+pub key-parts : (e : List ℕ) → 148 ≤ length e
+    → take 8 (part 0 148 e) ++ concat (map shortSlot (parts 4 35 (drop 8 (part 0 148 e)))) ≡ shortKey e
+unfolding shortKey
+key-parts e h = key-of-key e h
+
+-- the action and its parameters, the last 72 bytes of an entry
+pub action-parts : (e : List ℕ) → length e ≡ 220
+    → take 4 (part 148 72 e) ++ concat (map short (parts 4 17 (drop 4 (part 148 72 e)))) ≡ drop 148 (shortEntry e)
+unfolding shortEntry
+action-parts e h =
+    let l : length (drop 148 e) ≤ 72 = simp length-drop (omega arith) in
+    rw (take-all 72 (drop 148 e) l, drop-drop 4 148 e, append-assoc)
+    (sym (drop-at (shortKey e) (part 148 4 e ++ concat (map short (parameters e))) 148 (key-length e (omega arith))))
