@@ -4,7 +4,7 @@ use Prim.Native.Nat.{ℕ, _+_, _*_, _/_, _≤_, _<_, min}
 use native.Mathlib.Omega.{arith}
 use native.Mathlib.Numerals.{add-one}
 use mathlib.Core.Path.{_≡_, sym, ap, _∙_}
-use mathlib.Core.Bool.{Bool}
+use mathlib.Core.Bool.{Bool, false, true≢false}
 use mathlib.Core.List.{List, [], _∷_}
 use mathlib.Core.Option.{Option, none, some}
 use lib.ListN.{length, take, drop, drop-of-length-le}
@@ -14,11 +14,12 @@ use Rattle.rules.specs.Bytes.{if_then_else_, keep, concat, part, number, int, s
 use Rattle.rules.specs.Key.{tableOf, hasKey}
 use Rattle.rules.specs.Update.{inTable, held as heldIn}
 use Rattle.rules.proofs.Formed.{parts-count}
+use Rattle.rules.proofs.Tests.{eq-same, ne-same}
 use Rattle.buffers.specs.Splice.{splice}
 use Rattle.buffers.proofs.Splice.{length-window}
 use Rattle.buffers.proofs.Written.{Written, written-none, written-next, written-same, written-length}
 use Rattle.entries.specs.Store.{entriesIn, tablesIn, placeFrom}
-use Rattle.rules.proofs.Lists.{parts-from}
+use Rattle.rules.proofs.Lists.{parts-from, part-part}
 
 none-left : (count i : ℕ) (s : List ℕ) → count ≤ i → drop i (entriesIn count s) ≡ []
 none-left count i s h = drop-of-length-le (entriesIn count s) {i = i} (omega (arith, parts-count count 220 s))
@@ -28,6 +29,10 @@ none-left count i s h = drop-of-length-le (entriesIn count s) {i = i} (omega (ar
 -- an entry's key is its first 148 bytes
 key-at : (a : ℕ) (s k : List ℕ) → hasKey k (part a 220 s) ≡ same (part a 148 s) k
 key-at a s k = ap (λ (x : List ℕ). same x k) (take-take 148 220 (drop a s) (omega arith))
+
+-- keys that differ in one word differ
+pub word-differs : (a i : ℕ) (s k : List ℕ) → i + 8 ≤ 148 → same (part (a + i) 8 s) (part i 8 k) ≡ false → same (part a 148 s) k ≡ false
+word-differs a i s k h d = ne-same (λ z. true≢false (sym (eq-same (sym (part-part a 148 i 8 s h) ∙ ap (part i 8) z)) ∙ d))
 
 module _ (count : ℕ) (s k : List ℕ) where
   -- what searching the entries from i on finds

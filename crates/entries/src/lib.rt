@@ -2,7 +2,7 @@
 ghost use mathlib.Core.Path.{_≡_};
 ghost use Prim.Native.Nat.{_+_, _*_, _-_, _/_, _≤_, _<_, min};
 ghost use lib.ListN.{length, take};
-ghost use Rattle.rules.specs.Bytes.{keep, concat};
+ghost use Rattle.rules.specs.Bytes.{keep, concat, part, same};
 ghost use Rattle.rules.specs.Update.{inTable, held as heldIn};
 ghost use Rattle.buffers.specs.Splice.{splice};
 ghost use Rattle.entries.specs.Store.{entriesIn, tablesIn, place, placeOf, without, Left};
@@ -14,6 +14,25 @@ pub enum Found {
     Absent,
 }
 
+// Whether the entry at a place has the key. First the words where the keys of one table mostly differ, the first and the last digits
+// of the first slot and the end of the last slot; then all bytes.
+fn has_key(store: &[u8], at: usize, key: &[u8]) -> bool
+    requires { ⌜ (at + 148 ≤ length (now store)) × (length (now key) ≡ 148) ⌝ }
+    ensures { λ r. ⌜ r ≡ same (part at 148 (now (store .entry))) (now (key .entry)) ⌝ }
+{
+    if !buffers::equal_eight(store, at + 8, key, 8) {
+        return false;
+    }
+    if !buffers::equal_eight(store, at + 18, key, 18) {
+        return false;
+    }
+    if !buffers::equal_eight(store, at + 140, key, 140) {
+        return false;
+    }
+    let end = at + 148;
+    buffers::equal(&store[at..end], key)
+}
+
 // The place of the entry that has the key, 148 bytes in shortest form.
 pub fn find(store: &[u8], count: usize, key: &[u8]) -> Found
     requires { ⌜ (220 * count ≤ length (now store)) × (length (now key) ≡ 148) ⌝ }
@@ -21,9 +40,7 @@ pub fn find(store: &[u8], count: usize, key: &[u8]) -> Found
 {
     let mut i: usize = 0;
     while i < count {
-        let at = 220 * i;
-        let end = at + 148;
-        if buffers::equal(&store[at..end], key) {
+        if has_key(store, 220 * i, key) {
             return Found::At(i);
         }
         i += 1;

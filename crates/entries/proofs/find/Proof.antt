@@ -21,32 +21,19 @@ abbrev μ-loop : tie.MeasureT-loop
 loop-holds : tie.Need-loop-holds Inv-loop μ-loop
 loop-holds c = (omega arith, refl)
 
-mul-at : tie.Need-mul-at Inv-loop μ-loop
-mul-at c = search needs
+mul-has-key : tie.Need-mul-has-key Inv-loop μ-loop
+mul-has-key c = search needs
 
-add-end : tie.Need-add-end Inv-loop μ-loop
-add-end c = search needs
-
-sub-equal : tie.Need-sub-equal Inv-loop μ-loop
-sub-equal c = search needs
-
-part-equal-start : tie.Need-part-equal-start Inv-loop μ-loop
-part-equal-start c = search needs
-
-part-equal-end : tie.Need-part-equal-end Inv-loop μ-loop
-part-equal-end c = search needs
-
-equal-requires : tie.Need-equal-requires Inv-loop μ-loop
-equal-requires c κs = search needs
+has-key-requires : tie.Need-has-key-requires Inv-loop μ-loop
+has-key-requires c κs = search needs
 
 returns : tie.Need-returns Inv-loop μ-loop
 returns c =
-    let l = c .before .before .before .before in
+    let l = c .before .before .before in
     let a = l .before .before .before .args in
     let s : List ℕ = now (a .store) in
     let i : ℕ = l .loop .i in
-    let w : 220 * i + 148 - 220 * i ≡ 148 = omega arith in
-    let t : same (part (220 * i) 148 s) (now (a .key)) ≡ true = rw w at (sym (c .before .equal .ensures) ∙ c .if1 .taken) in
+    let t : same (part (220 * i) 148 s) (now (a .key)) ≡ true = sym (c .before .has-key .ensures) ∙ c .if1 .taken in
     sym (l .loop .inv .1 ∙ searched-next (a .count) s (now (a .key)) i true (omega arith) t)
 
 add-i : tie.Need-add-i Inv-loop μ-loop
@@ -57,12 +44,11 @@ loop-less c = search needs
 
 loop-again : tie.Need-loop-again Inv-loop μ-loop
 loop-again c =
-    let l = c .before .before .before .before in
+    let l = c .before .before .before in
     let a = l .before .before .before .args in
     let s : List ℕ = now (a .store) in
     let i : ℕ = l .loop .i in
-    let w : 220 * i + 148 - 220 * i ≡ 148 = omega arith in
-    let t : same (part (220 * i) 148 s) (now (a .key)) ≡ false = rw w at (sym (c .before .equal .ensures) ∙ c .if1 .left) in
+    let t : same (part (220 * i) 148 s) (now (a .key)) ≡ false = sym (c .before .has-key .ensures) ∙ c .if1 .left in
     (omega arith, l .loop .inv .1 ∙ searched-next (a .count) s (now (a .key)) i false (omega arith) t)
 
 returns-2 : tie.Need-returns-2 Inv-loop μ-loop
@@ -78,12 +64,8 @@ find-spec =
     Inv-loop
     μ-loop
     loop-holds
-    mul-at
-    add-end
-    sub-equal
-    part-equal-start
-    part-equal-end
-    equal-requires
+    mul-has-key
+    has-key-requires
     returns
     add-i
     loop-less
