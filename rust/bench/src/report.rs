@@ -26,7 +26,7 @@ pub fn document(benches: &[Bench], plan: Plan) -> String {
         format!(
             "## Plots\n\nFull lines are keys that differ early, dashed ones late.\n\n{plots}\n"
         ),
-        "## Copies per call\n\n(to be filled in)\n".to_owned(),
+        "## Copies, and what stays above 1.00\n\n`SPEED.md` counts the copies of memory in a call, and says of the cases above 1.00 why they are.\n".to_owned(),
     ]
     .concat()
 }
