@@ -19,7 +19,10 @@ static void count(size_t size) {
     while (k < kinds && seen[k].size != size) {
         k++;
     }
-    if (k == kinds && kinds < sizeof seen / sizeof seen[0]) {
+    if (k == sizeof seen / sizeof seen[0]) {
+        return; /* more sizes than any call has */
+    }
+    if (k == kinds) {
         seen[kinds].size = size;
         seen[kinds++].times = 0;
     }
