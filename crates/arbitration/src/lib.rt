@@ -172,6 +172,12 @@ pub enum Primary {
     Is(u8),
 }
 
+// What the streams of a role are told of it.
+struct Standing {
+    primary: Primary,
+    mark: ElectionId,
+}
+
 // Who is to be notified of an event: nobody, one stream of a role, or all streams of a role.
 pub enum Notify {
     None,
@@ -400,28 +406,49 @@ impl Streams {
         self.marks[k]
     }
 
-    // The primary of the role.
-    pub fn primary(self, role: u8) -> Primary
-        ensures { λ r. ⌜ primaryOf r ≡ rules.primary (streamsOf self) role ⌝ }
+    // The primary of the role and its mark, by one walk.
+    fn standing(self, role: u8) -> Standing
+        ensures primary { λ r. ⌜ primaryOf (r .primary) ≡ rules.primary (streamsOf self) role ⌝ }
+        ensures mark { λ r. ⌜ idOf (r .mark) ≡ rules.markOf (streamsOf self) role ⌝ }
     {
         let r = role as usize;
         if 8 <= r {
-            return Primary::Nobody;
+            return Standing {
+                primary: Primary::Nobody,
+                mark: ElectionId::UNSET,
+            };
         }
         let mark = self.marks[r];
         if !mark.is_set() {
-            return Primary::Nobody;
+            return Standing {
+                primary: Primary::Nobody,
+                mark,
+            };
         }
         let mut k: usize = 0;
         while k < 32 {
             let s = self.streams[k];
             let b = s.binding();
             if b.holds(role, mark) {
-                return Primary::Is(k as u8);
+                return Standing {
+                    primary: Primary::Is(k as u8),
+                    mark,
+                };
             }
             k += 1;
         }
-        Primary::Nobody
+        Standing {
+            primary: Primary::Nobody,
+            mark,
+        }
+    }
+
+    // The primary of the role.
+    pub fn primary(self, role: u8) -> Primary
+        ensures { λ r. ⌜ primaryOf r ≡ rules.primary (streamsOf self) role ⌝ }
+    {
+        let now = self.standing(role);
+        now.primary
     }
 
     // Whether the id is set, and is the mark of a role that has a primary: what 10 asks of a call. Its own walk, so that the record
@@ -459,10 +486,9 @@ impl Streams {
         ensures count { λ r. ⌜ r ≡ length (rules.notifyAll (streamsOf self) role) ⌝ }
         ensures records { λ _. ⌜ now (out .exit) ≡ splice (now (out .entry)) 0 (concat (rules.notifyAll (streamsOf self) role)) ⌝ }
     {
-        let p = self.primary(role);
-        let place = (role % 8) as usize;
-        let read = self.marks[place];
-        let mark = mark_of(role, read);
+        let now = self.standing(role);
+        let p = now.primary;
+        let mark = now.mark;
         let mut n: usize = 0;
         let mut k: usize = 0;
         while k < 32 {
@@ -487,10 +513,10 @@ impl Streams {
         match notify {
             Notify::None => 0,
             Notify::Only(role, stream) => {
-                let p = self.primary(role);
-                let place = (role % 8) as usize;
-                let read = self.marks[place];
-                write_notification(p, mark_of(role, read), role, stream, out);
+                let now = self.standing(role);
+                let p = now.primary;
+                let mark = now.mark;
+                write_notification(p, mark, role, stream, out);
                 1
             }
             Notify::All(role) => self.write_role(role, out),

@@ -3,15 +3,12 @@ use Prim.Native.Nat.{ℕ}
 use mathlib.Core.Path.{_≡_, refl, sym, ap, _∙_}
 use mathlib.Core.List.{List, [], _∷_, append-nil}
 use mathlib.Core.Option.{Option}
-use lib.ListN.{length}
 use borrow.Author.Needs.{needs}
 use Rattle.rules.specs.Bytes.{concat}
 use Rattle.rules.specs.Streams.{Streams, markOf, primary, noticeOf, notification}
 use Rattle.buffers.specs.Splice.{splice}
 use Rattle.buffers.proofs.Splice.{splice-none}
 use Rattle.arbitration.specs.Meaning.{idOf, primaryOf, streamsOf, recordsOf}
-use Rattle.rules.proofs.Lists.{length-mapped}
-use Rattle.arbitration.proofs.Surveys.{mark-read}
 use Rattle.arbitration.proofs.Notices.{notice-is}
 use Rattle.arbitration.proofs.Streams.write_notifications.Statement.{statement}
 use Rattle.arbitration.proofs.Streams.write_notifications.Tie as tie
@@ -21,29 +18,14 @@ one-record : (e : Streams) (r s : ℕ) (d out : List ℕ) (p : Option ℕ) (m : 
     → out ≡ splice d 0 (noticeOf p m r s) → out ≡ splice d 0 (concat (notification e r s ∷ []))
 one-record e r s d out p m f g w = w ∙ ap (splice d 0) (notice-is e r s f g ∙ sym (append-nil (notification e r s)))
 
-marks : (c : tie.After-primary) → length (c .before .before .before .before .before .args .t1 .marks) ≡ 8
-marks c = search (needs, length-mapped)
-
 enum-told : tie.Need-enum-told
 enum-told c = search needs
 
 enum-known-notify : tie.Need-enum-known-notify
 enum-known-notify c = search needs
 
-primary-requires : tie.Need-primary-requires
-primary-requires c κs = search needs
-
-cast-place : tie.Need-cast-place
-cast-place c = search needs
-
-mul-read : tie.Need-mul-read
-mul-read c = search needs
-
-element-copy-out-read : tie.Need-element-copy-out-read
-element-copy-out-read c = search needs
-
-mark-of-requires : tie.Need-mark-of-requires
-mark-of-requires c κs = search needs
+standing-requires : tie.Need-standing-requires
+standing-requires c κs = search needs
 
 write-notification-requires : tie.Need-write-notification-requires
 write-notification-requires c κs = search needs
@@ -64,24 +46,20 @@ same-length c = search needs
 returns-2 : tie.Need-returns-2
 unfolding recordsOf
 returns-2 c =
-    let w = c .before .before in
-    let m = w .before .before in
-    let p = m .before .before in
-    let g = p .before .before .notify .given in
-    let a = p .before .before .before .before .before .args in
-    let z = one-record (streamsOf (a .t1)) (g .0 .0) (g .0 .1 .0) (a .out .now) (w .write-notification .last .1 .1 .1 .1 .0)
-    (primaryOf (p .primary .result)) (idOf (m .mark-of .result)) (p .primary .ensures)
-    (m .mark-of .ensures ∙ mark-read (a .t1) (marks p) (g .0 .0)) in
-    rw (g .1) (refl, z (w .write-notification .ensures))
+    let a = c .before .before .before .before .before .before .before .before .before .before .args in
+    let w = c .before .before .write-notification in
+    let t = c .before .before .before .before .before .standing in
+    let g = c .before .before .before .before .before .before .before .notify .given in
+    let z = one-record (streamsOf (a .self)) (g .0 .0) (g .0 .1 .0) (a .out .now) (w .last .1 .1 .1 .1 .0)
+    (primaryOf (t .result .primary)) (idOf (t .result .mark)) (t .ensures .0) (t .ensures .1) in
+    rw (g .1) (refl, z (w .ensures))
 
 same-length-2 : tie.Need-same-length-2
 same-length-2 c = search needs
 
 returns-3 : tie.Need-returns-3
 unfolding recordsOf
-returns-3 c =
-    let w = c .before .before in
-    rw (w .before .before .before .notify2 .given .1) (w .write-role .ensures)
+returns-3 c = rw (c .before .before .before .before .before .notify2 .given .1) (c .before .before .write-role .ensures)
 
 pub write-notifications-spec : {M : Type 1} → statement M
 write-notifications-spec =
@@ -89,11 +67,7 @@ write-notifications-spec =
     (tie.spec
     enum-told
     enum-known-notify
-    primary-requires
-    cast-place
-    mul-read
-    element-copy-out-read
-    mark-of-requires
+    standing-requires
     write-notification-requires
     enum-known-notify-2
     write-role-requires

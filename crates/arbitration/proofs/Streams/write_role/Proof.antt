@@ -7,13 +7,12 @@ use mathlib.Core.Logic.{⊎-elim}
 use mathlib.Core.List.{List, map}
 use lib.ListN.{length, length-take, length-drop}
 use borrow.Author.Needs.{needs}
-use Rattle.rules.specs.Streams.{Streams, inRole, markOf, noticeOf, notification, notifyAll}
+use Rattle.rules.specs.Streams.{Streams, inRole, noticeOf, notification, notifyAll}
 use Rattle.buffers.specs.Splice.{splice}
 use Rattle.buffers.proofs.Splice.{part-copied}
 use Rattle.arbitration.specs.Meaning.{idOf, primaryOf, streamsOf}
 use Rattle.rules.proofs.Lists.{length-mapped}
 use Rattle.arbitration.proofs.Listing.{left, left-next, left-none}
-use Rattle.arbitration.proofs.Surveys.{mark-read}
 use Rattle.rules.proofs.Sizes.{notification-length}
 use Rattle.arbitration.proofs.Notices.{notice-is}
 use Rattle.buffers.proofs.Written.{Written, written-none, written-next, written-same, written-length, written-all}
@@ -25,44 +24,25 @@ abbrev records : Streams → ℕ → ℕ → List (List ℕ)
 records e r k = map (notification e r) (left (inRole r) e k)
 
 abbrev Inv-loop : tie.InvT-loop
-Inv-loop role out₀ self p place mark n₀ k₀ out n k =
+Inv-loop role out₀ self p mark n₀ k₀ out n k =
     (k ≤ 32) × (n ≤ k) × Written 20 (notifyAll (streamsOf self) role) out₀ (records (streamsOf self) role k) out n
 
 abbrev μ-loop : tie.MeasureT-loop
-μ-loop role out₀ self p place mark n₀ k₀ out n k = 32 - k
+μ-loop role out₀ self p mark n₀ k₀ out n k = 32 - k
 
-size : (c : tie.At-loop Inv-loop μ-loop) → length (c .before .before .before .before .before .args .t1 .streams) ≡ 32
+size : (c : tie.At-loop Inv-loop μ-loop) → length (c .before .before .before .before .args .t1 .streams) ≡ 32
 size c = search (needs, length-mapped)
 
-long : (c : tie.At-loop Inv-loop μ-loop) → length (c .loop .out) ≡ length (c .before .before .before .before .before .args .out .now)
+long : (c : tie.At-loop Inv-loop μ-loop) → length (c .loop .out) ≡ length (c .before .before .before .before .args .out .now)
 long c = written-length (c .loop .inv .2) (omega arith)
 
-mark : (c : tie.At-loop Inv-loop μ-loop) → let a = c .before .before .before .before .before .args in
-    idOf (c .before .mark-of .result) ≡ markOf (streamsOf (a .t1)) (a .role)
-mark c =
-    let a = c .before .before .before .before .before .args in
-    let n : length (a .t1 .marks) ≡ 8 = search (needs, length-mapped) in
-    c .before .mark-of .ensures ∙ mark-read (a .t1) n (a .role)
-
-primary-requires : tie.Need-primary-requires Inv-loop μ-loop
-primary-requires c κs = search needs
-
-cast-place : tie.Need-cast-place Inv-loop μ-loop
-cast-place c = search needs
-
-mul-read : tie.Need-mul-read Inv-loop μ-loop
-mul-read c = search needs
-
-element-copy-out-read : tie.Need-element-copy-out-read Inv-loop μ-loop
-element-copy-out-read c = search needs
-
-mark-of-requires : tie.Need-mark-of-requires Inv-loop μ-loop
-mark-of-requires c κs = search needs
+standing-requires : tie.Need-standing-requires Inv-loop μ-loop
+standing-requires c κs = search needs
 
 loop-holds : tie.Need-loop-holds Inv-loop μ-loop
 unfolding notifyAll
 loop-holds c =
-    let a = c .before .before .before .before .args in
+    let a = c .before .before .before .args in
     (search needs, search needs, written-none 20 (notifyAll (streamsOf (a .t1)) (a .role)) (a .out .now))
 
 mul-s : tie.Need-mul-s Inv-loop μ-loop
@@ -109,7 +89,7 @@ loop-less c = search needs
 loop-again : tie.Need-loop-again Inv-loop μ-loop
 loop-again c =
     let d = c .before .before .before .before .before in
-    let a = d .before .before .before .before .before .args in
+    let a = d .before .before .before .before .args in
     let r = a .role in
     let k = d .loop .k in
     let m = d .loop .n in
@@ -118,13 +98,14 @@ loop-again c =
     let h = c .before .before .before .before .loop-test .taken in
     let next = left-next (a .t1) (size d) (inRole r) k h (c .before .before .binding .ensures) (c .before .in-role .ensures) in
     let n = long d in
+    let t = d .before .before .standing in
     ⊎-elim
     (λ w.
     let q = ap (map (notification e r)) (next true (w .0 .taken)) in
     let x = notification e r k in
-    let y = noticeOf (primaryOf (d .before .before .before .primary .result)) (idOf (d .before .mark-of .result)) r k in
+    let y = noticeOf (primaryOf (t .result .primary)) (idOf (t .result .mark)) r k in
     let l : length x ≡ 20 = notification-length e r k in
-    let z : y ≡ x = notice-is e r k (d .before .before .before .primary .ensures) (mark d) in
+    let z : y ≡ x = notice-is e r k (t .ensures .0) (t .ensures .1) in
     let g : length y ≡ 20 = ap length z ∙ l in
     let f = w .2 in
     let v = part-copied o (f .last .1 .1 .1 .1 .0) y (20 * m) (length o - 20 * m) (f .ensures) (omega arith) (omega arith) in
@@ -141,7 +122,7 @@ same-length c = long (c .before)
 returns : tie.Need-returns Inv-loop μ-loop
 returns c =
     let d = c .before in
-    let a = d .before .before .before .before .before .args in
+    let a = d .before .before .before .before .args in
     let e = streamsOf (a .t1) in
     let q = left-none (a .t1) (size d) (inRole (a .role)) (d .loop .k) (c .loop-test .left) in
     written-all (d .loop .inv .2) (ap (map (notification e (a .role))) q)
@@ -152,11 +133,7 @@ write-role-spec =
     (tie.spec
     Inv-loop
     μ-loop
-    primary-requires
-    cast-place
-    mul-read
-    element-copy-out-read
-    mark-of-requires
+    standing-requires
     loop-holds
     mul-s
     element-copy-out-s

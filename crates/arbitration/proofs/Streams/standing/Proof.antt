@@ -12,8 +12,8 @@ use Rattle.arbitration.specs.Meaning.{idOf, streamsOf}
 use Rattle.rules.proofs.Lists.{length-mapped}
 use Rattle.arbitration.proofs.Records.{past-read, unset}
 use Rattle.arbitration.proofs.Listing.{left, left-next, left-none}
-use Rattle.arbitration.proofs.Streams.primary.Statement.{statement}
-use Rattle.arbitration.proofs.Streams.primary.Tie as tie
+use Rattle.arbitration.proofs.Streams.standing.Statement.{statement}
+use Rattle.arbitration.proofs.Streams.standing.Tie as tie
 
 abbrev Inv-loop : tie.InvT-loop
 Inv-loop role self r mark k₀ k =
@@ -50,7 +50,7 @@ returns c =
     let a = c .before .args in
     let n : length (a .t1 .marks) ≡ 8 = search (needs, length-mapped) in
     let z : markOf (streamsOf (a .t1)) (a .role) ≡ 0 = past-read idOf (a .t1 .marks) (a .role) 0 (omega arith) in
-    rw z
+    (rw z, sym z)
 
 mul-mark : tie.Need-mul-mark Inv-loop μ-loop
 mul-mark c = search needs
@@ -68,7 +68,7 @@ returns-2 c =
     let a = i .before .before .before .args in
     let m = idOf (getD (a .t1 .marks) (a .role) unset) in
     let t : eqb m 0 ≡ true = not-false (eqb m 0) (sym (i .is-set .ensures) ∙ not-true (i .is-set .result) (c .if2 .taken)) in
-    rw (mark i, t)
+    (rw (mark i, t), sym (mark i))
 
 loop-holds : tie.Need-loop-holds Inv-loop μ-loop
 loop-holds c = (search needs, refl)
@@ -85,8 +85,8 @@ binding-requires c κs = search needs
 holds-requires : tie.Need-holds-requires Inv-loop μ-loop
 holds-requires c κs = search needs
 
-cast-t21 : tie.Need-cast-t21 Inv-loop μ-loop
-cast-t21 c = search needs
+cast-t25 : tie.Need-cast-t25 Inv-loop μ-loop
+cast-t25 c = search needs
 
 returns-3 : tie.Need-returns-3 Inv-loop μ-loop
 returns-3 c =
@@ -97,7 +97,7 @@ returns-3 c =
     let h = c .before .before .before .before .loop-test .taken in
     let b = c .before .before .binding .ensures in
     let e = left-next (a .t1) (size d) p k h b (c .before .holds .ensures) true (c .if3 .taken) in
-    sym (held d ∙ ap head e)
+    (sym (held d ∙ ap head e), sym (mark (d .before .before)))
 
 add-k : tie.Need-add-k Inv-loop μ-loop
 add-k c = search needs
@@ -121,10 +121,10 @@ returns-4 c =
     let d = c .before in
     let a = d .before .before .before .before .before .args in
     let p = holds (a .role) (idOf (getD (a .t1 .marks) (a .role) unset)) in
-    sym (held d ∙ ap head (left-none (a .t1) (size d) p (d .loop .k) (c .loop-test .left)))
+    (sym (held d ∙ ap head (left-none (a .t1) (size d) p (d .loop .k) (c .loop-test .left))), sym (mark (d .before .before)))
 
-pub primary-spec : {M : Type 1} → statement M
-primary-spec =
+pub standing-spec : {M : Type 1} → statement M
+standing-spec =
     tie.close
     (tie.spec
     Inv-loop
@@ -139,7 +139,7 @@ primary-spec =
     element-copy-out-s
     binding-requires
     holds-requires
-    cast-t21
+    cast-t25
     returns-3
     add-k
     loop-less
