@@ -32,11 +32,16 @@ pub fn trace(script: &Script) -> Result<Report, Unreadable> {
         text += &lines.finish();
         failed.len()
     })?;
+    Ok(ended(text, script, failed))
+}
+
+/// What was printed, with the last line, and whether all held.
+fn ended(mut text: String, script: &Script, failed: usize) -> Report {
     text += &verdict(script, failed);
-    Ok(Report {
+    Report {
         text,
         held: failed == 0,
-    })
+    }
 }
 
 /// Plays a script; only what did not hold, and the last line.
@@ -49,11 +54,7 @@ pub fn quiet(script: &Script, file: &str) -> Result<Report, Unreadable> {
         }
         failed.len()
     })?;
-    text += &verdict(script, failed);
-    Ok(Report {
-        text,
-        held: failed == 0,
-    })
+    Ok(ended(text, script, failed))
 }
 
 /// `play`'s input.
