@@ -6,7 +6,7 @@ use crate::parse;
 use crate::session;
 
 /// Whole words and signs that a script may hold, in place of others.
-const PIECES: [&str; 40] = [
+const PIECES: [&str; 41] = [
     "open",
     "close",
     "arbitrate",
@@ -26,6 +26,7 @@ const PIECES: [&str; 40] = [
     "only",
     "priority",
     "told",
+    "count",
     "pairs",
     "primary",
     "mark",

@@ -27,7 +27,7 @@ pub fn instead(expected: &Expected, outcome: &Outcome, words: &Words) -> Option<
             };
             (outcome.told.iter().any(same), told(&outcome.told, words))
         }
-        Expected::ToldNobody => (outcome.told.is_empty(), told(&outcome.told, words)),
+        Expected::ToldCount(count) => (outcome.told.len() == *count, told(&outcome.told, words)),
         Expected::Pairs(reasons) => (outcome.pairs == *reasons, pairs(&outcome.pairs)),
         Expected::Primary { role, stream } => {
             let primary = after.primary(*role);
@@ -55,7 +55,8 @@ fn among(entry: &Entry, action: bool, shown: &[Entry]) -> (bool, String) {
     let same = |other: &Entry| other.same_key(entry) && (!action || other.same_action(entry));
     let is = match shown.len() {
         0 => "the call shows no entry".to_owned(),
-        count => format!("it is not among the {} that the call shows", entries(count)),
+        1 => "the only entry that the call shows is another".to_owned(),
+        count => format!("it is none of the {count} entries that the call shows"),
     };
     (shown.iter().any(same), is)
 }
@@ -176,6 +177,7 @@ mod tests {
                 "told 1 status 6",
                 "told 1 status 6 mark 7",
                 "told 2 status 0 mark 0x7",
+                "told count 2",
             ],
             &[
                 ("told 3 status 6", is),
@@ -183,10 +185,14 @@ mod tests {
                 ("told 1 status 6 mark 5", is),
                 ("told 1 status 6 mark none", is),
                 ("told nobody", is),
+                ("told count 0", is),
+                ("told count 1", is),
+                ("told count 3", is),
             ],
         );
         let is = "nobody is told";
-        check("close 2", &["told nobody"], &[("told 1 status 0", is)]);
+        let fails = [("told 1 status 0", is), ("told count 1", is)];
+        check("close 2", &["told nobody", "told count 0"], &fails);
         let is = "told are 3 status 5 mark none";
         let fails = [("told 3 status 5 mark 1", is)];
         check("arbitrate 3 role 4", &["told 3 status 5 mark none"], &fails);
@@ -227,15 +233,15 @@ mod tests {
     #[test]
     fn entries() {
         let call = format!("{WRITE}read role 0");
-        let among = "it is not among the 1 entry that the call shows";
+        let other = "the only entry that the call shows is another";
         let fails = [
             ("entries 0", "the call shows 1 entry"),
             ("entries 2", "the call shows 1 entry"),
-            ("entry table t k=2 a(7)", among),
-            ("entry table t k=1 a(8)", among),
-            ("entry table t priority 1 k=1", among),
-            ("entry table 0x02000002 1=1", among),
-            ("entry table t", among),
+            ("entry table t k=2 a(7)", other),
+            ("entry table t k=1 a(8)", other),
+            ("entry table t priority 1 k=1", other),
+            ("entry table 0x02000002 1=1", other),
+            ("entry table t", other),
         ];
         let holds = [
             "entries 1",
@@ -249,6 +255,21 @@ mod tests {
             ("entries 1", "the call shows no entry"),
         ];
         check("open 4", &["entries 0"], &fails);
+    }
+
+    #[test]
+    fn an_entry_that_is_none_of_several() {
+        let call =
+            "write role 0 id 5\n insert table t k=1 a(7)\n insert table t k=2 a(8)\nread role 0";
+        let none = "it is none of the 2 entries that the call shows";
+        check(
+            call,
+            &["entry table t k=2 a(8)", "entries 2"],
+            &[
+                ("entry table t k=3", none),
+                ("entry table t k=2 a(7)", none),
+            ],
+        );
     }
 
     #[test]

@@ -47,7 +47,7 @@ pub enum Expected {
         /// `None`: it is not compared.
         mark: Option<Option<u128>>,
     },
-    ToldNobody,
+    ToldCount(usize),
     Pairs(Vec<Reason>),
     Primary {
         role: u8,

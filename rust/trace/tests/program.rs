@@ -174,7 +174,7 @@ fn help_has_every_reason() {
         "not-primary",
         "store-full",
         "--timeline",
-        "expect told",
+        "expect told count",
         "Exit status",
     ] {
         assert!(out(&output).contains(word), "{word}");

@@ -38,12 +38,16 @@ impl Parser<'_> {
         Ok(expected)
     }
 
-    /// `STREAM status N [mark ID|none]` or `nobody`.
+    /// `STREAM status N [mark ID|none]`, `nobody` or `count N`.
     fn told(&mut self, cursor: &mut Cursor) -> Result<Expected, Mistake> {
         if cursor.takes("nobody") {
-            return Ok(Expected::ToldNobody);
+            return Ok(Expected::ToldCount(0));
         }
-        let stream = cursor.number("a stream, 0 to 255, or 'nobody'")?;
+        if cursor.takes("count") {
+            let count = cursor.number("a number of notifications")?;
+            return Ok(Expected::ToldCount(count));
+        }
+        let stream = cursor.number("a stream, 0 to 255, 'nobody' or 'count'")?;
         cursor.keyword("status")?;
         let status = cursor.number("a status, 0 to 255: 0 primary, 5 none, 6 another")?;
         let mark = match cursor.takes("mark") {

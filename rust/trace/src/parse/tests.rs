@@ -318,7 +318,8 @@ fn expected_answers() {
     assert_eq!(expected("told 3 status 5"), told(5, None));
     assert_eq!(expected("told 3 status 6 mark 7"), told(6, Some(Some(7))));
     assert_eq!(expected("told 3 status 5 mark none"), told(5, Some(None)));
-    assert_eq!(expected("told nobody"), Expected::ToldNobody);
+    assert_eq!(expected("told nobody"), Expected::ToldCount(0));
+    assert_eq!(expected("told count 2"), Expected::ToldCount(2));
     let reasons = vec![Reason::Done, Reason::Stored, Reason::NotStored];
     assert_eq!(expected("pairs 0 20 not-stored"), Expected::Pairs(reasons));
     assert_eq!(expected("pairs"), Expected::Pairs(vec![]));
