@@ -1,12 +1,15 @@
 -- One law for each way through an event: what stands in the stream record, and the tests taken, fix what the event leaves.
 -- Assumes nothing.
-use Prim.Native.Nat.{ℕ}
-use mathlib.Core.Path.{_≡_, refl, sym}
+use Prim.Native.Nat.{ℕ, _<_, _≤_}
+use native.Mathlib.Omega.{arith}
+use mathlib.Core.Path.{_≡_, refl, sym, ap, _∙_}
 use mathlib.Core.Bool.{Bool, true, false, _&&_, _||_, not, and-true as and-unit, and-false as and-none}
 use mathlib.Core.List.{List, [], _∷_}
 use mathlib.Core.Option.{Option}
-use lib.Dec.{eqb}
-use borrow.Author.Tests.{eqb-true, ne-eqb, not-false}
+use lib.Dec.{eqb, ltb}
+use lib.ListN.{length, set, List·getD-eq-default}
+use lib.Seq.{set-getD}
+use borrow.Author.Tests.{eqb-true, ne-eqb, ltb-true, ltb-false, not-false}
 use Rattle.rules.specs.Bytes.{if_then_else_, between}
 use Rattle.rules.specs.Reason.{first}
 use Rattle.rules.specs.Frame.{Head}
@@ -16,6 +19,10 @@ use Rattle.rules.proofs.Orders.{first-clear}
 use Rattle.arbitration.specs.Meaning.{recordsOf, leftAs, closedUnder}
 use Rattle.arbitration.specs.declared.Notify.{Notify}
 use Rattle.arbitration.specs.declared.Notify.the-variants.{Only, All}
+
+-- equal events notify alike
+pub told-as : (n : Notify) {o o′ : Outcome} → o ≡ o′ → recordsOf n (o .after) ≡ o .records → recordsOf n (o′ .after) ≡ o′ .records
+told-as n q k = rw (← q) k
 
 -- ---- an order of refusals
 
@@ -51,6 +58,11 @@ first-among p (c ∷ cs) z h =
 abbrev known : ℕ → Bool
 known r = eqb r 0 || (eqb r 4 || between 5 9 r)
 
+not-open : (x : Stream) → isOpen x ≡ false → x ≡ closed
+not-open closed o = refl
+not-open unbound o = clash refl o
+not-open (bound r i) o = clash refl o
+
 module _ (e : Streams) (s : ℕ) where
   -- ---- OPEN
 
@@ -64,9 +76,16 @@ module _ (e : Streams) (s : ℕ) where
 
   -- ---- CLOSE
 
-  pub close-closed : {x : Stream} → x ≡ streamAt e s → isOpen x ≡ false → leftAs e 4 ≡ closeStream e s
-  unfolding closeStream first
-  close-closed h o = rw (← h, o)
+  -- to close what is closed changes nothing, and notifies nobody
+  pub shut : {x : Stream} → x ≡ streamAt e s → isOpen x ≡ false → e ≡ become e s closed
+  shut {x} h o = λ i. record {
+    streams = (sym (set-getD (e .streams) s closed) ∙ ap (set (e .streams) s) (sym h ∙ not-open x o)) i;
+    marks = e .marks;
+  }
+
+  pub close-closed : {x : Stream} → x ≡ streamAt e s → isOpen x ≡ false → closedUnder e s 4 ≡ closeStream e s
+  unfolding closeStream closeRecords first
+  close-closed {x} h o = rw (← h, o, not-open x o, ← shut h o)
 
   pub close-open : {x : Stream} → x ≡ streamAt e s → isOpen x ≡ true → closedUnder e s 0 ≡ closeStream e s
   unfolding closeStream first
@@ -91,12 +110,26 @@ module _ (e : Streams) (s : ℕ) where
       → record { after = e′; reason = r; records = recordsOf n e′ } ≡ closedUnder e s r
   closes n r d q = rw (d, q)
 
+  -- a stream that is not closed has a number below 32
+  pub within : length (e .streams) ≡ 32 → (closed ≡ streamAt e s → ⊥) → s < 32
+  within n h = go (ltb s 32) (ltb-true s 32) (ltb-false s 32)
+    where
+      go : (b : Bool) → (b ≡ true → s < 32) → (b ≡ false → 32 ≤ s) → s < 32
+      go true p q = p refl
+      go false p q =
+          let g = q refl in
+          absurd (h (sym (List·getD-eq-default (e .streams) closed (omega arith))))
+
   -- ---- ARBITRATE
 
   module _ (device : ℕ) (h : Head) where
     pub reason-is : {x : Stream} {n : ℕ} → x ≡ streamAt e s → Gives (orderOf device e s h x) n → n ≡ arbitrateReason device e s h
     unfolding arbitrateReason
     reason-is p g = rw (← p) (gives-first g)
+
+    -- a reason other than 4 is one of a stream that is not closed
+    pub heard-within : length (e .streams) ≡ 32 → {n : ℕ} → n ≡ arbitrateReason device e s h → (n ≡ 4 → ⊥) → s < 32
+    heard-within l p four = within l (λ q. four (p ∙ sym (reason-is q (here refl))))
 
     reason-known : (x : Stream) → known (first (orderOf device e s h x)) ≡ true
     reason-known closed = first-among known (orderOf device e s h closed) refl refl
@@ -135,6 +168,13 @@ module _ (e : Streams) (s : ℕ) where
             })
         go true = refl
         go false = refl
+
+    -- e′ is the record that it leaves, and n tells who is to be notified
+    pub arbitrate-leaves : (n : Notify) {r : ℕ} {e′ : Streams} → e′ ≡ arbitrate device e s h .after → r ≡ arbitrateReason device e s h
+        → recordsOf n (arbitrate device e s h .after) ≡ arbitrate device e s h .records
+        → record { after = e′; reason = r; records = recordsOf n e′ } ≡ arbitrate device e s h
+    unfolding arbitrate
+    arbitrate-leaves n d p q = λ i. record { after = d i; reason = p i; records = (ap (recordsOf n) d ∙ q) i }
 
 -- what was accepted has no id that another holds
 pub accepted-alone : (e : Streams) (s device : ℕ) (h : Head) → 0 ≡ arbitrateReason device e s h → heldElsewhere e s (h .role) (h .id) ≡ false

@@ -5,3 +5,4 @@ pub mod Surveys
 pub mod Pairs
 pub mod Notices
 pub mod Events
+pub mod Stores

@@ -6,28 +6,24 @@ use native.Mathlib.Omega.{arith}
 use mathlib.Core.Path.{_≡_, sym, ap, _∙_}
 use mathlib.Core.Bool.{Bool}
 use mathlib.Core.List.{List, [], _∷_}
-use lib.ListN.{length, getD, drop, length-map, List·getD-map, drop-of-length-le}
+use lib.ListN.{length, getD, drop, List·getD-map, drop-of-length-le}
 use lib.Seq.{drop-cons}
 use Rattle.rules.specs.Bytes.{if_then_else_}
 use Rattle.rules.specs.Streams as rules
 use Rattle.rules.specs.Streams.{closed, numbers, streamAt}
 use Rattle.arbitration.specs.Meaning.{streamOf, streamsOf}
 use Rattle.arbitration.specs.declared.Streams.{Streams}
-use Rattle.arbitration.proofs.Records.{noStream}
+use Rattle.arbitration.proofs.Records.{noStream, sized}
 
 -- the streams that pass the test, from stream k on
 abbrev pub left : (rules.Stream → Bool) → rules.Streams → ℕ → List ℕ
 left p e k = numbers p k (drop k (e .streams))
 
 module _ (s : Streams) (size : length (s .streams) ≡ 32) (p : rules.Stream → Bool) (k : ℕ) where
-  sized : length (streamsOf s .streams) ≡ 32
-  unfolding streamsOf
-  sized = rw length-map size
-
   step : k < 32 → (b : Bool) → p (streamAt (streamsOf s) k) ≡ b
       → left p (streamsOf s) k ≡ (if b then k ∷ left p (streamsOf s) (k + 1) else left p (streamsOf s) (k + 1))
   step h b e =
-      let n = sized in
+      let n = sized s size in
       rw add-one (ap (numbers p k) (drop-cons (streamsOf s .streams) k closed (omega arith)) ∙ rw e)
 
   -- where the stream at k was read as x, and the test of x said b
@@ -39,6 +35,6 @@ module _ (s : Streams) (size : length (s .streams) ≡ 32) (p : rules.Stream →
 
   pub left-none : 32 ≤ k → left p (streamsOf s) k ≡ []
   left-none h =
-      let n = sized in
+      let n = sized s size in
       let g : length (streamsOf s .streams) ≤ k = omega arith in
       ap (numbers p k) (drop-of-length-le (streamsOf s .streams) g)

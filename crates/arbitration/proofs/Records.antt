@@ -24,6 +24,10 @@ module _ {X Y : Type 0} (f : X → Y) where
   map-set (y ∷ l) zero x = refl
   map-set (y ∷ l) (suc k) x = ap (λ (t : List Y). f y ∷ t) (map-set l k x)
 
+  -- to store what means the same as what stands there changes nothing
+  pub kept-set : (l : List X) (k : ℕ) (x d : X) → f x ≡ f (getD l k d) → map f (set l k x) ≡ map f l
+  kept-set l k x d e = map-set l k x ∙ ap (set (map f l) k) (e ∙ sym (List·getD-map f l k d)) ∙ set-getD (map f l) k (f d)
+
   -- past the last a read gives the default, and a store changes nothing
   module _ (l : List X) (k : ℕ) (y : Y) (h : length l ≤ k) where
     pub past-read : getD (map f l) k y ≡ y
@@ -70,6 +74,14 @@ module _ (ms : List ElectionId) (n : length ms ≡ 8) (r : ℕ) (id v : Election
           ∙ set-getD (map idOf ms) (r % 8) 0
           ∙ sym (set-out (map idOf ms) r (max (getD (map idOf ms) r 0) (idOf id)) (rw length-map (omega arith)))
 
+pub sized : (self : Streams) → length (self .streams) ≡ 32 → length (streamsOf self .streams) ≡ 32
+unfolding streamsOf
+sized self n = length-map (self .streams) streamOf ∙ n
+
+pub sized-marks : (self : Streams) → length (self .marks) ≡ 8 → length (streamsOf self .marks) ≡ 8
+unfolding streamsOf
+sized-marks self n = length-map (self .marks) idOf ∙ n
+
 -- a stream in its place is what the record says of it
 module _ (self : Streams) (k : ℕ) where
   pub read : {x : rules.Stream} → x ≡ streamOf (getD (self .streams) k noStream) → x ≡ rules.streamAt (streamsOf self) k
@@ -88,6 +100,16 @@ module _ (self : Streams) (k : ℕ) where
       streams = sym (past-set streamOf (self .streams) k x (omega arith)) i;
       marks = map idOf (self .marks);
     }
+
+-- a stream is that at its number modulo 32, or closed
+pub read-at : (self : Streams) → length (self .streams) ≡ 32 → (k : ℕ) {x : rules.Stream}
+    → x ≡ (if ltb k 32 then streamOf (getD (self .streams) (k % 32) noStream) else rules.closed) → x ≡ rules.streamAt (streamsOf self) k
+read-at self n k {x} = go (ltb k 32) (ltb-true k 32) (ltb-false k 32)
+  where
+    go : (b : Bool) → (b ≡ true → k < 32) → (b ≡ false → 32 ≤ k)
+        → x ≡ (if b then streamOf (getD (self .streams) (k % 32) noStream) else rules.closed) → x ≡ rules.streamAt (streamsOf self) k
+    go true p q e = read self k (e ∙ ap (λ (j : ℕ). streamOf (getD (self .streams) j noStream)) (mod-eq-of-lt (p refl)))
+    go false p q e = e ∙ past-closed self k n (q refl)
 
 -- a stream stored in place
 pub stored : (self : Streams) (k : ℕ) (x : Stream) {y : rules.Stream} → streamOf x ≡ y

@@ -81,6 +81,7 @@ numbered k = if ltb k 32 then some k else none
 pub record Shows (seen : Survey) (e : rules.Streams) (s r i : ℕ) : Type 0 where
   pub streams : length (e .streams) ≡ 32
   pub marks : length (e .marks) ≡ 8
+  pub own : bindingOf (seen .own) ≡ rules.streamAt e s
   pub members : seen .members ≡ length (rules.members e r)
   pub clash : seen .clash ≡ rules.heldElsewhere e s r i
   pub mark : idOf (seen .mark) ≡ rules.markOf e r
@@ -97,3 +98,9 @@ abbrev pub SamePairOf : Bool → ℕ → Head → Survey → Type 0
 SamePairOf t s h seen =
     (e : rules.Streams) → s < 32 → Shows seen e s (h .role) (idOf (h .id)) → seen .clash ≡ false
     → t ≡ rules.samePair e (rules.binds e s (headOf h)) (h .role)
+
+-- n tells who is to be notified of an ARBITRATE of stream s in the record e, on every device on which reason is its reason
+abbrev pub HeardOf : Notify → ℕ → rules.Streams → ℕ → frame.Head → Type 0
+HeardOf n reason e s h =
+    (device : ℕ) → reason ≡ rules.arbitrateReason device e s h
+    → recordsOf n (rules.arbitrate device e s h .after) ≡ rules.arbitrate device e s h .records

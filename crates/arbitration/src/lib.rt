@@ -7,7 +7,7 @@ ghost use lib.Dec.{ltb, eqb};
 ghost use Rattle.rules.specs.Bytes.{if_then_else_, number, bytesOf, concat};
 ghost use Rattle.rules.specs.Streams as rules;
 ghost use Rattle.buffers.specs.Splice.{splice};
-ghost use Rattle.arbitration.specs.Meaning.{idOf, headOf, bindingOf, streamOf, streamsOf, primaryOf, recordsOf, outcomeOf, leftAs, Shows, ReasonOf, SamePairOf};
+ghost use Rattle.arbitration.specs.Meaning.{idOf, headOf, bindingOf, streamOf, streamsOf, primaryOf, recordsOf, outcomeOf, Shows, ReasonOf, SamePairOf, HeardOf};
 use numbers::Number;
 
 // An election id: a 128-bit number, of which 0 is the unset id.
@@ -192,9 +192,10 @@ pub struct Outcome {
     pub notify: Notify,
 }
 
-// What one walk over the record shows an ARBITRATE of its role: how many streams are bound to it, whether another than the sender
-// holds the id, the mark, and the mark's first holder (32: none). What is decided of these takes no copy of the record.
+// What one walk over the record shows an ARBITRATE: what its sender is, and of its role how many streams are bound to it, whether
+// another than the sender holds the id, the mark, and the mark's first holder (32: none). What is decided of these copies no record.
 struct Survey {
+    own: Binding,
     members: usize,
     clash: bool,
     mark: ElectionId,
@@ -248,10 +249,13 @@ fn mark_of(role: u8, read: ElectionId) -> ElectionId
     ElectionId::UNSET
 }
 
-// What stands at that place after an accepted ARBITRATE: the mark rises to a higher id, and never falls.
-fn raised(role: u8, old: ElectionId, id: ElectionId) -> ElectionId
-    ensures { λ r. ⌜ idOf r ≡ (if ltb role 8 && ltb (idOf old) (idOf id) then idOf id else idOf old) ⌝ }
+// What stands at that place after an ARBITRATE: where it was accepted the mark rises to a higher id, and it never falls.
+fn raised(reason: u8, role: u8, old: ElectionId, id: ElectionId) -> ElectionId
+    ensures { λ r. ⌜ idOf r ≡ (if eqb reason 0 && ltb role 8 && ltb (idOf old) (idOf id) then idOf id else idOf old) ⌝ }
 {
+    if reason != 0 {
+        return old;
+    }
     if 8 <= role {
         return old;
     }
@@ -259,6 +263,49 @@ fn raised(role: u8, old: ElectionId, id: ElectionId) -> ElectionId
         return id;
     }
     old
+}
+
+// What a stream is, where read is the stream at its number modulo 32: one past the last is closed.
+fn binding_of(stream: u8, read: Stream) -> Binding
+    ensures { λ r. ⌜ bindingOf r ≡ (if ltb stream 32 then streamOf read else rules.closed) ⌝ }
+{
+    if stream < 32 {
+        return read.binding();
+    }
+    Binding::Closed
+}
+
+// What stands at that place after an OPEN: one store on every way, as a second way out would copy the record once more.
+fn opened(reason: u8, stream: u8, old: Stream) -> Stream
+    ensures { λ r. ⌜ streamOf r ≡ (if ltb stream 32 && eqb reason 0 then rules.unbound else streamOf old) ⌝ }
+{
+    if both(stream < 32, reason == 0) {
+        return Binding::Open.stream();
+    }
+    old
+}
+
+// The same after a CLOSE, which refuses each stream past the last.
+fn closed(reason: u8, old: Stream) -> Stream
+    ensures { λ r. ⌜ streamOf r ≡ (if eqb reason 0 then rules.closed else streamOf old) ⌝ }
+{
+    if reason == 0 {
+        return Binding::Closed.stream();
+    }
+    old
+}
+
+// The same after an ARBITRATE: accepted it binds the stream, 4 leaves it, and any other reason closes it.
+fn arbitrated(reason: u8, old: Stream, role: u8, id: ElectionId) -> Stream
+    ensures { λ r. ⌜ streamOf r ≡ (if eqb reason 0 then rules.bound role (idOf id) else if eqb reason 4 then streamOf old else rules.closed) ⌝ }
+{
+    if reason == 0 {
+        return Binding::Bound(role, id).stream();
+    }
+    if reason == 4 {
+        return old;
+    }
+    Binding::Closed.stream()
 }
 
 // The steps of a walk that changes several values, as functions: a value changed in a branch loses its invariant where branches meet.
@@ -300,6 +347,26 @@ fn first(found: usize, hit: bool, k: usize) -> usize
         return k;
     }
     32
+}
+
+// The reason of an OPEN: 3 where the stream is open. One past the last never is, whatever the binding at its number modulo 32.
+fn open_reason(stream: u8, binding: Binding) -> u8
+    ensures { λ r. ⌜ r ≡ (if ltb stream 32 && rules.isOpen (bindingOf binding) then 3 else 0) ⌝ }
+{
+    if both(stream < 32, binding.is_open()) {
+        return 3;
+    }
+    0
+}
+
+// The reason of a CLOSE: 4 where the stream is not open.
+fn close_reason(binding: Binding) -> u8
+    ensures { λ r. ⌜ r ≡ (if rules.isOpen (bindingOf binding) then 0 else 4) ⌝ }
+{
+    if binding.is_open() {
+        return 0;
+    }
+    4
 }
 
 // The reason of an ARBITRATE, 0 where nothing refuses it.
@@ -523,32 +590,20 @@ impl Streams {
         }
     }
 
-    // The record as it stands, with a reason and nobody to be notified.
-    fn quiet(self, reason: u8) -> Outcome
-        ensures { λ r. ⌜ outcomeOf r ≡ leftAs (streamsOf self) reason ⌝ }
+    // OPEN. The record changes in place and there is one way out: the outcome has the one copy.
+    pub fn open(mut self, stream: u8) -> Outcome
+        ensures { λ r. ⌜ outcomeOf r ≡ rules.openStream (streamsOf self) stream ⌝ }
     {
+        let k = (stream % 32) as usize;
+        let s = self.streams[k];
+        let b = s.binding();
+        let reason = open_reason(stream, b);
+        self.streams[k] = opened(reason, stream, s);
         Outcome {
             streams: self,
             reason,
             notify: Notify::None,
         }
-    }
-
-    // OPEN. The record changes in place: the outcome has the one copy.
-    pub fn open(mut self, stream: u8) -> Outcome
-        ensures { λ r. ⌜ outcomeOf r ≡ rules.openStream (streamsOf self) stream ⌝ }
-    {
-        let k = stream as usize;
-        if 32 <= k {
-            return self.quiet(0);
-        }
-        let s = self.streams[k];
-        let b = s.binding();
-        if b.is_open() {
-            return self.quiet(3);
-        }
-        self.streams[k] = Binding::Open.stream();
-        self.quiet(0)
     }
 
     // Who is to be notified when the stream closes: where it is the primary's, the streams left in its role.
@@ -574,26 +629,21 @@ impl Streams {
         }
     }
 
-    // CLOSE.
+    // CLOSE, in the same shape.
     pub fn close(mut self, stream: u8) -> Outcome
         ensures { λ r. ⌜ outcomeOf r ≡ rules.closeStream (streamsOf self) stream ⌝ }
     {
-        let k = stream as usize;
-        if 32 <= k {
-            return self.quiet(4);
-        }
+        let k = (stream % 32) as usize;
         let s = self.streams[k];
-        let b = s.binding();
-        if b.is_open() {
-            let notify = self.leaving(stream, b);
-            self.streams[k] = Binding::Closed.stream();
-            return Outcome {
-                streams: self,
-                reason: 0,
-                notify,
-            };
+        let b = binding_of(stream, s);
+        let reason = close_reason(b);
+        let notify = self.leaving(stream, b);
+        self.streams[k] = closed(reason, s);
+        Outcome {
+            streams: self,
+            reason,
+            notify,
         }
-        self.quiet(4)
     }
 
     // The walk of an ARBITRATE; a bound stream that is refused takes one more, for the primary.
@@ -603,7 +653,10 @@ impl Streams {
         let place = (role % 8) as usize;
         let read = self.marks[place];
         let mark = mark_of(role, read);
-        let own = stream as usize;
+        let at = (stream % 32) as usize;
+        let kept = self.streams[at];
+        let own = binding_of(stream, kept);
+        let sender = stream as usize;
         let mut members: usize = 0;
         let mut held = false;
         let mut holder: usize = 32;
@@ -612,11 +665,12 @@ impl Streams {
             let s = self.streams[k];
             let b = s.binding();
             members += one(b.in_role(role));
-            held = either(held, both(k != own, b.holds(role, id)));
+            held = either(held, both(k != sender, b.holds(role, id)));
             holder = first(holder, b.holds(role, mark), k);
             k += 1;
         }
         Survey {
+            own,
             members,
             clash: both(id.is_set(), held),
             mark,
@@ -624,41 +678,42 @@ impl Streams {
         }
     }
 
-    // ARBITRATE.
-    pub fn arbitrate(mut self, device: u64, stream: u8, head: Head) -> Outcome
+    // Who is to be notified of an ARBITRATE, told from the record before it: 4 notifies nobody, and 5 to 9 as a CLOSE does.
+    fn heard(self, reason: u8, stream: u8, head: Head, seen: Survey) -> Notify
+        requires { ⌜ Shows seen (streamsOf self) stream (head .role) (idOf (head .id)) ⌝ }
+        ensures { λ r. ⌜ HeardOf r reason (streamsOf self) stream (headOf head) ⌝ }
+    {
+        if reason == 4 {
+            return Notify::None;
+        }
+        if reason == 0 {
+            return told(head.role, stream, same_pair(stream, head, seen));
+        }
+        let own = seen.own;
+        self.leaving(stream, own)
+    }
+
+    // ARBITRATE. What is decided is decided of the record as it came; the one changed copy is made last.
+    pub fn arbitrate(self, device: u64, stream: u8, head: Head) -> Outcome
         ensures { λ r. ⌜ outcomeOf r ≡ rules.arbitrate device (streamsOf self) stream (headOf head) ⌝ }
     {
-        let k = stream as usize;
-        if 32 <= k {
-            return self.quiet(4);
-        }
-        let s = self.streams[k];
-        let b = s.binding();
+        let k = (stream % 32) as usize;
         let role = head.role;
         let id = head.id;
         let seen = self.survey(stream, role, id);
-        let reason = reason(device, b, head, seen);
-        if reason == 4 {
-            return self.quiet(4);
-        }
-        if reason != 0 {
-            let notify = self.leaving(stream, b);
-            self.streams[k] = Binding::Closed.stream();
-            return Outcome {
-                streams: self,
-                reason,
-                notify,
-            };
-        }
-        let same = same_pair(stream, head, seen);
-        self.streams[k] = Binding::Bound(role, id).stream();
+        let own = seen.own;
+        let reason = reason(device, own, head, seen);
+        let notify = self.heard(reason, stream, head, seen);
+        let mut left = self;
+        let s = left.streams[k];
+        left.streams[k] = arbitrated(reason, s, role, id);
         let at = (role % 8) as usize;
-        let old = self.marks[at];
-        self.marks[at] = raised(role, old, id);
+        let old = left.marks[at];
+        left.marks[at] = raised(reason, role, old, id);
         Outcome {
-            streams: self,
-            reason: 0,
-            notify: told(role, stream, same),
+            streams: left,
+            reason,
+            notify,
         }
     }
 }

@@ -1,52 +1,22 @@
--- Reason 4 leaves the record, another closes the stream, and where there is none the stream is bound. Assumes nothing.
-use mathlib.Core.Path.{_≡_, refl, sym, _∙_}
+-- Right because the survey fixes the reason, and the reason what is left and who is notified. Assumes nothing.
+use mathlib.Core.Path.{_≡_}
 use lib.ListN.{length}
 use borrow.Author.Needs.{needs}
-use Rattle.rules.specs.Streams as rules
-use Rattle.arbitration.specs.Meaning.{headOf, bindingOf, streamsOf}
+use Rattle.arbitration.specs.Meaning.{headOf, streamsOf}
 use Rattle.rules.proofs.Lists.{length-mapped}
-use Rattle.arbitration.proofs.Records.{past-closed, read, stored, raised-at, bound-stored}
-use Rattle.arbitration.proofs.Events.{here, reason-is, arbitrate-refused, arbitrate-closes, arbitrate-binds, accepted-alone, closes}
+use Rattle.arbitration.proofs.Events.{arbitrate-leaves}
+use Rattle.arbitration.proofs.Stores.{arbitrates}
 use Rattle.arbitration.proofs.Streams.arbitrate.Statement.{statement}
 use Rattle.arbitration.proofs.Streams.arbitrate.Tie as tie
 
--- the stream was read as it is
-as-is : (c : tie.After-binding) → let a = c .before .before .before .args in
-    bindingOf (c .binding .result) ≡ rules.streamAt (streamsOf (a .t1)) (a .stream)
-as-is c = let a = c .before .before .before .args in read (a .t1) (a .stream) (c .binding .ensures)
+size : (c : tie.After-id) → length (c .before .args .self .streams) ≡ 32
+size c = search (needs, length-mapped)
 
-marks : (c : tie.After-binding) → length (c .before .before .before .args .t1 .marks) ≡ 8
+marks : (c : tie.After-id) → length (c .before .args .self .marks) ≡ 8
 marks c = search (needs, length-mapped)
 
--- the reason is the rules'
-given : (c : tie.After-reason) → let a = c .before .before .before .before .before .before .args in
-    c .reason .result ≡ rules.arbitrateReason (a .device) (streamsOf (a .t1)) (a .stream) (headOf (a .head))
-given c =
-    let v = c .before in
-    let b = v .before .before in
-    let a = b .before .before .before .args in
-    c .reason .ensures (streamsOf (a .t1)) (a .stream) (as-is b) (v .survey .ensures)
-
-quiet-requires : tie.Need-quiet-requires
-quiet-requires c κs = search needs
-
-returns : tie.Need-returns
-returns c =
-    let a = c .before .before .args in
-    let e = streamsOf (a .t1) in
-    let n : length (a .t1 .streams) ≡ 32 = search (needs, length-mapped) in
-    let p = past-closed (a .t1) (a .stream) n (c .before .if1 .taken) in
-    c .quiet .ensures
-    ∙ arbitrate-refused e (a .stream) (a .device) (headOf (a .head)) (reason-is e (a .stream) (a .device) (headOf (a .head)) p (here refl))
-
-mul-s : tie.Need-mul-s
-mul-s c = search needs
-
-element-copy-out-s : tie.Need-element-copy-out-s
-element-copy-out-s c = search needs
-
-binding-requires : tie.Need-binding-requires
-binding-requires c κs = search needs
+cast-k : tie.Need-cast-k
+cast-k c = search needs
 
 survey-requires : tie.Need-survey-requires
 survey-requires c κs = search needs
@@ -54,50 +24,23 @@ survey-requires c κs = search needs
 reason-requires : tie.Need-reason-requires
 reason-requires c κs = search needs
 
-quiet-requires-2 : tie.Need-quiet-requires-2
-quiet-requires-2 c κs = search needs
+heard-requires : tie.Need-heard-requires
+heard-requires c κs = c .before .survey .ensures
 
-returns-2 : tie.Need-returns-2
-returns-2 c =
-    let d = c .before .before in
-    let a = d .before .before .before .before .before .before .args in
-    c .quiet2 .ensures
-    ∙ arbitrate-refused (streamsOf (a .t1)) (a .stream) (a .device) (headOf (a .head)) (sym (c .before .if2 .taken) ∙ given d)
+mul-s : tie.Need-mul-s
+mul-s c = search needs
 
-leaving-requires : tie.Need-leaving-requires
-leaving-requires c κs = as-is (c .before .before .before .before .before)
+element-copy-out-s : tie.Need-element-copy-out-s
+element-copy-out-s c = search needs
 
-stream-requires : tie.Need-stream-requires
-stream-requires c κs = search needs
+arbitrated-requires : tie.Need-arbitrated-requires
+arbitrated-requires c κs = search needs
 
-mul-t28 : tie.Need-mul-t28
-mul-t28 c = search needs
+mul-t17 : tie.Need-mul-t17
+mul-t17 c = search needs
 
-element-set-from-self : tie.Need-element-set-from-self
-element-set-from-self c = search needs
-
-returns-3 : tie.Need-returns-3
-returns-3 c =
-    let l = c .before in
-    let o = l .before .before in
-    let d = o .before in
-    let a = d .before .before .before .before .before .before .args in
-    let e = streamsOf (a .t1) in
-    closes e (a .stream) (l .leaving .result) (d .reason .result) (stored (a .t1) (a .stream) (c .stream .result) (c .stream .ensures))
-    (l .leaving .ensures)
-    ∙ arbitrate-closes e (a .stream) (a .device) (headOf (a .head)) (given d) (o .if2 .left) (l .before .if3 .taken)
-
-same-pair-requires : tie.Need-same-pair-requires
-same-pair-requires c κs = search needs
-
-stream-requires-2 : tie.Need-stream-requires-2
-stream-requires-2 c κs = search needs
-
-mul-t19 : tie.Need-mul-t19
-mul-t19 c = search needs
-
-element-set-from-self-2 : tie.Need-element-set-from-self-2
-element-set-from-self-2 c = search needs
+element-set-from-left : tie.Need-element-set-from-left
+element-set-from-left c = search needs
 
 cast-at : tie.Need-cast-at
 cast-at c = search needs
@@ -111,62 +54,44 @@ element-copy-out-old c = search needs
 raised-requires : tie.Need-raised-requires
 raised-requires c κs = search needs
 
-mul-t19-2 : tie.Need-mul-t19-2
-mul-t19-2 c = search needs
+mul-t17-2 : tie.Need-mul-t17-2
+mul-t17-2 c = search needs
 
-element-set-from-self-3 : tie.Need-element-set-from-self-3
-element-set-from-self-3 c = search needs
+element-set-from-left-2 : tie.Need-element-set-from-left-2
+element-set-from-left-2 c = search needs
 
-told-requires : tie.Need-told-requires
-told-requires c κs = search needs
-
-returns-4 : tie.Need-returns-4
-returns-4 c =
-    let r = c .before in
-    let x = r .before .before in
-    let t = x .before in
-    let d = t .before .before .before in
+returns : tie.Need-returns
+returns c =
+    let x = c .before .before in
+    let t = x .before .before in
+    let d = t .before in
     let v = d .before in
-    let b = v .before .before in
-    let a = b .before .before .before .args in
-    let e = streamsOf (a .t1) in
-    let h = headOf (a .head) in
-    let p = sym (t .before .if3 .left) ∙ given d in
-    let w = v .survey .ensures in
-    let n = marks b in
-    let f = w .clash ∙ accepted-alone e (a .stream) (a .device) h p in
-    arbitrate-binds e (a .stream) (a .device) h
-    (bound-stored (a .t1) (a .stream) (a .head) _ (x .stream2 .result) (x .stream2 .ensures)
-    (raised-at (a .t1 .marks) n (a .head .role) (a .head .id) (r .raised .result) (r .raised .ensures)))
-    p (t .same-pair .ensures e (b .before .before .if1 .left) w f) (c .told .ensures)
+    let i = v .before in
+    let a = i .before .args in
+    let e = streamsOf (a .self) in
+    let p = d .reason .ensures e (a .stream) (v .survey .ensures .own) (v .survey .ensures) in
+    arbitrate-leaves e (a .stream) (a .device) (headOf (a .head)) (t .heard .result)
+    (arbitrates (a .self) (size i) (a .stream) (x .arbitrated .result) (marks i) (a .head) (c .raised .result) (a .device) (d .reason .result) p
+    (x .arbitrated .ensures) (c .raised .ensures))
+    p (t .heard .ensures (a .device) p)
 
 pub arbitrate-spec : {M : Type 1} → statement M
 arbitrate-spec =
     tie.close
     (tie.spec
-    quiet-requires
-    returns
-    mul-s
-    element-copy-out-s
-    binding-requires
+    cast-k
     survey-requires
     reason-requires
-    quiet-requires-2
-    returns-2
-    leaving-requires
-    stream-requires
-    mul-t28
-    element-set-from-self
-    returns-3
-    same-pair-requires
-    stream-requires-2
-    mul-t19
-    element-set-from-self-2
+    heard-requires
+    mul-s
+    element-copy-out-s
+    arbitrated-requires
+    mul-t17
+    element-set-from-left
     cast-at
     mul-old
     element-copy-out-old
     raised-requires
-    mul-t19-2
-    element-set-from-self-3
-    told-requires
-    returns-4)
+    mul-t17-2
+    element-set-from-left-2
+    returns)

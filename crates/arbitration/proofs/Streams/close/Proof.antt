@@ -1,29 +1,25 @@
--- A stream that is not open refuses with 4, and an open one closes under reason 0. Assumes nothing.
-use mathlib.Core.Path.{_≡_, refl, sym, _∙_}
+-- Right because what is stored in the stream's place is what a CLOSE with its reason leaves there. Assumes nothing.
+use mathlib.Core.Path.{_≡_}
 use lib.ListN.{length}
 use borrow.Author.Needs.{needs}
 use Rattle.rules.specs.Streams as rules
 use Rattle.arbitration.specs.Meaning.{bindingOf, streamsOf}
 use Rattle.rules.proofs.Lists.{length-mapped}
-use Rattle.arbitration.proofs.Records.{past-closed, read, stored}
-use Rattle.arbitration.proofs.Events.{close-closed, close-open, closes}
+use Rattle.arbitration.proofs.Records.{read-at}
+use Rattle.arbitration.proofs.Stores.{shuts}
 use Rattle.arbitration.proofs.Streams.close.Statement.{statement}
 use Rattle.arbitration.proofs.Streams.close.Tie as tie
 
+size : (c : tie.After-binding-of) → length (c .before .before .args .t1 .streams) ≡ 32
+size c = search (needs, length-mapped)
+
 -- the stream was read as it is
-as-is : (c : tie.After-binding) → let a = c .before .before .before .args in
-    bindingOf (c .binding .result) ≡ rules.streamAt (streamsOf (a .t1)) (a .stream)
-as-is c = let a = c .before .before .before .args in read (a .t1) (a .stream) (c .binding .ensures)
+as-is : (c : tie.After-binding-of) → let a = c .before .before .args in
+    bindingOf (c .binding-of .result) ≡ rules.streamAt (streamsOf (a .t1)) (a .stream)
+as-is c = let a = c .before .before .args in read-at (a .t1) (size c) (a .stream) (c .binding-of .ensures)
 
-quiet-requires : tie.Need-quiet-requires
-quiet-requires c κs = search needs
-
-returns : tie.Need-returns
-returns c =
-    let a = c .before .before .args in
-    let n : length (a .t1 .streams) ≡ 32 = search (needs, length-mapped) in
-    c .quiet .ensures
-    ∙ close-closed (streamsOf (a .t1)) (a .stream) (past-closed (a .t1) (a .stream) n (c .before .if1 .taken)) refl
+cast-k : tie.Need-cast-k
+cast-k c = search needs
 
 mul-s : tie.Need-mul-s
 mul-s c = search needs
@@ -31,57 +27,44 @@ mul-s c = search needs
 element-copy-out-s : tie.Need-element-copy-out-s
 element-copy-out-s c = search needs
 
-binding-requires : tie.Need-binding-requires
-binding-requires c κs = search needs
+binding-of-requires : tie.Need-binding-of-requires
+binding-of-requires c κs = search needs
 
-is-open-requires : tie.Need-is-open-requires
-is-open-requires c κs = search needs
+close-reason-requires : tie.Need-close-reason-requires
+close-reason-requires c κs = search needs
 
 leaving-requires : tie.Need-leaving-requires
-leaving-requires c κs = as-is (c .before .before)
+leaving-requires c κs = as-is (c .before)
 
-stream-requires : tie.Need-stream-requires
-stream-requires c κs = search needs
+closed-requires : tie.Need-closed-requires
+closed-requires c κs = search needs
 
-mul-t18 : tie.Need-mul-t18
-mul-t18 c = search needs
+mul-t10 : tie.Need-mul-t10
+mul-t10 c = search needs
 
 element-set-from-self : tie.Need-element-set-from-self
 element-set-from-self c = search needs
 
-returns-2 : tie.Need-returns-2
-returns-2 c =
+returns : tie.Need-returns
+returns c =
     let l = c .before in
-    let o = l .before .before in
-    let a = o .before .before .before .before .args in
-    let e = streamsOf (a .t1) in
-    closes e (a .stream) (l .leaving .result) 0 (stored (a .t1) (a .stream) (c .stream .result) (c .stream .ensures)) (l .leaving .ensures)
-    ∙ close-open e (a .stream) (as-is (o .before)) (sym (o .is-open .ensures) ∙ l .before .if2 .taken)
-
-quiet-requires-2 : tie.Need-quiet-requires-2
-quiet-requires-2 c κs = search needs
-
-returns-3 : tie.Need-returns-3
-returns-3 c =
-    let o = c .before .before in
-    let a = o .before .before .before .before .args in
-    c .quiet2 .ensures
-    ∙ close-closed (streamsOf (a .t1)) (a .stream) (as-is (o .before)) (sym (o .is-open .ensures) ∙ c .before .if2 .left)
+    let r = l .before in
+    let b = r .before in
+    let a = b .before .before .args in
+    shuts (a .t1) (size b) (a .stream) (c .closed .result) (as-is b) (r .close-reason .ensures) (c .closed .ensures)
+    (l .leaving .result) (l .leaving .ensures)
 
 pub close-spec : {M : Type 1} → statement M
 close-spec =
     tie.close
     (tie.spec
-    quiet-requires
-    returns
+    cast-k
     mul-s
     element-copy-out-s
-    binding-requires
-    is-open-requires
+    binding-of-requires
+    close-reason-requires
     leaving-requires
-    stream-requires
-    mul-t18
+    closed-requires
+    mul-t10
     element-set-from-self
-    returns-2
-    quiet-requires-2
-    returns-3)
+    returns)

@@ -3,38 +3,33 @@ use Prim.Native.Nat.{ℕ, _+_, _-_, _≤_}
 use native.Mathlib.Omega.{arith}
 use mathlib.Core.Path.{_≡_, ap, ap₂, _∙_}
 use mathlib.Core.Bool.{Bool, true, false, _&&_, _||_}
-use lib.ListN.{length, length-map}
+use lib.ListN.{length}
 use borrow.Author.Needs.{needs}
 use Rattle.rules.specs.Bytes.{if_then_else_}
 use Rattle.rules.specs.Streams.{heldElsewhere}
-use Rattle.arbitration.specs.Meaning.{idOf, streamOf, streamsOf}
-use Rattle.arbitration.specs.declared.Streams.{Streams}
+use Rattle.arbitration.specs.Meaning.{idOf, streamsOf}
 use Rattle.rules.proofs.Lists.{length-mapped}
+use Rattle.arbitration.proofs.Records.{sized, sized-marks, read-at}
 use Rattle.arbitration.proofs.Surveys.{mark-read, Walked, walked-none, walked-next, walked-count, walked-clash, walked-first}
 use Rattle.arbitration.proofs.Streams.survey.Statement.{statement}
 use Rattle.arbitration.proofs.Streams.survey.Tie as tie
 
 abbrev Inv-loop : tie.InvT-loop
-Inv-loop stream role id self place mark own members₀ held₀ holder₀ k₀ members held holder k =
+Inv-loop stream role id self place mark at own sender members₀ held₀ holder₀ k₀ members held holder k =
     (k ≤ 32) × (members ≤ k) × Walked (streamsOf self) stream role (idOf id) (idOf mark) members held holder k
 
 abbrev μ-loop : tie.MeasureT-loop
-μ-loop stream role id self place mark own members₀ held₀ holder₀ k₀ members held holder k = 32 - k
+μ-loop stream role id self place mark at own sender members₀ held₀ holder₀ k₀ members held holder k = 32 - k
 
-size : (c : tie.At-loop Inv-loop μ-loop) → length (c .before .before .before .args .t1 .streams) ≡ 32
+size : (c : tie.At-loop Inv-loop μ-loop) → length (c .before .before .before .before .before .args .t1 .streams) ≡ 32
 size c = search (needs, length-mapped)
 
-marks : (c : tie.At-loop Inv-loop μ-loop) → length (c .before .before .before .args .t1 .marks) ≡ 8
+marks : (c : tie.At-loop Inv-loop μ-loop) → length (c .before .before .before .before .before .args .t1 .marks) ≡ 8
 marks c = search (needs, length-mapped)
 
 at-most-one : (b : Bool) → (if b then 1 else 0) ≤ 1
 at-most-one true = omega arith
 at-most-one false = omega arith
-
-sizes : (self : Streams) → length (self .streams) ≡ 32 → length (self .marks) ≡ 8
-    → (length (streamsOf self .streams) ≡ 32) × (length (streamsOf self .marks) ≡ 8)
-unfolding streamsOf
-sizes self n m = (length-map (self .streams) streamOf ∙ n, length-map (self .marks) idOf ∙ m)
 
 cast-place : tie.Need-cast-place Inv-loop μ-loop
 cast-place c = search needs
@@ -48,10 +43,23 @@ element-copy-out-read c = search needs
 mark-of-requires : tie.Need-mark-of-requires Inv-loop μ-loop
 mark-of-requires c κs = search needs
 
+cast-at : tie.Need-cast-at Inv-loop μ-loop
+cast-at c = search needs
+
+mul-kept : tie.Need-mul-kept Inv-loop μ-loop
+mul-kept c = search needs
+
+element-copy-out-kept : tie.Need-element-copy-out-kept Inv-loop μ-loop
+element-copy-out-kept c = search needs
+
+binding-of-requires : tie.Need-binding-of-requires Inv-loop μ-loop
+binding-of-requires c κs = search needs
+
 loop-holds : tie.Need-loop-holds Inv-loop μ-loop
 loop-holds c =
-    let a = c .before .before .args in
-    (search needs, search needs, walked-none (streamsOf (a .t1)) (a .stream) (a .role) (idOf (a .id)) (idOf (c .mark-of .result)))
+    let m = c .before .before in
+    let a = m .before .before .args in
+    (search needs, search needs, walked-none (streamsOf (a .t1)) (a .stream) (a .role) (idOf (a .id)) (idOf (m .mark-of .result)))
 
 mul-s : tie.Need-mul-s Inv-loop μ-loop
 mul-s c = search needs
@@ -99,7 +107,7 @@ loop-again c =
     let o = e .before .before .before in
     let r = o .before in
     let d = r .before .before .before .before in
-    let a = d .before .before .before .args in
+    let a = d .before .before .before .before .before .args in
     let h = at-most-one (r .in-role .result) in
     let held = e .either .ensures ∙ ap (λ (z : Bool). d .loop .held || z) (e .before .both .ensures) in (
       omega arith,
@@ -121,15 +129,17 @@ returns c =
     let i = c .before in
     let l = i .before in
     let d = l .before in
-    let a = d .before .before .before .args in
+    let o = d .before in
+    let g = o .before .before in
+    let a = g .before .before .args in
     let w = d .loop .inv .2 in
     let h = l .loop-test .left in
     let n = marks d in
-    let m = d .before .mark-of .ensures ∙ mark-read (a .t1) n (a .role) in
-    let s = sizes (a .t1) (size d) n in
+    let m = g .mark-of .ensures ∙ mark-read (a .t1) n (a .role) in
     record {
-      streams = s .0;
-      marks = s .1;
+      streams = sized (a .t1) (size d);
+      marks = sized-marks (a .t1) n;
+      own = read-at (a .t1) (size d) (a .stream) (o .binding-of .ensures);
       members = walked-count (a .t1) (size d) w h;
       clash = c .both2 .ensures ∙ ap₂ _&&_ (i .is-set .ensures) (walked-clash (a .t1) (size d) w h);
       mark = m;
@@ -146,6 +156,10 @@ survey-spec =
     mul-read
     element-copy-out-read
     mark-of-requires
+    cast-at
+    mul-kept
+    element-copy-out-kept
+    binding-of-requires
     loop-holds
     mul-s
     element-copy-out-s
