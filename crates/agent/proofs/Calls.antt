@@ -1,13 +1,14 @@
 -- From what a command leaves to what a call leaves: a call whose buffers are long enough is the command that its frame reads as.
 -- Assumes nothing.
-use Prim.Native.Nat.{ℕ, _+_, _<_, _≤_}
+use Prim.Native.Nat.{ℕ, _+_, _-_, _<_, _≤_}
 use native.Mathlib.Omega.{arith}
 use mathlib.Core.Path.{_≡_, refl, sym, ap, ap₂, _∙_, subst}
 use mathlib.Core.Bool.{Bool, true, false, _&&_}
 use mathlib.Core.Logic.{_⊎_, inl, inr}
 use mathlib.Core.List.{List, _++_}
 use lib.Dec.{leb}
-use lib.ListN.{length}
+use lib.ListN.{length, take, drop, length-drop}
+use lib.Seq.{take-all}
 use borrow.Author.Tests.{le-leb, lt-leb}
 use Rattle.rules.specs.Bytes.{if_then_else_, part}
 use Rattle.rules.specs.Frame.{Command, cramped, READ, readFrame}
@@ -25,16 +26,21 @@ use Rattle.agent.specs.Meaning.{stateOf}
 use Rattle.agent.specs.Contract.{Kept, asked, Obeyed, Meets}
 use Rattle.agent.specs.Handlers.{queryIn, Named, Obeys}
 
+-- no list of calls leaves a count over 256
+pub no-stray : (a : Agent) (store : List ℕ) → Kept a store → 256 < a .count → ⊥
+unfolding stateOf
+no-stray a store k h = omega (arith, k .tables .few, parts-count (a .count) 220 store)
+
 module _ (a : Agent) (frame store d : List ℕ) where
   -- what the agent is left as is kept, since it is the rules' next state
-  kept-on : (r : Called) (store′ out : List ℕ) → Kept a store → Obeyed a (asked frame store d) store d r store′ out → Kept (r .agent) store′
+  pub kept-on : (r : Called) (store′ out : List ℕ) → Kept a store → Obeyed a (asked frame store d) store d r store′ out → Kept (r .agent) store′
   kept-on r store′ out k o =
       subst Sound (sym (o .state))
       (next-sound (stateOf a store) (asked frame store d) (call-formed (length store) (record { frame = frame; buffer = length d })) k)
 
   -- ---- 2
 
-  is-cramped : (length d < 57_344) ⊎ (length store < 56_320) → asked frame store d ≡ cramped
+  pub is-cramped : (length d < 57_344) ⊎ (length store < 56_320) → asked frame store d ≡ cramped
   unfolding commandOf
   is-cramped (inl h) = rw (lt-leb 57_344 (length d) h)
   is-cramped (inr h) = rw (lt-leb 56_320 (length store) h) (none (leb 57_344 (length d)))
@@ -43,25 +49,14 @@ module _ (a : Agent) (frame store d : List ℕ) where
       none true = refl
       none false = refl
 
-  nothing-done : Obeyed a cramped store d (record { agent = a; reason = 2 }) store d
+  pub nothing-done : Obeyed a cramped store d (record { agent = a; reason = 2 }) store d
   unfolding next nextControl nextTables reply replyOf answer
   nothing-done = record { state = refl; returned = refl; filled = refl; room = refl; beyond = refl; untouched = λ h. refl }
-
-  pub cramped-met : (length d < 57_344) ⊎ (length store < 56_320)
-      → Meets a frame store d (record { agent = a; reason = 2 }) store d
-  cramped-met h k =
-      let o = subst (λ (c : Command). Obeyed a c store d (record { agent = a; reason = 2 }) store d) (sym (is-cramped h)) nothing-done in
-      record { kept = k; obeyed = o }
-
-  -- no list of calls leaves a count over 256
-  pub stray-met : 256 < a .count → Meets a frame store d (record { agent = a; reason = 2 }) store d
-  unfolding stateOf
-  stray-met h k = absurd (omega (arith, k .tables .few, parts-count (a .count) 220 store))
 
   -- ---- every other call
 
   module _ (roomy : 57_344 ≤ length d) (enough : 56_320 ≤ length store) where
-    is-read : asked frame store d ≡ readFrame frame
+    pub is-read : asked frame store d ≡ readFrame frame
     unfolding commandOf
     is-read = rw (le-leb 57_344 (length d) roomy, le-leb 56_320 (length store) enough)
 
@@ -70,6 +65,12 @@ module _ (a : Agent) (frame store d : List ℕ) where
     met c r store′ out e h k =
         let o = subst (λ (c : Command). Obeyed a c store d r store′ out) (sym (is-read ∙ e)) (h k) in
         record { kept = kept-on r store′ out k o; obeyed = o }
+
+-- ---- frames
+
+-- all of a frame from a place on
+pub from : (f : List ℕ) (n : ℕ) → take (length f - n) (drop n f) ≡ drop n f
+from f n = take-all (length f - n) (drop n f) (omega (arith, length-drop n f))
 
 -- ---- READ
 

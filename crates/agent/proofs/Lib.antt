@@ -1,5 +1,6 @@
--- Laws of the agent: answers as bytes, what each command leaves, and lists of calls.
+-- Laws of the agent: answers as bytes, what each command leaves, the parts of a call, and lists of calls.
 pub mod Answers
 pub mod Obeying
 pub mod Calls
+pub mod Parts
 pub mod Demand3

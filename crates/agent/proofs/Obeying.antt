@@ -1,7 +1,7 @@
 -- From what a handler leaves to what its command leaves under the rules. Assumes nothing.
 use Prim.Native.Nat.{ℕ}
 use native.Mathlib.Omega.{arith}
-use mathlib.Core.Path.{_≡_, refl, sym, ap, ap₂, _∙_}
+use mathlib.Core.Path.{_≡_, refl, sym, ap, ap₂, _∙_, subst}
 use mathlib.Core.Bool.{Bool, true, false, not, _&&_, true≢false}
 use mathlib.Core.List.{List, [], _∷_, _++_, map}
 use lib.Dec.{eqb, ltb}
@@ -32,6 +32,7 @@ use Rattle.agent.specs.declared.Wrote.{Wrote}
 use Rattle.agent.specs.Meaning.{controlOf, stateOf}
 use Rattle.agent.specs.Contract.{Kept, Obeyed}
 use Rattle.agent.specs.Handlers.{elected, configured, wrote, unchanged, ObeysAny}
+use Rattle.agent.specs.Parts.{turn}
 use Rattle.agent.proofs.Answers.{replies, fills}
 
 -- a command that leaves the store as it is
@@ -55,6 +56,17 @@ module _ (a : Agent) (c : Command) (store d : List ℕ) (r : Called) (out : List
 
 -- ---- OPEN, CLOSE, ARBITRATE
 
+-- the commands that are events, and a malformed frame
+abbrev pub OnStreams : Command → Type 0
+OnStreams cramped = ⊥
+OnStreams malformed = Unit {0}
+OnStreams (OPEN n) = Unit {0}
+OnStreams (CLOSE n) = Unit {0}
+OnStreams (ARBITRATE n h) = Unit {0}
+OnStreams (CONFIGURE h rows) = ⊥
+OnStreams (WRITE h atomicity us) = ⊥
+OnStreams (READ q) = ⊥
+
 -- what an event left, and its answer
 module _ (a : Agent) (left : Outcome) (d out : List ℕ) (f : out ≡ splice d 0 (answerBytes (heard (outcomeOf left)))) where
   event-obeyed : (c : Command) → (c ≡ cramped → ⊥) → (o : streams.Outcome) → outcomeOf left ≡ o
@@ -67,25 +79,29 @@ module _ (a : Agent) (left : Outcome) (d out : List ℕ) (f : out ≡ splice d 0
       (sym (left′ store ∙ ap (λ (x : streams.Outcome). record { control = withStreams (controlOf a) (x .after); tables = tablesIn (a .count) store }) (sym e)))
       refl f
 
-  pub open-obeyed : (n : ℕ) → outcomeOf left ≡ streams.openStream (controlOf a .streams) n → ObeysAny a (OPEN n) (elected a left) d out
+  pub turn-obeyed : (c : Command) → OnStreams c → outcomeOf left ≡ turn (a .device) (controlOf a .streams) c
+      → ObeysAny a c (elected a left) d out
   unfolding stateOf next nextControl nextTables answer
-  open-obeyed n e = event-obeyed (OPEN n) (λ z. let w : _≡_ {A = ℕ} 0 1 = cc in omega arith) _ e (λ s. refl) (λ s. refl)
+  turn-obeyed cramped h e = absurd h
+  turn-obeyed malformed h e = event-obeyed malformed (λ z. subst OnStreams z h) _ e (λ s. refl) (λ s. refl)
+  turn-obeyed (OPEN n) h e = event-obeyed (OPEN n) (λ z. subst OnStreams z h) _ e (λ s. refl) (λ s. refl)
+  turn-obeyed (CLOSE n) h e = event-obeyed (CLOSE n) (λ z. subst OnStreams z h) _ e (λ s. refl) (λ s. refl)
+  turn-obeyed (ARBITRATE n i) h e = event-obeyed (ARBITRATE n i) (λ z. subst OnStreams z h) _ e (λ s. refl) (λ s. refl)
+  turn-obeyed (CONFIGURE i rows) h e = absurd h
+  turn-obeyed (WRITE i y us) h e = absurd h
+  turn-obeyed (READ q) h e = absurd h
 
-  pub close-obeyed : (n : ℕ) → outcomeOf left ≡ streams.closeStream (controlOf a .streams) n → ObeysAny a (CLOSE n) (elected a left) d out
-  unfolding stateOf next nextControl nextTables answer
-  close-obeyed n e = event-obeyed (CLOSE n) (λ z. let w : _≡_ {A = ℕ} 0 1 = cc in omega arith) _ e (λ s. refl) (λ s. refl)
-
-  pub arbitrate-obeyed : (n : ℕ) (h : Head) → outcomeOf left ≡ streams.arbitrate (a .device) (controlOf a .streams) n h
-      → ObeysAny a (ARBITRATE n h) (elected a left) d out
-  unfolding stateOf next nextControl nextTables answer
-  arbitrate-obeyed n h e = event-obeyed (ARBITRATE n h) (λ z. let w : _≡_ {A = ℕ} 0 1 = cc in omega arith) _ e (λ s. refl) (λ s. refl)
-
--- an OPEN notifies nobody
-pub nobody-told : (left : Outcome) (e : streams.Streams) (n : ℕ) → outcomeOf left ≡ streams.openStream e n
-    → plain (left .reason) ≡ heard (outcomeOf left)
-unfolding streams.openStream
-nobody-told left e n p =
-    ap (λ (rs : List (List ℕ)). record { reason = left .reason; records = rs }) (sym (ap (λ (o : streams.Outcome). o .records) p))
+-- what the rules answer to an event
+pub turn-answered : (a : Agent) (store : List ℕ) (c : Command) → OnStreams c → answer (stateOf a store) c ≡ heard (turn (a .device) (controlOf a .streams) c)
+unfolding stateOf answer
+turn-answered a store cramped h = absurd h
+turn-answered a store malformed h = refl
+turn-answered a store (OPEN n) h = refl
+turn-answered a store (CLOSE n) h = refl
+turn-answered a store (ARBITRATE n i) h = refl
+turn-answered a store (CONFIGURE i rows) h = absurd h
+turn-answered a store (WRITE i y us) h = absurd h
+turn-answered a store (READ q) h = absurd h
 
 -- ---- refusals of the other commands: the record as it was, and a head alone
 

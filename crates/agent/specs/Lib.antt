@@ -3,3 +3,4 @@ pub mod Meaning
 pub mod Contract
 pub mod Claim
 pub mod Handlers
+pub mod Parts

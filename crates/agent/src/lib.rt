@@ -11,12 +11,14 @@ ghost use Rattle.rules.specs.Frame as rules;
 ghost use Rattle.rules.specs.Answer.{answerBytes};
 ghost use Rattle.rules.specs.Call.{heard};
 ghost use Rattle.buffers.specs.Splice.{splice};
-ghost use Rattle.arbitration.specs.Meaning.{headOf, outcomeOf};
+ghost use Rattle.arbitration.specs.Meaning.{headOf, streamsOf, outcomeOf, leftAs};
 ghost use Rattle.entry_store.specs.Update.{updatesIn};
 ghost use Rattle.frames.specs.Meaning.{commandOf, Fits};
 ghost use Rattle.agent.specs.Contract.{Fresh, Meets};
-ghost use Rattle.agent.specs.Handlers.{queryIn, Named, elected, configured, wrote, unchanged, Obeys, ObeysAny};
+ghost use Rattle.agent.specs.Handlers.{queryIn, Named, configured, wrote, unchanged, Obeys, ObeysAny};
+ghost use Rattle.agent.specs.Parts.{isEvent, isConfigure, turn, Elects, notified, onRows, Configures, onEntries, Serves};
 use arbitration::Head;
+use arbitration::Notify;
 use arbitration::Outcome;
 use arbitration::Streams;
 use frames::Command;
@@ -66,17 +68,40 @@ fn write_head(reason: u8, count: usize, answer: &mut [u8])
     answer[3] = (count % 256) as u8;
 }
 
-// What CONFIGURE leaves.
-struct Configured {
-    rows: Rows,
-    count: usize,
-    reason: u8,
+// What CONFIGURE leaves of the record.
+pub struct Configured {
+    pub rows: Rows,
+    pub count: usize,
+    pub reason: u8,
 }
 
-// What WRITE leaves.
-struct Wrote {
-    count: usize,
-    reason: u8,
+// What WRITE or READ leaves of the record.
+pub struct Wrote {
+    pub count: usize,
+    pub reason: u8,
+}
+
+// ---- which part of the record a frame is for
+
+// OPEN, CLOSE and ARBITRATE, by the command byte: the stream record.
+pub fn is_event(frame: &[u8]) -> bool
+    ensures { λ r. ⌜ r ≡ isEvent (now (frame .entry)) ⌝ }
+{
+    if frame.len() == 0 {
+        return false;
+    }
+    let command = frame[0];
+    1 <= command && command <= 3
+}
+
+// CONFIGURE, by the command byte: the rows and the number of entries. Any other frame changes that number at most.
+pub fn is_configure(frame: &[u8]) -> bool
+    ensures { λ r. ⌜ r ≡ isConfigure (now (frame .entry)) ⌝ }
+{
+    if frame.len() == 0 {
+        return false;
+    }
+    frame[0] == 4
 }
 
 // ---- OPEN, CLOSE, ARBITRATE
@@ -92,35 +117,59 @@ fn respond(outcome: Outcome, answer: &mut [u8])
     write_head(outcome.reason, count, answer);
 }
 
-// An OPEN notifies nobody.
-fn open(agent: Agent, stream: u8, answer: &mut [u8]) -> Outcome
-    requires { ⌜ 644 ≤ length (now answer) ⌝ }
-    ensures { λ r. ⌜ ObeysAny agent (rules.OPEN stream) (elected agent r) (now (answer .entry)) (now (answer .exit)) ⌝ }
+// The stream record as it is, under a reason, with nobody notified.
+fn unheard(streams: Streams, reason: u8) -> Outcome
+    ensures { λ r. ⌜ outcomeOf r ≡ leftAs (streamsOf streams) reason ⌝ }
 {
-    let streams = agent.streams;
-    let outcome = streams.open(stream);
-    write_head(outcome.reason, 0, answer);
-    outcome
+    Outcome {
+        streams,
+        reason,
+        notify: Notify::None,
+    }
 }
 
-fn close(agent: Agent, stream: u8, answer: &mut [u8]) -> Outcome
-    requires { ⌜ 644 ≤ length (now answer) ⌝ }
-    ensures { λ r. ⌜ ObeysAny agent (rules.CLOSE stream) (elected agent r) (now (answer .entry)) (now (answer .exit)) ⌝ }
+// The event that a command is; any other command is refused under 1.
+fn event(device: u64, streams: Streams, command: Command) -> Outcome
+    ensures { λ r. ⌜ outcomeOf r ≡ turn device (streamsOf streams) (commandOf command []) ⌝ }
 {
-    let streams = agent.streams;
-    let outcome = streams.close(stream);
-    respond(outcome, answer);
-    outcome
+    match command {
+        Command::Open(stream) => streams.open(stream),
+        Command::Close(stream) => streams.close(stream),
+        Command::Arbitrate(stream, head) => streams.arbitrate(device, stream, head),
+        Command::Configure(_, _) => unheard(streams, 1),
+        Command::Write(_, _, _) => unheard(streams, 1),
+        Command::Read(_) => unheard(streams, 1),
+    }
 }
 
-fn arbitrate(agent: Agent, stream: u8, head: Head, answer: &mut [u8]) -> Outcome
-    requires { ⌜ 644 ≤ length (now answer) ⌝ }
-    ensures { λ r. ⌜ ObeysAny agent (rules.ARBITRATE stream (headOf head)) (elected agent r) (now (answer .entry)) (now (answer .exit)) ⌝ }
+// What an event leaves: 2 is tested first, then 1. Nothing is written: `notify` does that, when the record has been stored, so that
+// nobody needs the old one any more.
+pub fn elect(device: u64, streams: Streams, asked: Frame, room: usize, space: usize) -> Outcome
+    ensures { λ r. ⌜ Elects device streams asked room space r ⌝ }
 {
-    let streams = agent.streams;
-    let outcome = streams.arbitrate(agent.device, stream, head);
+    if space < 57344 {
+        return unheard(streams, 2);
+    }
+    if room < 56320 {
+        return unheard(streams, 2);
+    }
+    let Frame::Asks(command) = asked else {
+        return unheard(streams, 1);
+    };
+    event(device, streams, command)
+}
+
+// Writes an event's answer; under 2 nothing is written.
+pub fn notify(outcome: Outcome, answer: &mut [u8])
+    ensures { λ _. ⌜ now (answer .exit) ≡ notified (outcomeOf outcome) (now (answer .entry)) ⌝ }
+{
+    if answer.len() < 644 {
+        return;
+    }
+    if outcome.reason == 2 {
+        return;
+    }
     respond(outcome, answer);
-    outcome
 }
 
 // ---- CONFIGURE
@@ -178,6 +227,58 @@ fn configure(agent: Agent, head: Head, t: usize, rows: &[u8], answer: &mut [u8])
         count: 0,
         reason: 0,
     }
+}
+
+// The rows and the number of entries as they are, under a reason.
+fn unconfigured(agent: Agent, reason: u8) -> Configured
+    ensures { λ r. ⌜ configured agent r ≡ unchanged agent reason ⌝ }
+{
+    let rows = agent.rows;
+    Configured {
+        rows,
+        count: agent.count,
+        reason,
+    }
+}
+
+// 1: the frame is malformed, or no CONFIGURE.
+fn refuse_rows(agent: Agent, answer: &mut [u8]) -> Configured
+    requires { ⌜ 4 ≤ length (now answer) ⌝ }
+    ensures { λ r. ⌜ ObeysAny agent rules.malformed (configured agent r) (now (answer .entry)) (now (answer .exit)) ⌝ }
+{
+    write_head(1, 0, answer);
+    unconfigured(agent, 1)
+}
+
+// Obeys a CONFIGURE; any other command is refused under 1.
+fn install(agent: Agent, command: Command, frame: &[u8], answer: &mut [u8]) -> Configured
+    requires { ⌜ Fits command (now frame) × (4 ≤ length (now answer)) ⌝ }
+    ensures { λ r. ⌜ ObeysAny agent (onRows (commandOf command (now (frame .entry)))) (configured agent r) (now (answer .entry)) (now (answer .exit)) ⌝ }
+{
+    match command {
+        Command::Open(_) => refuse_rows(agent, answer),
+        Command::Close(_) => refuse_rows(agent, answer),
+        Command::Arbitrate(_, _) => refuse_rows(agent, answer),
+        Command::Configure(head, t) => configure(agent, head, t, &frame[28..], answer),
+        Command::Write(_, _, _) => refuse_rows(agent, answer),
+        Command::Read(_) => refuse_rows(agent, answer),
+    }
+}
+
+// A call that is a CONFIGURE: 2 is tested first, and nothing is written; then 1.
+pub fn reconfigure(agent: Agent, frame: &[u8], room: usize, answer: &mut [u8]) -> Configured
+    ensures { λ r. ⌜ Configures agent (now (frame .entry)) room (now (answer .entry)) r (now (answer .exit)) ⌝ }
+{
+    if answer.len() < 57344 {
+        return unconfigured(agent, 2);
+    }
+    if room < 56320 {
+        return unconfigured(agent, 2);
+    }
+    let Frame::Asks(command) = frames::read_frame(frame) else {
+        return refuse_rows(agent, answer);
+    };
+    install(agent, command, frame, answer)
 }
 
 // ---- WRITE
@@ -299,74 +400,92 @@ fn read(agent: Agent, query: Query, bytes: &[u8], store: &[u8], answer: &mut [u8
     0
 }
 
-// ---- a call
-
-// Does what the command of a frame asks, and hands back the record with what changed of it. In place: each handler is given the
-// record and hands back no more than its command changes.
-fn obey(
-    mut agent: Agent,
-    command: Command,
-    frame: &[u8],
-    store: &mut [u8],
-    answer: &mut [u8],
-) -> Called
-    requires { ⌜ (rules.readFrame (now frame) ≡ commandOf command (now frame)) × Fits command (now frame) × (agent .count ≤ 256) × (56320 ≤ length (now store)) × (57344 ≤ length (now answer)) ⌝ }
-    ensures { λ r. ⌜ Obeys agent (commandOf command (now (frame .entry))) (now (store .entry)) (now (answer .entry)) r (now (store .exit)) (now (answer .exit)) ⌝ }
+// 1: the frame is malformed, or neither a WRITE nor a READ.
+fn refuse_entries(agent: Agent, answer: &mut [u8]) -> Wrote
+    requires { ⌜ 4 ≤ length (now answer) ⌝ }
+    ensures { λ r. ⌜ ObeysAny agent rules.malformed (wrote agent r) (now (answer .entry)) (now (answer .exit)) ⌝ }
 {
-    let reason = match command {
-        Command::Open(stream) => {
-            let outcome = open(agent, stream, answer);
-            let left = outcome.streams;
-            agent.streams = left;
-            outcome.reason
-        }
-        Command::Close(stream) => {
-            let outcome = close(agent, stream, answer);
-            let left = outcome.streams;
-            agent.streams = left;
-            outcome.reason
-        }
-        Command::Arbitrate(stream, head) => {
-            let outcome = arbitrate(agent, stream, head, answer);
-            let left = outcome.streams;
-            agent.streams = left;
-            outcome.reason
-        }
-        Command::Configure(head, t) => {
-            let configured = configure(agent, head, t, &frame[28..], answer);
-            let rows = configured.rows;
-            agent.rows = rows;
-            agent.count = configured.count;
-            configured.reason
-        }
-        Command::Write(head, atomicity, n) => {
-            let wrote = write(agent, head, atomicity, n, &frame[29..], store, answer);
-            agent.count = wrote.count;
-            wrote.reason
-        }
-        Command::Read(query) => read(agent, query, &frame[10..], store, answer),
-    };
-    Called { agent, reason }
+    write_head(1, 0, answer);
+    Wrote {
+        count: agent.count,
+        reason: 1,
+    }
 }
 
-// One call: 2 is tested first, and nothing is written; then 1.
-pub fn call(agent: Agent, frame: &[u8], store: &mut [u8], answer: &mut [u8]) -> Called
-    ensures { λ r. ⌜ Meets agent (now (frame .entry)) (now (store .entry)) (now (answer .entry)) r (now (store .exit)) (now (answer .exit)) ⌝ }
+// Obeys a WRITE or a READ; any other command is refused under 1.
+fn obey(agent: Agent, command: Command, frame: &[u8], store: &mut [u8], answer: &mut [u8]) -> Wrote
+    requires { ⌜ (rules.readFrame (now frame) ≡ commandOf command (now frame)) × Fits command (now frame) × (agent .count ≤ 256) × (56320 ≤ length (now store)) × (57344 ≤ length (now answer)) ⌝ }
+    ensures { λ r. ⌜ Obeys agent (onEntries (commandOf command (now (frame .entry)))) (now (store .entry)) (now (answer .entry)) (wrote agent r) (now (store .exit)) (now (answer .exit)) ⌝ }
 {
+    match command {
+        Command::Open(_) => refuse_entries(agent, answer),
+        Command::Close(_) => refuse_entries(agent, answer),
+        Command::Arbitrate(_, _) => refuse_entries(agent, answer),
+        Command::Configure(_, _) => refuse_entries(agent, answer),
+        Command::Write(head, atomicity, n) => {
+            write(agent, head, atomicity, n, &frame[29..], store, answer)
+        }
+        Command::Read(query) => {
+            let reason = read(agent, query, &frame[10..], store, answer);
+            let count = agent.count;
+            Wrote { count, reason }
+        }
+    }
+}
+
+// A call that is a WRITE or a READ, or no frame at all: 2 is tested first, and nothing is written; then 1.
+pub fn serve(agent: Agent, frame: &[u8], store: &mut [u8], answer: &mut [u8]) -> Wrote
+    ensures { λ r. ⌜ Serves agent (now (frame .entry)) (now (store .entry)) (now (answer .entry)) r (now (store .exit)) (now (answer .exit)) ⌝ }
+{
+    let count = agent.count;
     if answer.len() < 57344 {
-        return Called { agent, reason: 2 };
+        return Wrote { count, reason: 2 };
     }
     if store.len() < 56320 {
-        return Called { agent, reason: 2 };
+        return Wrote { count, reason: 2 };
     }
-    let count = agent.count;
     if 256 < count {
         // no list of calls leaves such a record; the store is too short for it
-        return Called { agent, reason: 2 };
+        return Wrote { count, reason: 2 };
     }
     let Frame::Asks(command) = frames::read_frame(frame) else {
-        write_head(1, 0, answer);
-        return Called { agent, reason: 1 };
+        return refuse_entries(agent, answer);
     };
     obey(agent, command, frame, store, answer)
+}
+
+// ---- a call
+
+// One call, by the parts of the record that it may change.
+pub fn call(mut agent: Agent, frame: &[u8], store: &mut [u8], answer: &mut [u8]) -> Called
+    ensures { λ r. ⌜ Meets agent (now (frame .entry)) (now (store .entry)) (now (answer .entry)) r (now (store .exit)) (now (answer .exit)) ⌝ }
+{
+    if is_event(frame) {
+        let asked = frames::read_frame(frame);
+        let streams = agent.streams;
+        let outcome = elect(agent.device, streams, asked, store.len(), answer.len());
+        notify(outcome, answer);
+        let left = outcome.streams;
+        agent.streams = left;
+        return Called {
+            agent,
+            reason: outcome.reason,
+        };
+    }
+    if is_configure(frame) {
+        let installed = reconfigure(agent, frame, store.len(), answer);
+        let rows = installed.rows;
+        agent.rows = rows;
+        agent.count = installed.count;
+        return Called {
+            agent,
+            reason: installed.reason,
+        };
+    }
+    let served = serve(agent, frame, store, answer);
+    agent.count = served.count;
+    Called {
+        agent,
+        reason: served.reason,
+    }
 }

@@ -1,93 +1,79 @@
--- Right because a call whose buffers are long enough is the command that its frame reads as, and that is obeyed. Assumes nothing.
-use mathlib.Core.Path.{_≡_, sym, ap, _∙_, subst}
-use mathlib.Core.Logic.{inl, inr}
-use native.Mathlib.Omega.{arith}
+-- Right because by its command byte a frame is for one part of the record, and what that part obeys is what was asked. Assumes nothing.
 use denote.Ref.{now}
-use Rattle.rules.specs.Frame.{readFrame, malformed}
-use Rattle.frames.specs.declared.Frame.{Frame}
-use Rattle.frames.specs.Meaning.{commandOf, frameOf, Fits, FrameFits}
-use Rattle.agent.specs.Handlers.{unchanged}
-use Rattle.agent.proofs.Answers.{head-alone}
-use Rattle.agent.proofs.Obeying.{malformed-obeyed}
-use Rattle.agent.proofs.Calls.{cramped-met, stray-met, met}
+use mathlib.Core.Path.{sym, _∙_}
+use Rattle.agent.proofs.Parts.{event-met, configure-met, serve-met}
 use borrow.Author.Needs.{needs}
 use Rattle.agent.proofs.call.Statement.{statement}
 use Rattle.agent.proofs.call.Tie as tie
 
-returns : tie.Need-returns
-returns c = let a = c .before .before .before .before .args in cramped-met (a .agent) (now (a .frame)) (now (a .store)) (now (a .answer)) (inl (c .if1 .taken))
-
-returns-2 : tie.Need-returns-2
-returns-2 c = let a = c .before .before .before .before .before .args in cramped-met (a .agent) (now (a .frame)) (now (a .store)) (now (a .answer)) (inr (c .if2 .taken))
-
-returns-3 : tie.Need-returns-3
-returns-3 c = let a = c .before .before .before .before .before .before .args in stray-met (a .agent) (now (a .frame)) (now (a .store)) (now (a .answer)) (c .if3 .taken)
+is-event-requires : tie.Need-is-event-requires
+is-event-requires c κs = search needs
 
 read-frame-requires : tie.Need-read-frame-requires
 read-frame-requires c κs = search needs
 
-enum-known-command : tie.Need-enum-known-command
-enum-known-command c = search needs
+elect-requires : tie.Need-elect-requires
+elect-requires c κs = search needs
 
-enum-told : tie.Need-enum-told
-enum-told c = search needs
-
-write-head-requires : tie.Need-write-head-requires
-write-head-requires c κs = search needs
+notify-requires : tie.Need-notify-requires
+notify-requires c κs = search needs
 
 same-length : tie.Need-same-length
 same-length c = search needs
 
-returns-4 : tie.Need-returns-4
-returns-4 c =
+returns : tie.Need-returns
+returns c =
     let a = c .before .before .before .before .before .before .before .before .before .before .before .before .before .args in
-    let f = now (a .frame) in
-    let s = now (a .store) in
-    let d = now (a .answer) in
-    let h = c .before .before .write-head in
-    let out = h .last .1 .1 .0 in
-    met (a .agent) f s d (c .before .before .before .before .before .before .before .before .before .if1 .left) (c .before .before .before .before .before .before .before .before .if2 .left) malformed (unchanged (a .agent) 1) s out
-    (sym (c .before .before .before .before .before .before .read-frame .ensures .0) ∙ ap (λ (x : Frame). frameOf x f) (c .before .before .before .before .enum-told .given .1))
-    (λ k. malformed-obeyed (a .agent) s d out (head-alone 1 d out (h .ensures)))
+    event-met (a .agent) (now (a .frame)) (now (a .store)) (now (a .answer)) (c .before .before .before .notify .last .1 .0) (c .before .before .before .before .before .before .before .read-frame .result) (c .before .before .before .before .before .elect .result)
+    (sym (c .before .before .before .before .before .before .before .before .before .is-event .ensures) ∙ c .before .before .before .before .before .before .before .before .if1 .taken) (c .before .before .before .before .before .before .before .read-frame .ensures .0) (c .before .before .before .before .before .elect .ensures) (c .before .before .before .notify .ensures)
 
--- the frame that was read, and the command that it asks for
-said : (m : tie.After-command) → let f = now (m .before .before .before .before .before .before .before .before .before .args .frame) in readFrame f ≡ commandOf (m .command .given .0 .0) f
-said m = let f = now (m .before .before .before .before .before .before .before .before .before .args .frame) in sym (m .before .before .read-frame .ensures .0) ∙ ap (λ (r : Frame). frameOf r f) (m .command .given .1)
+is-configure-requires : tie.Need-is-configure-requires
+is-configure-requires c κs = search needs
 
-fitting : (m : tie.After-command) → Fits (m .command .given .0 .0) (now (m .before .before .before .before .before .before .before .before .before .args .frame))
-fitting m = subst (λ (r : Frame). FrameFits r (now (m .before .before .before .before .before .before .before .before .before .args .frame))) (m .command .given .1) (m .before .before .read-frame .ensures .1)
-
-obey-requires : tie.Need-obey-requires
-obey-requires c κs = (said (c .before .before .before), fitting (c .before .before .before), omega arith, omega arith, omega arith)
+reconfigure-requires : tie.Need-reconfigure-requires
+reconfigure-requires c κs = search needs
 
 same-length-2 : tie.Need-same-length-2
 same-length-2 c = search needs
 
+returns-2 : tie.Need-returns-2
+returns-2 c =
+    let a = c .before .before .before .before .before .before .before .before .before .before .before .before .args in
+    let r = c .before .before .before .reconfigure in
+    configure-met (a .agent) (now (a .frame)) (now (a .store)) (now (a .answer)) (r .last .1 .1 .1 .0) (r .result)
+    (sym (c .before .before .before .before .before .before .is-configure .ensures) ∙ c .before .before .before .before .before .if2 .taken) (r .ensures)
+
+serve-requires : tie.Need-serve-requires
+serve-requires c κs = search needs
+
 same-length-3 : tie.Need-same-length-3
 same-length-3 c = search needs
 
-returns-5 : tie.Need-returns-5
-returns-5 c =
-    let a = c .before .before .before .before .before .before .before .before .before .before .before .before .before .before .before .before .before .args in
-    let f = now (a .frame) in
-    let r = c .before .before .before .before .obey in
-    met (a .agent) f (now (a .store)) (now (a .answer)) (c .before .before .before .before .before .before .before .before .before .before .before .before .before .if1 .left) (c .before .before .before .before .before .before .before .before .before .before .before .before .if2 .left) (commandOf (c .before .before .before .before .before .before .before .before .command .given .0 .0) f) (r .result)
-    (r .last .1 .1 .1 .0) (r .last .1 .1 .1 .1 .0) (said (c .before .before .before .before .before .before .before .before)) (r .ensures)
+same-length-4 : tie.Need-same-length-4
+same-length-4 c = search needs
+
+returns-3 : tie.Need-returns-3
+returns-3 c =
+    let a = c .before .before .before .before .before .before .before .before .before .before .before .before .before .before .args in
+    let r = c .before .before .before .before .serve in
+    serve-met (a .agent) (now (a .frame)) (now (a .store)) (now (a .answer)) (r .result) (r .last .1 .1 .0) (r .last .1 .1 .1 .0)
+    (sym (c .before .before .before .before .before .before .before .before .before .before .is-event .ensures) ∙ c .before .before .before .before .before .before .before .before .before .if1 .left) (sym (c .before .before .before .before .before .before .before .before .is-configure .ensures) ∙ c .before .before .before .before .before .before .before .if2 .left) (r .ensures)
 
 pub call-spec : {M : Type 1} → statement M
 call-spec =
     tie.close
     (tie.spec
-    returns
-    returns-2
-    returns-3
+    is-event-requires
     read-frame-requires
-    enum-known-command
-    enum-told
-    write-head-requires
+    elect-requires
+    notify-requires
     same-length
-    returns-4
-    obey-requires
+    returns
+    is-configure-requires
+    reconfigure-requires
     same-length-2
+    returns-2
+    serve-requires
     same-length-3
-    returns-5)
+    same-length-4
+    returns-3)
