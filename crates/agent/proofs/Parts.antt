@@ -8,18 +8,17 @@ use mathlib.Core.Logic.{_⊎_, inl, inr}
 use mathlib.Core.List.{List, [], _∷_}
 use lib.Dec.{eqb, leb, ltb}
 use lib.ListN.{length}
-use borrow.Author.Tests.{leb-true, leb-false, le-leb, lt-leb, le-ltb, eqb-true, eqb-false, ne-eqb}
+use borrow.Author.Tests.{leb-true, leb-false, le-leb, lt-leb, le-ltb, eqb-true, ne-eqb}
 use Rattle.rules.specs.Bytes.{if_then_else_, byte}
-use Rattle.rules.specs.Frame.{Command, cramped, malformed, OPEN, CLOSE, ARBITRATE, CONFIGURE, WRITE, READ, headAt, streamFormed, arbitrateFormed, configureFormed, writeFormed, readFormed, formed, byCommand, queryOf, configureOf, writeOf, readFrame}
+use Rattle.rules.specs.Frame.{Command, cramped, malformed, OPEN, CLOSE, ARBITRATE, READ, headAt, streamFormed, arbitrateFormed, configureFormed, writeFormed, readFormed, formed, byCommand, queryOf, configureOf, writeOf, readFrame}
 use Rattle.rules.specs.Streams as streams
 use Rattle.rules.specs.Answer.{Answer, answerBytes, replyOf}
 use Rattle.rules.specs.Call.{State, commandOf, roomy, withStreams, nextControl, nextTables, next, heard, answer, reply}
-use Rattle.rules.proofs.Tests.{and-true, clash}
+use Rattle.rules.proofs.Tests.{and-true}
 use Rattle.rules.proofs.Replies.{written-whole}
 use Rattle.buffers.specs.Splice.{splice}
 use Rattle.arbitration.specs.declared.Outcome.{Outcome}
-use Rattle.arbitration.specs.Meaning.{streamsOf, outcomeOf, leftAs}
-use Rattle.frames.specs.declared.Command as read
+use Rattle.arbitration.specs.Meaning.{outcomeOf, leftAs}
 use Rattle.frames.specs.declared.Command.the-variants.{Open, Close, Arbitrate, Configure, Write, Read}
 use Rattle.frames.specs.declared.Frame.{Frame}
 use Rattle.frames.specs.declared.Frame.the-variants.{Asks, Malformed}

@@ -1,8 +1,7 @@
 -- Right because 2 is tested first, then 1, and what is left is an event or refused. Assumes nothing.
-use mathlib.Core.Path.{_≡_, sym, ap, _∙_}
+use mathlib.Core.Path.{sym, ap, _∙_}
 use mathlib.Core.Logic.{inl, inr}
 use mathlib.Core.List.{[]}
-use Rattle.rules.specs.Frame as rules
 use Rattle.arbitration.specs.Meaning.{streamsOf}
 use Rattle.frames.specs.declared.Frame.{Frame}
 use Rattle.frames.specs.Meaning.{frameOf}

@@ -1,9 +1,9 @@
 -- Right because a CONFIGURE is obeyed, and any other command is refused as a malformed frame is. Assumes nothing.
-use Prim.Native.Nat.{ℕ, _+_, _-_, _*_, _≤_}
+use Prim.Native.Nat.{ℕ, _+_, _*_, _≤_}
 use native.Mathlib.Omega.{arith}
 use mathlib.Core.Path.{_≡_, sym, subst}
 use mathlib.Core.List.{List}
-use lib.ListN.{length, take, drop, length-take, length-drop}
+use lib.ListN.{length, length-take, length-drop}
 use denote.Ref.{now}
 use Rattle.rules.specs.Bytes.{parts}
 use Rattle.rules.specs.Frame as rules

@@ -6,7 +6,6 @@ use Prim.Native.Nat.{ℕ}
 use native.Mathlib.Omega.{arith}
 use lib.ListN.{length}
 use borrow.Author.Tests.{le-leb, lt-leb}
-use Rattle.rules.specs.Bytes.{byte}
 use Rattle.agent.specs.Parts.{isEvent}
 use borrow.Author.Needs.{needs}
 use Rattle.agent.proofs.is_event.Statement.{statement}

@@ -1,10 +1,7 @@
 -- Right because 2 is tested first, then 1, and what is left is a CONFIGURE or refused. Assumes nothing.
-use Prim.Native.Nat.{_<_, _≤_}
 use native.Mathlib.Omega.{arith}
 use mathlib.Core.Path.{_≡_, refl, sym, ap, _∙_, subst}
 use mathlib.Core.Logic.{inl, inr}
-use mathlib.Core.List.{List}
-use lib.ListN.{length}
 use denote.Ref.{now}
 use Rattle.rules.specs.Frame.{readFrame, malformed}
 use Rattle.frames.specs.declared.Frame.{Frame}
