@@ -63,7 +63,7 @@ const CHANGES: &[(&str, usize, &str, &str, &str)] = &[
     ("values-and-widths", 3, "parts", "\n      row 4      table hosts 0x02000004 owner 0 size 8 key mac:exact:48 addr:exact:128 action set 0x01000001 (out:9)", ""),
     ("p9", 4, "line", "\n     role", "\n     NOT HELD   line 9: expect 0; but the reason is some-failed (23)\n     role"),
     ("p9", 4, "line", "\n     update 2", "\n                no update failed here\n     update 2"),
-    // Forms of entries that no recorded trace has.
+    // Forms of entries that no trace among the scripts has.
     ("forms", 5, "entries", "m=1&&&0x0fff", "m=1&&&0x0ffe"),
     ("forms", 5, "entries", "m=1&&&0x0fff", "m=2&&&0x0fff"),
     ("forms", 5, "entries", "r=10..20", "r=10..21"),
@@ -101,7 +101,7 @@ write role 0 id 0
   insert table x k=1 a()
 ";
 
-/// A script and its trace: a recorded one, or the one that is printed for [`FORMS`].
+/// A script and its trace: one that stands among the scripts, or the one that is printed for [`FORMS`].
 fn script_and_trace(name: &str) -> (String, String) {
     if name != "forms" {
         return (file(name, "txt"), file(name, "trace"));

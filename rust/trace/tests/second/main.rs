@@ -1,4 +1,4 @@
-//! The recorded traces against the second implementation. Each script's frames are played by it, and
+//! The scripts' traces against the second implementation. Each script's frames are played by it, and
 //! what the text of the trace beside the script states of each call must be what it answers: reason
 //! and code, who is told what, the pairs of the updates, the entries in their order, and after the
 //! call primary and mark of every role. So a trace is checked by something else than what prints it.
