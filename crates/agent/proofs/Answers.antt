@@ -1,8 +1,8 @@
 -- An answer's bytes: the records are written behind the head's four bytes, then the head. Assumes nothing.
 use Prim.Native.Nat.{ℕ, _+_, _-_, _≤_}
 use native.Mathlib.Omega.{arith}
-use mathlib.Core.Path.{_≡_, sym, ap, _∙_}
-use mathlib.Core.List.{List, [], _∷_, _++_, append-assoc}
+use mathlib.Core.Path.{_≡_, refl, sym, ap, _∙_}
+use mathlib.Core.List.{List, [], _∷_, _++_}
 use lib.ListN.{length, take, drop, length-append, length-drop}
 use borrow.Rule.Slice.PartMut.{putMid}
 use Rattle.rules.specs.Bytes.{concat, bytesOf}
@@ -12,7 +12,7 @@ use Rattle.rules.specs.Answer.{Answer, answerBytes, replyOf}
 use Rattle.rules.specs.Call.{State, answer, reply}
 use Rattle.rules.proofs.Replies.{written-whole}
 use Rattle.buffers.specs.Splice.{splice}
-use Rattle.buffers.proofs.Splice.{splice-front, window-splice, length-window, part-copied}
+use Rattle.buffers.proofs.Splice.{splice-front, splice-before, length-window, part-copied}
 
 -- what is written over a slice fits into it, if the slice stays as long
 fits : (d p ys : List ℕ) → p ≡ splice d 0 ys → length p ≡ length d → length ys ≤ length d
@@ -20,15 +20,6 @@ fits d p ys e l =
     let q : length p ≡ length ys + (length d - length ys) =
     ap length (e ∙ splice-front d ys) ∙ length-append ys (drop (length ys) d) ∙ ap (λ (n : ℕ). length ys + n) (length-drop (length ys) d) in
     omega arith
-
--- a piece written before another that is there already
-splice-before : (d xs ys : List ℕ) → length xs ≤ length d → splice (splice d (length xs) ys) 0 xs ≡ splice d 0 (xs ++ ys)
-splice-before d xs ys h =
-    splice-front (splice d (length xs) ys) xs
-    ∙ ap (λ (l : List ℕ). xs ++ l) (window-splice d (length xs) ys h)
-    ∙ sym (append-assoc xs ys (drop (length xs + length ys) d))
-    ∙ ap (λ (n : ℕ). xs ++ ys ++ drop n d) (sym (length-append xs ys))
-    ∙ sym (splice-front d (xs ++ ys))
 
 abbrev headBytes : ℕ → ℕ → List ℕ
 headBytes reason n = reason ∷ codeOf reason ∷ bytesOf 2 n
@@ -46,7 +37,7 @@ records-then-head reason n rs d p out h c l e o =
     o
     ∙ ap (λ (x : List ℕ). splice x 0 (headBytes reason n)) b
     ∙ ap (λ (m : ℕ). splice (splice d 4 (concat rs)) 0 (headBytes reason m)) c
-    ∙ splice-before d (headBytes reason (length rs)) (concat rs) h
+    ∙ splice-before d 0 4 (concat rs) (headBytes reason (length rs)) refl (omega arith)
 
 -- and a head alone
 pub head-alone : (reason : ℕ) (d out : List ℕ) → out ≡ splice d 0 (headBytes reason 0)

@@ -3,73 +3,18 @@ use Prim.Native.Nat.{ℕ, suc, _+_, _-_, _*_, _≤_}
 use native.Mathlib.Nat.{zero-mul}
 use native.Mathlib.Omega.{arith}
 use mathlib.Core.Path.{_≡_, refl, sym, ap, ap₂, _∙_}
-use mathlib.Core.List.{List, [], _∷_, _++_, map, append-nil, append-assoc}
-use lib.ListN.{length, take, drop, set, replicate, length-append, length-drop, length-set, length-replicate, take-append-drop}
-use lib.Seq.{take-all, drop-length, take-append-seam, take-append-le, drop-append-le, drop-at, drop-drop, drop-set-lt, set-getD}
+use mathlib.Core.List.{List, [], _∷_, _++_, map, append-assoc}
+use lib.ListN.{length, take, drop, set, replicate, length-append, length-drop, length-set, length-replicate}
+use lib.Seq.{take-all, take-append-seam, take-append-le, drop-append-le, drop-at, drop-drop, drop-set-lt, set-getD}
 use Rattle.rules.specs.Bytes.{concat, byte, part, parts}
 use Rattle.rules.specs.Value.{padded, short}
 use Rattle.rules.specs.Key.{kind, shortSlot, shortKey}
 use Rattle.rules.specs.Entry.{parameters, shortEntry}
-use Rattle.rules.proofs.Lists.{part-part, drop-take}
+use Rattle.rules.proofs.Lists.{part-part}
 use Rattle.rules.proofs.Shortest.{part-length, short-length, key-length, key-of-key}
 use Rattle.buffers.specs.Splice.{splice}
-use Rattle.buffers.proofs.Splice.{length-splice, take-splice, drop-splice, splice-none, splice-front, splice-set, splice-next, window-splice}
+use Rattle.buffers.proofs.Splice.{splice-none, splice-front, splice-set, splice-next, window-splice, splice-same, splice-over, splice-within, splice-end, splice-before, part-before}
 use Rattle.values.proofs.Digits.{first-byte}
-
--- ---- pieces over what stands there
-
--- what stands at a place, written there
-pub splice-same : (d : List ℕ) (a n : ℕ) → a + n ≤ length d → splice d a (part a n d) ≡ d
-unfolding splice
-splice-same d a n h =
-    let l : length (part a n d) ≡ n = part-length a n d h in
-    rw (l, ← drop-drop n a d, take-append-drop n (drop a d)) (take-append-drop a d)
-
--- of two pieces, the second over all of the first
-splice-over : (d : List ℕ) (a b : ℕ) (xs ys : List ℕ) → b ≤ a → a + length xs ≤ b + length ys → a ≤ length d
-    → splice (splice d a xs) b ys ≡ splice d b ys
-unfolding splice
-splice-over d a b xs ys h g r =
-    ap₂ (λ (x y : List ℕ). x ++ (ys ++ y)) (take-splice b d a xs h r) (drop-splice (b + length ys) d a xs g r)
-
--- a piece within one that was written to the start
-splice-front-within : (xs rest : List ℕ) (a : ℕ) (ys : List ℕ) → a + length ys ≤ length xs
-    → splice (xs ++ rest) a ys ≡ splice xs a ys ++ rest
-unfolding splice
-splice-front-within xs rest a ys h =
-    rw (take-append-le a xs rest (omega arith), drop-append-le (a + length ys) xs rest h) (simp append-assoc)
-
-splice-within : (d xs : List ℕ) (a : ℕ) (ys : List ℕ) → a + length ys ≤ length xs
-    → splice (splice d 0 xs) a ys ≡ splice d 0 (splice xs a ys)
-splice-within d xs a ys h =
-    ap (λ (x : List ℕ). splice x a ys) (splice-front d xs)
-    ∙ splice-front-within xs (drop (length xs) d) a ys h
-    ∙ sym (splice-front d (splice xs a ys) ∙ ap (λ (n : ℕ). splice xs a ys ++ drop n d) (length-splice xs a ys h))
-
--- a piece up to the end
-splice-end : (d : List ℕ) (a : ℕ) (ys : List ℕ) → a + length ys ≡ length d → splice d a ys ≡ take a d ++ ys
-unfolding splice
-splice-end d a ys e = rw (e, drop-length d, append-nil ys)
-
--- of two pieces, the second up to the first
-splice-before : (d : List ℕ) (a b : ℕ) (xs ys : List ℕ) → b ≡ a + length ys → b + length xs ≤ length d
-    → splice (splice d b xs) a ys ≡ splice d a (ys ++ xs)
-unfolding splice
-splice-before d a b xs ys e room =
-    let rest : List ℕ = drop (b + length xs) d in
-    let l : length (ys ++ xs) ≡ length ys + length xs = length-append ys xs in
-    let m : b + length xs ≡ a + length (ys ++ xs) = omega arith in
-    ap₂ (λ (x y : List ℕ). x ++ (ys ++ y)) (take-splice a d b xs (omega arith) (omega arith))
-    (ap (λ (n : ℕ). drop n (splice d b xs)) (sym e) ∙ window-splice d b xs (omega arith))
-    ∙ ap (λ (x : List ℕ). take a d ++ x) (sym (append-assoc ys xs rest) ∙ ap (λ (n : ℕ). ys ++ xs ++ drop n d) m)
-
--- what stands before a piece
-part-before : (d xs : List ℕ) (a n b : ℕ) → a + n ≤ b → b ≤ length d → part a n (splice d b xs) ≡ part a n d
-part-before d xs a n b h g =
-    let e : a + n - a ≡ n = omega arith in
-    ap (λ (m : ℕ). take m (drop a (splice d b xs))) (sym e)
-    ∙ sym (drop-take a (a + n) (splice d b xs)) ∙ ap (drop a) (take-splice (a + n) d b xs h g) ∙ drop-take a (a + n) d
-    ∙ ap (λ (m : ℕ). take m (drop a d)) e
 
 -- ---- parts, the last first
 

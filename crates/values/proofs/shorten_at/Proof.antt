@@ -12,8 +12,9 @@ use Rattle.rules.specs.Value.{stripped, padded, short}
 use Rattle.rules.proofs.Lists.{part-part}
 use Rattle.rules.proofs.Shortest.{part-length}
 use Rattle.buffers.specs.Splice.{splice}
+use Rattle.buffers.proofs.Splice.{splice-same}
 use Rattle.values.proofs.Digits.{first-byte, part-all}
-use Rattle.values.proofs.InPlace.{splice-same, value-in-place}
+use Rattle.values.proofs.InPlace.{value-in-place}
 use borrow.Author.Needs.{needs}
 use Rattle.values.proofs.shorten_at.Statement.{statement}
 use Rattle.values.proofs.shorten_at.Tie as tie

@@ -9,8 +9,8 @@ use Rattle.rules.specs.Bytes.{part}
 use Rattle.rules.specs.Value.{stripped}
 use Rattle.rules.proofs.Shortest.{part-length}
 use Rattle.buffers.specs.Splice.{splice}
-use Rattle.values.proofs.InPlace.{splice-same}
 use borrow.Author.Needs.{needs}
+use Rattle.buffers.proofs.Splice.{splice-same}
 use Rattle.values.proofs.strip_at.Statement.{statement}
 use Rattle.values.proofs.strip_at.Tie as tie
 
