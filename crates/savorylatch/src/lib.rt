@@ -11,7 +11,8 @@ pub extern "C" fn savorylatch_new(agent: &mut Agent, device: u64)
     *agent = Agent::new(device);
 }
 
-// One call over the record that the host holds: it becomes the one that the call by value returns.
+// One call over the record that the host holds: it becomes the one that the call by value returns. In place: of the record each way
+// copies no more than its commands read, and stores no more than they change.
 #[no_mangle]
 pub extern "C" fn savorylatch_call(
     agent: &mut Agent,
@@ -21,7 +22,26 @@ pub extern "C" fn savorylatch_call(
 ) -> u8
     ensures { λ r. ⌜ Meets (now (agent .entry)) (now (frame .entry)) (now (store .entry)) (now (answer .entry)) (called (now (agent .exit)) r) (now (store .exit)) (now (answer .exit)) ⌝ }
 {
-    let called = agent::call(*agent, frame, store, answer);
-    *agent = called.agent;
-    called.reason
+    if agent::is_event(frame) {
+        let asked = frames::read_frame(frame);
+        let left = agent::elect(
+            agent.device,
+            agent.streams,
+            asked,
+            store.len(),
+            answer.len(),
+        );
+        agent.streams = left.streams;
+        agent::notify(left, answer);
+        return left.reason;
+    }
+    if agent::is_configure(frame) {
+        let left = agent::reconfigure(*agent, frame, store.len(), answer);
+        agent.rows = left.rows;
+        agent.count = left.count;
+        return left.reason;
+    }
+    let left = agent::serve(*agent, frame, store, answer);
+    agent.count = left.count;
+    left.reason
 }
