@@ -2,7 +2,10 @@
 use mathlib.Core.Path.{_≡_}
 use mathlib.Core.List.{List}
 use Prim.Native.Nat.{ℕ}
+use Rattle.rules.specs.Bytes.{if_then_else_}
 use Rattle.rules.specs.Frame as rules
+use Rattle.rules.specs.Row.{configurationAllowed}
+use Rattle.rules.specs.Call.{configureReason}
 use Rattle.rules.specs.Key.{tableOf}
 use Rattle.arbitration.specs.declared.Outcome.{Outcome}
 use Rattle.frames.specs.declared.Query.{Query}
@@ -11,6 +14,7 @@ use Rattle.agent.specs.declared.Agent.{Agent}
 use Rattle.agent.specs.declared.Called.{Called}
 use Rattle.agent.specs.declared.Configured.{Configured}
 use Rattle.agent.specs.declared.Wrote.{Wrote}
+use Rattle.agent.specs.Meaning.{controlOf}
 use Rattle.agent.specs.Contract.{Kept, Obeyed}
 
 -- what a READ asks for, where its bytes from the table on are these
@@ -46,3 +50,9 @@ Obeys a c store answer r store′ answer′ = Kept a store → Obeyed a c store 
 -- a command that is not given the store, and so leaves any store as it is
 abbrev pub ObeysAny : Agent → rules.Command → Called → List ℕ → List ℕ → Type 0
 ObeysAny a c r answer answer′ = (store : List ℕ) → Kept a store → Obeyed a c store answer r store answer′
+
+-- rows of a CONFIGURE that nothing but 14 may refuse
+abbrev pub Replaces : Agent → List (List ℕ) → Configured → List ℕ → List ℕ → Type 0
+Replaces a rows r answer answer′ =
+    (h : rules.Head) → configureReason (controlOf a) h rows ≡ (if configurationAllowed rows then 0 else 14)
+    → ObeysAny a (rules.CONFIGURE h rows) (configured a r) answer answer′

@@ -15,7 +15,7 @@ ghost use Rattle.arbitration.specs.Meaning.{headOf, streamsOf, outcomeOf, leftA
 ghost use Rattle.entry_store.specs.Update.{updatesIn};
 ghost use Rattle.frames.specs.Meaning.{commandOf, Fits};
 ghost use Rattle.agent.specs.Contract.{Fresh, Meets};
-ghost use Rattle.agent.specs.Handlers.{queryIn, Named, configured, wrote, unchanged, Obeys, ObeysAny};
+ghost use Rattle.agent.specs.Handlers.{queryIn, Named, configured, wrote, unchanged, Obeys, ObeysAny, Replaces};
 ghost use Rattle.agent.specs.Parts.{isEvent, isConfigure, turn, Elects, notified, onRows, Configures, onEntries, Serves};
 use arbitration::Head;
 use arbitration::Notify;
@@ -70,9 +70,9 @@ fn write_head(reason: u8, count: usize, answer: &mut [u8])
 
 // What CONFIGURE leaves of the record.
 pub struct Configured {
-    pub rows: Rows,
     pub count: usize,
     pub reason: u8,
+    pub rows: Rows,
 }
 
 // What WRITE or READ leaves of the record.
@@ -193,52 +193,50 @@ fn configure_reason(here: bool, role: u8, primary: bool) -> u8
     0
 }
 
-// Replaces all rows and empties the store.
-fn configure(agent: Agent, head: Head, t: usize, rows: &[u8], answer: &mut [u8]) -> Configured
-    requires { ⌜ (t ≤ 8) × (length (now rows) ≡ 53 * t) × (4 ≤ length (now answer)) ⌝ }
-    ensures { λ r. ⌜ ObeysAny agent (rules.CONFIGURE (headOf head) (parts t 53 (now (rows .entry)))) (configured agent r) (now (answer .entry)) (now (answer .exit)) ⌝ }
-{
-    let streams = agent.streams;
-    let old = agent.rows;
-    let count = agent.count;
-    let primary = streams.by_primary(head.role, head.id);
-    let reason = configure_reason(head.device == agent.device, head.role, primary);
-    if reason != 0 {
-        write_head(reason, 0, answer);
-        return Configured {
-            rows: old,
-            count,
-            reason,
-        };
-    }
-    let reading = Rows::read(rows, t);
-    if !reading.allowed {
-        write_head(14, 0, answer);
-        return Configured {
-            rows: old,
-            count,
-            reason: 14,
-        };
-    }
-    write_head(0, 0, answer);
-    let read = reading.rows;
-    Configured {
-        rows: read,
-        count: 0,
-        reason: 0,
-    }
-}
-
 // The rows and the number of entries as they are, under a reason.
 fn unconfigured(agent: Agent, reason: u8) -> Configured
     ensures { λ r. ⌜ configured agent r ≡ unchanged agent reason ⌝ }
 {
     let rows = agent.rows;
     Configured {
-        rows,
         count: agent.count,
         reason,
+        rows,
     }
+}
+
+// 14, or all rows are replaced and the store is empty.
+fn replace(agent: Agent, t: usize, rows: &[u8], answer: &mut [u8]) -> Configured
+    requires { ⌜ (t ≤ 8) × (length (now rows) ≡ 53 * t) × (4 ≤ length (now answer)) ⌝ }
+    ensures { λ r. ⌜ Replaces agent (parts t 53 (now (rows .entry))) r (now (answer .entry)) (now (answer .exit)) ⌝ }
+{
+    let reading = Rows::read(rows, t);
+    if !reading.allowed {
+        write_head(14, 0, answer);
+        return unconfigured(agent, 14);
+    }
+    write_head(0, 0, answer);
+    let read = reading.rows;
+    Configured {
+        count: 0,
+        reason: 0,
+        rows: read,
+    }
+}
+
+// CONFIGURE: 5, 6, 11 and 10; then 14.
+fn configure(agent: Agent, head: Head, t: usize, rows: &[u8], answer: &mut [u8]) -> Configured
+    requires { ⌜ (t ≤ 8) × (length (now rows) ≡ 53 * t) × (4 ≤ length (now answer)) ⌝ }
+    ensures { λ r. ⌜ ObeysAny agent (rules.CONFIGURE (headOf head) (parts t 53 (now (rows .entry)))) (configured agent r) (now (answer .entry)) (now (answer .exit)) ⌝ }
+{
+    let streams = agent.streams;
+    let primary = streams.by_primary(head.role, head.id);
+    let reason = configure_reason(head.device == agent.device, head.role, primary);
+    if reason != 0 {
+        write_head(reason, 0, answer);
+        return unconfigured(agent, reason);
+    }
+    replace(agent, t, rows, answer)
 }
 
 // 1: the frame is malformed, or no CONFIGURE.

@@ -182,9 +182,9 @@ configure-body =
     (seq (assign (place 20 []) (addrOf (place 4 (field 0 ∷ deref (tyInt w8) ∷ []))))
     (seq (assign (place 21 []) (aggregate ((copy (place 20 [])) ∷ (copy (place 4 (field 1 ∷ []))) ∷ [])))
     (seq (call #reconfigure ((copy (place 18 [])) ∷ (copy (place 2 [])) ∷ (copy (place 19 [])) ∷ (copy (place 21 [])) ∷ []) (place 7 []))
-    (seq (assign (place 1 (deref T′.mir ∷ field 2 ∷ [])) (rvOpd (copy (place 7 (field 0 ∷ [])))))
-    (seq (assign (place 1 (deref T′.mir ∷ field 3 ∷ [])) (rvOpd (copy (place 7 (field 1 ∷ [])))))
-    (seq (assign (place 0 []) (rvOpd (copy (place 7 (field 2 ∷ [])))))
+    (seq (assign (place 1 (deref T′.mir ∷ field 2 ∷ [])) (rvOpd (copy (place 7 (field 2 ∷ [])))))
+    (seq (assign (place 1 (deref T′.mir ∷ field 3 ∷ [])) (rvOpd (copy (place 7 (field 0 ∷ [])))))
+    (seq (assign (place 0 []) (rvOpd (copy (place 7 (field 1 ∷ [])))))
     return))))))))
 
 -- WRITE, READ, and a frame of no command
@@ -345,7 +345,7 @@ module _ {M : Type 1} (𝓤 : URA M) (H : Heap 𝓤) (A : Atoms 𝓤) (W : Given
   elected-is is r us got = LL.owes T.the-type T′.the-laws (elected h r .agent) (LL.owed T.the-type T′.the-laws h _ is .0, (LL.owed O.the-type O′.the-laws r us got .0, (LL.owed T.the-type T′.the-laws h _ is .1 .1 .0, (LL.owed T.the-type T′.the-laws h _ is .1 .1 .1 .0, tt))))
 
   configured-is : Is T.the-row h (mach h) → (r : Configured) (us : List Val) → Is R.the-row r us → Is T.the-row (configured h r .agent) (mach (configured h r .agent))
-  configured-is is r us got = LL.owes T.the-type T′.the-laws (configured h r .agent) (LL.owed T.the-type T′.the-laws h _ is .0, (LL.owed T.the-type T′.the-laws h _ is .1 .0, (LL.owed R.the-type R′.the-laws r us got .0, (LL.owed R.the-type R′.the-laws r us got .1 .0, tt))))
+  configured-is is r us got = LL.owes T.the-type T′.the-laws (configured h r .agent) (LL.owed T.the-type T′.the-laws h _ is .0, (LL.owed T.the-type T′.the-laws h _ is .1 .0, (LL.owed R.the-type R′.the-laws r us got .1 .1 .0, (LL.owed R.the-type R′.the-laws r us got .0, tt))))
 
   wrote-is : Is T.the-row h (mach h) → (r : Wrote) (us : List Val) → Is U.the-row r us → Is T.the-row (wrote h r .agent) (mach (wrote h r .agent))
   wrote-is is r us got = LL.owes T.the-type T′.the-laws (wrote h r .agent) (LL.owed T.the-type T′.the-laws h _ is .0, (LL.owed T.the-type T′.the-laws h _ is .1 .0, (LL.owed T.the-type T′.the-laws h _ is .1 .1 .0, (LL.owed U.the-type U′.the-laws r us got .0, tt))))
@@ -411,14 +411,14 @@ module _ {M : Type 1} (𝓤 : URA M) (H : Heap 𝓤) (A : Atoms 𝓤) (W : Given
           fsplit t $ drop t $ fsplit t $ drop t $ fsplit t $ drop t $ fsplit t $ fsplit t $ move t (1 ∷ []) $ feqL t (λ la. move t (2 ∷ []) $ split t $ move t (1 ∷ []) $ facts t R.the-row (Is R.the-row) (shows 𝓤 H A R.the-row) r (w ∷ []) (λ got.
           -- [t₁ and t₃; the answer's last list; …; what the frame owns; the record's cell; the open borrow; obs; auth; t₂; what the store owns; _0; …]
           land t (from t (stop t)) (init t 24 refl (LL.lawful R.the-type R′.the-laws 𝓤 H A W .typed r _ got .0)) $ rewrite t 24 (λ (u : Val). ‵ (fat fullShare R′.mir l₇ 0 u)) (ap only (LL.tells R.the-type R′.the-laws r _ got)) refl $
-          assigns t (of-opd t (load t (from t (fld t refl (stop t))) (look-in t 24 (sub t 0 refl (whole t))))) (from t (hop t (look t 12 refl) (fld t refl (stop t)))) (store-in t 4 (rows-in t) (LL.lawful Q.the-type Q′.the-laws 𝓤 H A W .typed (r .rows) _ (LL.owed R.the-type R′.the-laws r _ got .0) .0)) $
-          assigns t (of-opd t (load t (from t (fld t refl (stop t))) (look-in t 24 (sub t 1 refl (whole t))))) (from t (hop t (look t 12 refl) (fld t refl (stop t)))) (store-in t 4 (count-in t) (tt, record { fits = LL.owed R.the-type R′.the-laws r _ got .1 .0 .1 })) $
-          assigns t (of-opd t (load t (from t (fld t refl (stop t))) (look-in t 24 (sub t 2 refl (whole t))))) (from t (stop t)) (init t 10 refl (tt, record { fits = LL.owed R.the-type R′.the-laws r _ got .1 .1 .0 .1 })) $
+          assigns t (of-opd t (load t (from t (fld t refl (stop t))) (look-in t 24 (sub t 2 refl (whole t))))) (from t (hop t (look t 12 refl) (fld t refl (stop t)))) (store-in t 4 (rows-in t) (LL.lawful Q.the-type Q′.the-laws 𝓤 H A W .typed (r .rows) _ (LL.owed R.the-type R′.the-laws r _ got .1 .1 .0) .0)) $
+          assigns t (of-opd t (load t (from t (fld t refl (stop t))) (look-in t 24 (sub t 0 refl (whole t))))) (from t (hop t (look t 12 refl) (fld t refl (stop t)))) (store-in t 4 (count-in t) (tt, record { fits = LL.owed R.the-type R′.the-laws r _ got .0 .1 })) $
+          assigns t (of-opd t (load t (from t (fld t refl (stop t))) (look-in t 24 (sub t 1 refl (whole t))))) (from t (stop t)) (init t 10 refl (tt, record { fits = LL.owed R.the-type R′.the-laws r _ got .1 .0 .1 })) $
           -- the borrow is closed at the record with the new rows and number of entries
           owned t T.the-row (Is T.the-row) ((LL.makes T.the-type T′.the-plain) 𝓤 H A) (configured h r .agent) (mach (configured h r .agent)) (configured-is is r _ got) $
           move t (5 ∷ 0 ∷ 6 ∷ 7 ∷ 8 ∷ []) $ closes t tt T.the-row (configured h r .agent) (mach (configured h r .agent)) b o $ move t (8 ∷ []) $ use1 W (‵ (finally u8 (xs .name) (xs .now))) kept-store $ move t (4 ∷ []) $ split t $ move t (1 ∷ []) $ split t $ move t (1 ∷ 8 ∷ []) $ drop t $ drop t $ move t (3 ∷ 4 ∷ 5 ∷ 1 ∷ 8 ∷ 0 ∷ 6 ∷ 2 ∷ 7 ∷ []) $
           returns-within t Ends end (look t 9 refl) $ forget t 9 refl $ forget t 11 refl $ forget t 13 refl $ forget t 15 refl $ forget t 17 refl $ forget t 23 refl $ forget t 27 refl $ forget t 43 refl $ forget t 45 refl $ forget t 47 refl $ forget t 49 refl $ forget t 51 refl $ group t 9 $
-          freed t (exits (configured h r) (xs .now) (zs .1 .1 .1 .0) (configure-met h (xf .now) (xs .now) (xa .now) (zs .1 .1 .1 .0) r test configures) refl la (LL.owed R.the-type R′.the-laws r _ got .1 .1 .0 .1))))))))
+          freed t (exits (configured h r) (xs .now) (zs .1 .1 .1 .0) (configure-met h (xf .now) (xs .now) (xa .now) (zs .1 .1 .1 .0) r test configures) refl la (LL.owed R.the-type R′.the-laws r _ got .1 .0 .1))))))))
 
     module _ (l₀ l₁ l₂ l₃ l₄ l₅ l₆ l₇ l₈ l₉ l₁₀ l₁₁ l₁₂ l₁₃ l₁₄ l₁₅ l₁₆ l₁₇ l₁₈ l₁₉ l₂₀ l₂₁ l₂₂ l₂₃ l₂₄ l₂₅ l₂₆ : ℕ) (τ₁ τ₂ τ₅ τ₆ τ₇ τ₉ τ₁₀ τ₁₁ τ₁₂ τ₁₃ τ₁₄ τ₁₅ τ₁₆ τ₁₇ τ₁₈ τ₁₉ τ₂₀ τ₂₁ : Ty) where
       abbrev serve-locals : Env 𝓤 H
