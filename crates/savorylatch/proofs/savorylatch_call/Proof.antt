@@ -363,8 +363,8 @@ module _ {M : Type 1} (𝓤 : URA M) (H : Heap 𝓤) (A : Atoms 𝓤) (W : Given
       event-way t end test is rs ra =
           move t (7 ∷ 4 ∷ []) $ use2 W (raw (ReadFrame 𝓤 H A at-mem run .pre to-frame) ⊛ FR) asks-frame $ split t $
           calls-at t fm (ReadFrame 𝓤 H A at-mem run) met-rd to-frame (and-then t (load t (from t (stop t)) (look t 14 refl)) (no-more t)) (λ w₁.
-        use1 W (later (some (λ (x : Frame). ((t₁ ⊛ ‵ ftrue) ⊛ ‵ (F.the-row .own x (w₁ ∷ []))) ⊛ raw (ensured 𝓤 H A rd.ended (rd.clauses 𝓤 H A at-mem run) (κ₁, tt) (xf, tt) tt x)))) (id⊢ 𝓤 _) $ await t tt $ pick t (λ x.
-        split t $ move t (1 ∷ []) $ use1 W (some (λ (zs : Unit {0} × Unit {0}). ‵ (lasts rd.ended (κ₁, tt) (xf, tt) zs) ⊛ (raw (fact 𝓤 (frameOf x (xf .now) ≡ readFrame (xf .now))) ⊛ raw (fact 𝓤 (FrameFits x (xf .now)))))) (id⊢ 𝓤 _) $ pick t (λ zs. split t $ drop t $ split t $ heard t (frameOf x (xf .now) ≡ readFrame (xf .now)) (λ means. drop t $
+          use1 W (later (some (λ (x : Frame). ((t₁ ⊛ ‵ ftrue) ⊛ ‵ (F.the-row .own x (w₁ ∷ []))) ⊛ raw (ensured 𝓤 H A rd.ended (rd.clauses 𝓤 H A at-mem run) (κ₁, tt) (xf, tt) tt x)))) (id⊢ 𝓤 _) $ await t tt $ pick t (λ x.
+          split t $ move t (1 ∷ []) $ use1 W (some (λ (zs : Unit {0} × Unit {0}). ‵ (lasts rd.ended (κ₁, tt) (xf, tt) zs) ⊛ (raw (fact 𝓤 (frameOf x (xf .now) ≡ readFrame (xf .now))) ⊛ raw (fact 𝓤 (FrameFits x (xf .now)))))) (id⊢ 𝓤 _) $ pick t (λ zs. split t $ drop t $ split t $ heard t (frameOf x (xf .now) ≡ readFrame (xf .now)) (λ means. drop t $
           split t $ split t $ move t (1 ∷ []) $ drop t $ move t (1 ∷ []) $ peeks t F.the-row (Is F.the-row) (shows 𝓤 H A F.the-row) x (w₁ ∷ []) (λ read.
           -- [what `asked` owns; t₁; what the frame owns; the record's cell; the open borrow; obs; auth; t₂; t₃; what the store owns; what the answer owns; _0; …]
           land t (from t (stop t)) (init t 21 refl (EL.lawful F.the-type F′.the-laws 𝓤 H A W tt .typed x _ read .0)) $
@@ -373,8 +373,8 @@ module _ {M : Type 1} (𝓤 : URA M) (H : Heap 𝓤) (A : Atoms 𝓤) (W : Given
           assigns t (of-opd t (load t (from t (fld t refl (stop t))) (look-in t 17 (sub t 1 refl (whole t))))) (from t (stop t)) (init t 35 refl (tt, record { fits = rs .0 })) $ assigns t (of-opd t (load t (from t (fld t refl (stop t))) (look-in t 19 (sub t 1 refl (whole t))))) (from t (stop t)) (init t 37 refl (tt, record { fits = ra .0 })) $
           use1 W (raw (Elect 𝓤 H A at-mem run .pre (to-elect x w₁))) (asks-elect is rs ra x w₁) $
           calls-at t fm (Elect 𝓤 H A at-mem run) met-el (to-elect x w₁) (and-then t (load t (from t (stop t)) (look t 31 refl)) (and-then t (load t (from t (stop t)) (look t 33 refl)) (and-then t (load t (from t (stop t)) (look t 21 refl)) (and-then t (load t (from t (stop t)) (look t 35 refl)) (and-then t (load t (from t (stop t)) (look t 37 refl)) (no-more t)))))) (λ w₂.
-        use1 W (later (some (λ (r : Outcome). (‵ ftrue ⊛ ‵ (O.the-row .own r (w₂ ∷ []))) ⊛ raw (ensured 𝓤 H A el.ended (el.clauses 𝓤 H A at-mem run) tt (to-elect x w₁ .0 .3) tt r)))) (id⊢ 𝓤 _) $ await t tt $ pick t (λ r.
-        split t $ move t (1 ∷ []) $ use1 W (some (λ (zs : Unit {0} × (Unit {0} × (Unit {0} × (Unit {0} × (Unit {0} × Unit {0}))))). ‵ (lasts el.ended tt (to-elect x w₁ .0 .3) zs) ⊛ raw (fact 𝓤 (Elects (h .device) (h .streams) x (length (xs .now)) (length (xa .now)) r)))) (id⊢ 𝓤 _) $ pick t (λ zs. split t $ drop t $ heard t (Elects (h .device) (h .streams) x (length (xs .now)) (length (xa .now)) r) (λ elects.
+          use1 W (later (some (λ (r : Outcome). (‵ ftrue ⊛ ‵ (O.the-row .own r (w₂ ∷ []))) ⊛ raw (ensured 𝓤 H A el.ended (el.clauses 𝓤 H A at-mem run) tt (to-elect x w₁ .0 .3) tt r)))) (id⊢ 𝓤 _) $ await t tt $ pick t (λ r.
+          split t $ move t (1 ∷ []) $ use1 W (some (λ (zs : Unit {0} × (Unit {0} × (Unit {0} × (Unit {0} × (Unit {0} × Unit {0}))))). ‵ (lasts el.ended tt (to-elect x w₁ .0 .3) zs) ⊛ raw (fact 𝓤 (Elects (h .device) (h .streams) x (length (xs .now)) (length (xa .now)) r)))) (id⊢ 𝓤 _) $ pick t (λ zs. split t $ drop t $ heard t (Elects (h .device) (h .streams) x (length (xs .now)) (length (xa .now)) r) (λ elects.
           split t $ drop t $ peeks t O.the-row (Is O.the-row) (shows 𝓤 H A O.the-row) r (w₂ ∷ []) (λ got. rewrite t 0 (λ (us : List Val). ‵ (O.the-row .own r us)) (LL.tells O.the-type O′.the-laws r _ got) refl $
           land t (from t (stop t)) (init t 23 refl (LL.lawful O.the-type O′.the-laws 𝓤 H A W .typed r _ got .0)) $ rewrite t 23 (λ (u : Val). ‵ (fat fullShare O′.mir l₆ 0 u)) (ap only (LL.tells O.the-type O′.the-laws r _ got)) refl $
           -- [what `left` owns; t₁; what the frame owns; the record's cell; …], and the field is stored
@@ -382,8 +382,8 @@ module _ {M : Type 1} (𝓤 : URA M) (H : Heap 𝓤) (A : Atoms 𝓤) (W : Given
           assigns t (addr t (from t (fld t refl (hop t (look-in t 19 (sub t 0 refl (whole t))) (stop t))))) (from t (stop t)) (init t 41 refl (tt, tt)) $ assigns t (agg t (and-then t (load t (from t (stop t)) (look t 41 refl)) (and-then t (load t (from t (fld t refl (stop t))) (look-in t 19 (sub t 1 refl (whole t)))) (no-more t)))) (from t (stop t)) (init t 43 refl (tt, (tt, (record { fits = ra .0 }, tt)))) $
           move t (8 ∷ 0 ∷ 10 ∷ []) $ use3 W (raw (Notifies 𝓤 H A at-mem run .pre (to-notify r))) (asks-notify r) $
           calls-at t fm (Notifies 𝓤 H A at-mem run) met-nt (to-notify r) (and-then t (load t (from t (stop t)) (look t 21 refl)) (and-then t (load t (from t (stop t)) (look t 41 refl)) (no-more t))) (λ w₃.
-        use1 W (later (some (λ (u : Unit {0}). ((t₃ ⊛ ‵ ftrue) ⊛ ‵ (unit .own u (w₃ ∷ []))) ⊛ raw (ensured 𝓤 H A nt.ended (nt.clauses 𝓤 H A at-mem run) (κ₃, tt) (r, (xa, tt)) tt u)))) (id⊢ 𝓤 _) $ await t tt $ pick t (λ u.
-        split t $ move t (1 ∷ []) $ use1 W (some (λ (zs : Unit {0} × (List ℕ × Unit {0})). ‵ (lasts nt.ended (κ₃, tt) (r, (xa, tt)) zs) ⊛ raw (fact 𝓤 (zs .1 .0 ≡ notified (outcomeOf r) (xa .now))))) (id⊢ 𝓤 _) $ pick t (λ zs. split t $ move t (1 ∷ []) $ heard t (zs .1 .0 ≡ notified (outcomeOf r) (xa .now)) (λ out.
+          use1 W (later (some (λ (u : Unit {0}). ((t₃ ⊛ ‵ ftrue) ⊛ ‵ (unit .own u (w₃ ∷ []))) ⊛ raw (ensured 𝓤 H A nt.ended (nt.clauses 𝓤 H A at-mem run) (κ₃, tt) (r, (xa, tt)) tt u)))) (id⊢ 𝓤 _) $ await t tt $ pick t (λ u.
+          split t $ move t (1 ∷ []) $ use1 W (some (λ (zs : Unit {0} × (List ℕ × Unit {0})). ‵ (lasts nt.ended (κ₃, tt) (r, (xa, tt)) zs) ⊛ raw (fact 𝓤 (zs .1 .0 ≡ notified (outcomeOf r) (xa .now))))) (id⊢ 𝓤 _) $ pick t (λ zs. split t $ move t (1 ∷ []) $ heard t (zs .1 .0 ≡ notified (outcomeOf r) (xa .now)) (λ out.
           fsplit t $ drop t $ fsplit t $ fsplit t $ move t (1 ∷ []) $ feqL t (λ la. move t (2 ∷ []) $ split t $ move t (1 ∷ []) $ facts t unit (Is unit) (shows 𝓤 H A unit) u (w₃ ∷ []) (λ none.
           -- [t₃; the answer's last list; …; t₁; what the frame owns; the record's cell; the open borrow; obs; auth; t₂; what the store owns; _0; …]
           land t (from t (stop t)) (init t 39 refl (nothing-lawful 𝓤 H A W .typed u _ none .0)) $
@@ -406,8 +406,8 @@ module _ {M : Type 1} (𝓤 : URA M) (H : Heap 𝓤) (A : Atoms 𝓤) (W : Given
           assigns t (addr t (from t (fld t refl (hop t (look-in t 18 (sub t 0 refl (whole t))) (stop t))))) (from t (stop t)) (init t 50 refl (tt, tt)) $ assigns t (agg t (and-then t (load t (from t (stop t)) (look t 50 refl)) (and-then t (load t (from t (fld t refl (stop t))) (look-in t 18 (sub t 1 refl (whole t)))) (no-more t)))) (from t (stop t)) (init t 52 refl (tt, (tt, (record { fits = ra .0 }, tt)))) $
           move t (4 ∷ 6 ∷ 7 ∷ 9 ∷ []) $ group t 4 $ use1 W (raw (Reconfigure 𝓤 H A at-mem run .pre to-reconfigure) ⊛ FR) (asks-reconfigure is rs) $ split t $
           calls-at t fm (Reconfigure 𝓤 H A at-mem run) met-rc to-reconfigure (and-then t (load t (from t (stop t)) (look t 44 refl)) (and-then t (load t (from t (stop t)) (look t 12 refl)) (and-then t (load t (from t (stop t)) (look t 46 refl)) (and-then t (load t (from t (stop t)) (look t 50 refl)) (no-more t))))) (λ w.
-        use1 W (later (some (λ (r : Configured). ((t₁ ⊛ t₃ ⊛ ‵ ftrue) ⊛ ‵ (R.the-row .own r (w ∷ []))) ⊛ raw (ensured 𝓤 H A rc.ended (rc.clauses 𝓤 H A at-mem run) (κ₁, (κ₃, tt)) (to-reconfigure .0 .3) tt r)))) (id⊢ 𝓤 _) $ await t tt $ pick t (λ r.
-        split t $ move t (1 ∷ []) $ use1 W (some (λ (zs : Unit {0} × (Unit {0} × (Unit {0} × (List ℕ × Unit {0})))). ‵ (lasts rc.ended (κ₁, (κ₃, tt)) (to-reconfigure .0 .3) zs) ⊛ raw (fact 𝓤 (Configures h (xf .now) (length (xs .now)) (xa .now) r (zs .1 .1 .1 .0))))) (id⊢ 𝓤 _) $ pick t (λ zs. split t $ move t (1 ∷ []) $ heard t (Configures h (xf .now) (length (xs .now)) (xa .now) r (zs .1 .1 .1 .0)) (λ configures.
+          use1 W (later (some (λ (r : Configured). ((t₁ ⊛ t₃ ⊛ ‵ ftrue) ⊛ ‵ (R.the-row .own r (w ∷ []))) ⊛ raw (ensured 𝓤 H A rc.ended (rc.clauses 𝓤 H A at-mem run) (κ₁, (κ₃, tt)) (to-reconfigure .0 .3) tt r)))) (id⊢ 𝓤 _) $ await t tt $ pick t (λ r.
+          split t $ move t (1 ∷ []) $ use1 W (some (λ (zs : Unit {0} × (Unit {0} × (Unit {0} × (List ℕ × Unit {0})))). ‵ (lasts rc.ended (κ₁, (κ₃, tt)) (to-reconfigure .0 .3) zs) ⊛ raw (fact 𝓤 (Configures h (xf .now) (length (xs .now)) (xa .now) r (zs .1 .1 .1 .0))))) (id⊢ 𝓤 _) $ pick t (λ zs. split t $ move t (1 ∷ []) $ heard t (Configures h (xf .now) (length (xs .now)) (xa .now) r (zs .1 .1 .1 .0)) (λ configures.
           fsplit t $ drop t $ fsplit t $ drop t $ fsplit t $ drop t $ fsplit t $ fsplit t $ move t (1 ∷ []) $ feqL t (λ la. move t (2 ∷ []) $ split t $ move t (1 ∷ []) $ facts t R.the-row (Is R.the-row) (shows 𝓤 H A R.the-row) r (w ∷ []) (λ got.
           -- [t₁ and t₃; the answer's last list; …; what the frame owns; the record's cell; the open borrow; obs; auth; t₂; what the store owns; _0; …]
           land t (from t (stop t)) (init t 24 refl (LL.lawful R.the-type R′.the-laws 𝓤 H A W .typed r _ got .0)) $ rewrite t 24 (λ (u : Val). ‵ (fat fullShare R′.mir l₇ 0 u)) (ap only (LL.tells R.the-type R′.the-laws r _ got)) refl $
@@ -433,8 +433,8 @@ module _ {M : Type 1} (𝓤 : URA M) (H : Heap 𝓤) (A : Atoms 𝓤) (W : Given
           assigns t (addr t (from t (fld t refl (hop t (look-in t 18 (sub t 0 refl (whole t))) (stop t))))) (from t (stop t)) (init t 60 refl (tt, tt)) $ assigns t (agg t (and-then t (load t (from t (stop t)) (look t 60 refl)) (and-then t (load t (from t (fld t refl (stop t))) (look-in t 18 (sub t 1 refl (whole t)))) (no-more t)))) (from t (stop t)) (init t 62 refl (tt, (tt, (record { fits = ra .0 }, tt)))) $
           move t (4 ∷ 5 ∷ 6 ∷ 7 ∷ 8 ∷ 9 ∷ []) $ group t 6 $ use1 W (raw (Serve 𝓤 H A at-mem run .pre to-serve) ⊛ FR) (asks-serve is) $ split t $
           calls-at t fm (Serve 𝓤 H A at-mem run) met-sv to-serve (and-then t (load t (from t (stop t)) (look t 50 refl)) (and-then t (load t (from t (stop t)) (look t 10 refl)) (and-then t (load t (from t (stop t)) (look t 54 refl)) (and-then t (load t (from t (stop t)) (look t 58 refl)) (no-more t))))) (λ w.
-        use1 W (later (some (λ (r : Wrote). ((t₁ ⊛ t₂ ⊛ t₃ ⊛ ‵ ftrue) ⊛ ‵ (U.the-row .own r (w ∷ []))) ⊛ raw (ensured 𝓤 H A sv.ended (sv.clauses 𝓤 H A at-mem run) (κ₁, (κ₂, (κ₃, tt))) (to-serve .0 .3) tt r)))) (id⊢ 𝓤 _) $ await t tt $ pick t (λ r.
-        split t $ move t (1 ∷ []) $ use1 W (some (λ (zs : Unit {0} × (Unit {0} × (List ℕ × (List ℕ × Unit {0})))). ‵ (lasts sv.ended (κ₁, (κ₂, (κ₃, tt))) (to-serve .0 .3) zs) ⊛ raw (fact 𝓤 (Serves h (xf .now) (xs .now) (xa .now) r (zs .1 .1 .0) (zs .1 .1 .1 .0))))) (id⊢ 𝓤 _) $ pick t (λ zs. split t $ move t (1 ∷ []) $ heard t (Serves h (xf .now) (xs .now) (xa .now) r (zs .1 .1 .0) (zs .1 .1 .1 .0)) (λ serves.
+          use1 W (later (some (λ (r : Wrote). ((t₁ ⊛ t₂ ⊛ t₃ ⊛ ‵ ftrue) ⊛ ‵ (U.the-row .own r (w ∷ []))) ⊛ raw (ensured 𝓤 H A sv.ended (sv.clauses 𝓤 H A at-mem run) (κ₁, (κ₂, (κ₃, tt))) (to-serve .0 .3) tt r)))) (id⊢ 𝓤 _) $ await t tt $ pick t (λ r.
+          split t $ move t (1 ∷ []) $ use1 W (some (λ (zs : Unit {0} × (Unit {0} × (List ℕ × (List ℕ × Unit {0})))). ‵ (lasts sv.ended (κ₁, (κ₂, (κ₃, tt))) (to-serve .0 .3) zs) ⊛ raw (fact 𝓤 (Serves h (xf .now) (xs .now) (xa .now) r (zs .1 .1 .0) (zs .1 .1 .1 .0))))) (id⊢ 𝓤 _) $ pick t (λ zs. split t $ move t (1 ∷ []) $ heard t (Serves h (xf .now) (xs .now) (xa .now) r (zs .1 .1 .0) (zs .1 .1 .1 .0)) (λ serves.
           fsplit t $ drop t $ fsplit t $ drop t $ fsplit t $ fsplit t $ move t (1 ∷ []) $ feqL t (λ ls. move t (1 ∷ []) $ fsplit t $ fsplit t $ move t (1 ∷ []) $ feqL t (λ la. move t (3 ∷ []) $ split t $ move t (1 ∷ []) $ facts t U.the-row (Is U.the-row) (shows 𝓤 H A U.the-row) r (w ∷ []) (λ got.
           -- [the tokens; the answer's last list; …; the store's; what the frame owns; the record's cell; the open borrow; obs; auth; _0; …]
           land t (from t (stop t)) (init t 25 refl (LL.lawful U.the-type U′.the-laws 𝓤 H A W .typed r _ got .0)) $ rewrite t 25 (λ (u : Val). ‵ (fat fullShare U′.mir l₈ 0 u)) (ap only (LL.tells U.the-type U′.the-laws r _ got)) refl $
