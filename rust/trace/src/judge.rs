@@ -86,9 +86,10 @@ fn told(told: &[Notification], words: &Words) -> String {
             format!("{} status {} mark {mark}", told.stream, told.status as u8)
         })
         .collect();
-    match each.is_empty() {
-        true => "nobody is told".to_owned(),
-        false => format!("told are {}", each.join(", ")),
+    match &each[..] {
+        [] => "nobody is told".to_owned(),
+        [one] => format!("the one notification is {one}"),
+        all => format!("the notifications are {}", all.join(", ")),
     }
 }
 
@@ -170,7 +171,7 @@ mod tests {
 
     #[test]
     fn told() {
-        let is = "told are 1 status 6 mark 7, 2 status 0 mark 7";
+        let is = "the notifications are 1 status 6 mark 7, 2 status 0 mark 7";
         check(
             "arbitrate 2 role 0 id 7",
             &[
@@ -193,7 +194,7 @@ mod tests {
         let is = "nobody is told";
         let fails = [("told 1 status 0", is), ("told count 1", is)];
         check("close 2", &["told nobody", "told count 0"], &fails);
-        let is = "told are 3 status 5 mark none";
+        let is = "the one notification is 3 status 5 mark none";
         let fails = [("told 3 status 5 mark 1", is)];
         check("arbitrate 3 role 4", &["told 3 status 5 mark none"], &fails);
     }
