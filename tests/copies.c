@@ -102,6 +102,13 @@ static size_t configure(uint8_t id) {
     return at + sizeof row;
 }
 
+/* the same with a table id that does not begin with 02 */
+static size_t barred(uint8_t id) {
+    size_t end = configure(id);
+    frame[28] = 3;
+    return end;
+}
+
 /* n updates of a type, of the keys 1 to n */
 static size_t write(uint8_t id, uint8_t type, uint8_t n) {
     size_t at = head(start(5), 0, id);
@@ -159,6 +166,7 @@ int main(void) {
     row("WRITE, not the mark", write(4, 1, 1));
     row("READ, not configured", read(0));
     row("CONFIGURE, not the mark", configure(4));
+    row("CONFIGURE, rows not allowed", barred(5));
     row("CONFIGURE of one row", configure(5));
     row("WRITE of no update", write(5, 1, 0));
     row("WRITE of 1 INSERT", write(5, 1, 1));
@@ -173,4 +181,7 @@ int main(void) {
     call(event(1, 2));
     call(arbitrate(2, 4));
     row("CLOSE of a primary, one stream told", event(2, 1));
+    call(event(1, 1));
+    call(arbitrate(1, 6));
+    row("ARBITRATE of a primary, id in use, one stream told", arbitrate(1, 4));
 }
