@@ -88,10 +88,9 @@ pub record Shows (seen : Survey) (e : rules.Streams) (s r i : ℕ) : Type 0 wher
   pub holder : numbered (seen .holder) ≡ rules.head (rules.numbers (rules.holds r (rules.markOf e r)) 0 (e .streams))
 
 -- n is the reason of an ARBITRATE in every record that the survey shows
-abbrev pub ReasonOf : ℕ → ℕ → Binding → Head → Survey → Type 0
-ReasonOf n device b h seen =
-    (e : rules.Streams) (s : ℕ) → bindingOf b ≡ rules.streamAt e s → Shows seen e s (h .role) (idOf (h .id))
-    → n ≡ rules.arbitrateReason device e s (headOf h)
+abbrev pub ReasonOf : ℕ → ℕ → Head → Survey → Type 0
+ReasonOf n device h seen =
+    (e : rules.Streams) (s : ℕ) → Shows seen e s (h .role) (idOf (h .id)) → n ≡ rules.arbitrateReason device e s (headOf h)
 
 -- t says whether an accepted ARBITRATE of stream s leaves the pair of its role the same, in every record that the survey shows
 abbrev pub SamePairOf : Bool → ℕ → Head → Survey → Type 0

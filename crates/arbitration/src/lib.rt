@@ -370,10 +370,11 @@ fn close_reason(binding: Binding) -> u8
 }
 
 // The reason of an ARBITRATE, 0 where nothing refuses it.
-fn reason(device: u64, binding: Binding, head: Head, seen: Survey) -> u8
-    ensures { λ r. ⌜ ReasonOf r device binding head seen ⌝ }
+fn reason(device: u64, head: Head, seen: Survey) -> u8
+    ensures { λ r. ⌜ ReasonOf r device head seen ⌝ }
 {
-    match binding {
+    let own = seen.own;
+    match own {
         Binding::Closed => 4,
         Binding::Open => {
             if head.device != device {
@@ -701,8 +702,7 @@ impl Streams {
         let role = head.role;
         let id = head.id;
         let seen = self.survey(stream, role, id);
-        let own = seen.own;
-        let reason = reason(device, own, head, seen);
+        let reason = reason(device, head, seen);
         let notify = self.heard(reason, stream, head, seen);
         let mut left = self;
         let s = left.streams[k];

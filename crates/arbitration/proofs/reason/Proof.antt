@@ -13,12 +13,12 @@ use Rattle.arbitration.proofs.reason.Tie as tie
 
 -- what the table for the stream's binding gives is the reason
 table : (c : tie.Start) {b : Binding} {n : ℕ} → let a = c .args in
-    a .binding ≡ b
+    a .seen .own ≡ b
     → ((e : rules.Streams) (s : ℕ) → Shows (a .seen) e s (a .head .role) (idOf (a .head .id))
     → Gives (rules.orderOf (a .device) e s (headOf (a .head)) (bindingOf b)) n)
-    → (e : rules.Streams) (s : ℕ) → bindingOf (a .binding) ≡ rules.streamAt e s → Shows (a .seen) e s (a .head .role) (idOf (a .head .id))
+    → (e : rules.Streams) (s : ℕ) → Shows (a .seen) e s (a .head .role) (idOf (a .head .id))
     → n ≡ rules.arbitrateReason (a .device) e s (headOf (a .head))
-table c p g e s q w = reason-is e s (c .args .device) (headOf (c .args .head)) (ap bindingOf (sym p) ∙ q) (g e s w)
+table c p g e s w = reason-is e s (c .args .device) (headOf (c .args .head)) (ap bindingOf (sym p) ∙ w .own) (g e s w)
 
 enum-told : tie.Need-enum-told
 enum-told c = search needs
@@ -58,19 +58,19 @@ returns-4 c =
     past (ap not (eq-eqb _ _ (d .if1 .left)))
     (past (le-ltb 7 _ (l .if2 .left)) (past (sym (w .clash) ∙ k .if3 .left) (here (rw (← w .members) (le-leb 8 _ (c .if4 .taken)))))))
 
-enum-known-binding : tie.Need-enum-known-binding
-enum-known-binding c = search needs
+enum-known-own : tie.Need-enum-known-own
+enum-known-own c = search needs
 
 returns-5 : tie.Need-returns-5
 returns-5 c =
     let b = c .before .before .before in
-    table (b .before .before) (b .binding .given .1) (λ e s w. here (rw (ne-eqb _ _ (c .if5 .taken))))
+    table (b .before .before) (b .own .given .1) (λ e s w. here (rw (ne-eqb _ _ (c .if5 .taken))))
 
 returns-6 : tie.Need-returns-6
 returns-6 c =
     let d = c .before .before in
     let b = d .before .before .before in
-    table (b .before .before) (b .binding .given .1)
+    table (b .before .before) (b .own .given .1)
     (λ e s w. here (rw (eq-eqb _ _ (d .if5 .left), ne-eqb _ _ (c .if6 .taken))))
 
 returns-7 : tie.Need-returns-7
@@ -78,7 +78,7 @@ returns-7 c =
     let r = c .before in
     let d = r .before .before in
     let b = d .before .before .before in
-    table (b .before .before) (b .binding .given .1)
+    table (b .before .before) (b .own .given .1)
     (λ e s w.
     past (rw (eq-eqb _ _ (d .if5 .left), eq-eqb _ _ (r .if6 .left)))
     (here (rw (← r .if6 .left) (sym (w .clash) ∙ c .if7 .taken))))
@@ -103,7 +103,7 @@ returns-10 c =
     let r = c .before in
     let d = r .before .before in
     let b = d .before .before .before in
-    table (b .before .before) (b .binding .given .1)
+    table (b .before .before) (b .own .given .1)
     (λ e s w.
     past (rw (eq-eqb _ _ (d .if5 .left), eq-eqb _ _ (r .if6 .left)))
     (past (rw (← r .if6 .left) (sym (w .clash) ∙ c .if7 .left)) nothing))
@@ -118,7 +118,7 @@ reason-spec =
     returns-2
     returns-3
     returns-4
-    enum-known-binding
+    enum-known-own
     returns-5
     returns-6
     returns-7

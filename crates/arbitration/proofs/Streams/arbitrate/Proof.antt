@@ -36,8 +36,8 @@ element-copy-out-s c = search needs
 arbitrated-requires : tie.Need-arbitrated-requires
 arbitrated-requires c κs = search needs
 
-mul-t17 : tie.Need-mul-t17
-mul-t17 c = search needs
+mul-t16 : tie.Need-mul-t16
+mul-t16 c = search needs
 
 element-set-from-left : tie.Need-element-set-from-left
 element-set-from-left c = search needs
@@ -54,8 +54,8 @@ element-copy-out-old c = search needs
 raised-requires : tie.Need-raised-requires
 raised-requires c κs = search needs
 
-mul-t17-2 : tie.Need-mul-t17-2
-mul-t17-2 c = search needs
+mul-t16-2 : tie.Need-mul-t16-2
+mul-t16-2 c = search needs
 
 element-set-from-left-2 : tie.Need-element-set-from-left-2
 element-set-from-left-2 c = search needs
@@ -69,7 +69,7 @@ returns c =
     let i = v .before in
     let a = i .before .args in
     let e = streamsOf (a .self) in
-    let p = d .reason .ensures e (a .stream) (v .survey .ensures .own) (v .survey .ensures) in
+    let p = d .reason .ensures e (a .stream) (v .survey .ensures) in
     arbitrate-leaves e (a .stream) (a .device) (headOf (a .head)) (t .heard .result)
     (arbitrates (a .self) (size i) (a .stream) (x .arbitrated .result) (marks i) (a .head) (c .raised .result) (a .device) (d .reason .result) p
     (x .arbitrated .ensures) (c .raised .ensures))
@@ -86,12 +86,12 @@ arbitrate-spec =
     mul-s
     element-copy-out-s
     arbitrated-requires
-    mul-t17
+    mul-t16
     element-set-from-left
     cast-at
     mul-old
     element-copy-out-old
     raised-requires
-    mul-t17-2
+    mul-t16-2
     element-set-from-left-2
     returns)
