@@ -13,7 +13,7 @@ use borrow.Author.Tests.{le-leb, lt-leb}
 use Rattle.rules.specs.Bytes.{if_then_else_, part}
 use Rattle.rules.specs.Frame.{Command, cramped, READ, readFrame}
 use Rattle.rules.specs.Answer.{replyOf}
-use Rattle.rules.specs.Call.{commandOf, nextControl, nextTables, next, answer, reply}
+use Rattle.rules.specs.Call.{roomy, commandOf, nextControl, nextTables, next, answer, reply}
 use Rattle.rules.specs.Sound.{Sound}
 use Rattle.rules.proofs.Formed.{parts-count, Formed, frame-formed, call-formed}
 use Rattle.rules.proofs.Lists.{part-part}
@@ -25,6 +25,20 @@ use Rattle.agent.specs.declared.Called.{Called}
 use Rattle.agent.specs.Meaning.{stateOf}
 use Rattle.agent.specs.Contract.{Kept, asked, Obeyed, Meets}
 use Rattle.agent.specs.Handlers.{queryIn, Named, Obeys}
+
+-- ---- 2 is tested first
+
+module _ (room space : ℕ) (x : Command) where
+  pub too-short : (space < 57_344) ⊎ (room < 56_320) → (if roomy room space then x else cramped) ≡ cramped
+  too-short (inl h) = rw (lt-leb 57_344 space h)
+  too-short (inr h) = rw (lt-leb 56_320 room h) (none (leb 57_344 space))
+    where
+      none : (b : Bool) → (if b && false then x else cramped) ≡ cramped
+      none true = refl
+      none false = refl
+
+  pub long-enough : 57_344 ≤ space → 56_320 ≤ room → (if roomy room space then x else cramped) ≡ x
+  long-enough h k = rw (le-leb 57_344 space h, le-leb 56_320 room k)
 
 -- no list of calls leaves a count over 256
 pub no-stray : (a : Agent) (store : List ℕ) → Kept a store → 256 < a .count → ⊥
@@ -42,12 +56,7 @@ module _ (a : Agent) (frame store d : List ℕ) where
 
   pub is-cramped : (length d < 57_344) ⊎ (length store < 56_320) → asked frame store d ≡ cramped
   unfolding commandOf
-  is-cramped (inl h) = rw (lt-leb 57_344 (length d) h)
-  is-cramped (inr h) = rw (lt-leb 56_320 (length store) h) (none (leb 57_344 (length d)))
-    where
-      none : (b : Bool) → (if b && false then readFrame frame else cramped) ≡ cramped
-      none true = refl
-      none false = refl
+  is-cramped = too-short (length store) (length d) (readFrame frame)
 
   pub nothing-done : Obeyed a cramped store d (record { agent = a; reason = 2 }) store d
   unfolding next nextControl nextTables reply replyOf answer
@@ -55,10 +64,10 @@ module _ (a : Agent) (frame store d : List ℕ) where
 
   -- ---- every other call
 
-  module _ (roomy : 57_344 ≤ length d) (enough : 56_320 ≤ length store) where
+  module _ (wide : 57_344 ≤ length d) (enough : 56_320 ≤ length store) where
     pub is-read : asked frame store d ≡ readFrame frame
     unfolding commandOf
-    is-read = rw (le-leb 57_344 (length d) roomy, le-leb 56_320 (length store) enough)
+    is-read = long-enough (length store) (length d) (readFrame frame) wide enough
 
     pub met : (c : Command) (r : Called) (store′ out : List ℕ) → readFrame frame ≡ c → Obeys a c store d r store′ out
         → Meets a frame store d r store′ out

@@ -8,7 +8,7 @@ use mathlib.Core.Logic.{_⊎_, inl, inr}
 use mathlib.Core.List.{List, [], _∷_}
 use lib.Dec.{eqb, leb, ltb}
 use lib.ListN.{length}
-use borrow.Author.Tests.{leb-true, leb-false, le-leb, lt-leb, le-ltb, eqb-true, ne-eqb}
+use borrow.Author.Tests.{leb-true, leb-false, le-ltb, eqb-true, ne-eqb}
 use Rattle.rules.specs.Bytes.{if_then_else_, byte}
 use Rattle.rules.specs.Frame.{Command, cramped, malformed, OPEN, CLOSE, ARBITRATE, READ, headAt, streamFormed, arbitrateFormed, configureFormed, writeFormed, readFormed, formed, byCommand, queryOf, configureOf, writeOf, readFrame}
 use Rattle.rules.specs.Streams as streams
@@ -33,21 +33,7 @@ use Rattle.agent.specs.Handlers.{elected, configured, wrote, unchanged}
 use Rattle.agent.specs.Parts.{isEvent, isConfigure, turn, Elects, notified, onRows, Configures, onEntries, Serves}
 use Rattle.entries.specs.Store.{tablesIn}
 use Rattle.agent.proofs.Obeying.{OnStreams, turn-obeyed, turn-answered}
-use Rattle.agent.proofs.Calls.{kept-on, is-cramped, nothing-done, is-read, met}
-
--- ---- 2 is tested first
-
-module _ (room space : ℕ) (x : Command) where
-  pub too-short : (space < 57_344) ⊎ (room < 56_320) → (if roomy room space then x else cramped) ≡ cramped
-  too-short (inl h) = rw (lt-leb 57_344 space h)
-  too-short (inr h) = rw (lt-leb 56_320 room h) (none (leb 57_344 space))
-    where
-      none : (b : Bool) → (if b && false then x else cramped) ≡ cramped
-      none true = refl
-      none false = refl
-
-  pub long-enough : 57_344 ≤ space → 56_320 ≤ room → (if roomy room space then x else cramped) ≡ x
-  long-enough h k = rw (le-leb 57_344 space h, le-leb 56_320 room k)
+use Rattle.agent.proofs.Calls.{too-short, long-enough, kept-on, is-cramped, nothing-done, is-read, met}
 
 -- ---- which command a frame reads as
 

@@ -6,7 +6,7 @@ use Rattle.arbitration.specs.Meaning.{streamsOf}
 use Rattle.frames.specs.declared.Frame.{Frame}
 use Rattle.frames.specs.Meaning.{frameOf}
 use Rattle.agent.specs.Parts.{turn}
-use Rattle.agent.proofs.Parts.{too-short, long-enough}
+use Rattle.agent.proofs.Calls.{too-short, long-enough}
 use borrow.Author.Needs.{needs}
 use Rattle.agent.proofs.elect.Statement.{statement}
 use Rattle.agent.proofs.elect.Tie as tie
