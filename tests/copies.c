@@ -1,4 +1,6 @@
-/* Counts the copies of memory in one call of each kind: memcpy, memmove and memset are replaced by ones that count. Prints a table.
+/* Counts the copies of memory in one call of each kind: memcpy and memmove are replaced by ones that count. Prints a table, with the
+ * counts of the library's first version beside it (docs/SPEED.md). Exit status 0: no call makes more than half as many copies as it
+ * did then, nor moves more than half as many bytes.
  * cc -std=c11 -O1 -fno-builtin -Iinclude tests/copies.c target/staticlib/libsavorylatch.a -o copies && ./copies */
 #include "savorylatch.h"
 
@@ -74,9 +76,9 @@ static size_t start(uint8_t command) {
     return 1;
 }
 
-/* device 1, a role, and an id below 256 */
-static size_t head(size_t at, uint8_t role, uint8_t id) {
-    frame[at + 7] = 1;
+/* a device below 256, a role, and an id below 256 */
+static size_t head(size_t at, uint8_t device, uint8_t role, uint8_t id) {
+    frame[at + 7] = device;
     frame[at + 8] = role;
     frame[at + 9] = id != 0;
     frame[at + 25] = id;
@@ -89,29 +91,23 @@ static size_t event(uint8_t command, uint8_t stream) {
     return at;
 }
 
-static size_t arbitrate(uint8_t stream, uint8_t id) {
-    return head(event(3, stream), 0, id);
+static size_t arbitrate(uint8_t stream, uint8_t device, uint8_t role, uint8_t id) {
+    return head(event(3, stream), device, role, id);
 }
 
-/* one table, 0x02000001, of 256 entries: an exact field of 32 bits, and an action without parameters */
-static size_t configure(uint8_t id) {
-    size_t at = head(start(4), 0, id);
+/* one table, 0x02000001, of 256 entries and of role 0: an exact field of 32 bits, and an action without parameters */
+static size_t configure(uint8_t device, uint8_t role, uint8_t id) {
+    size_t at = head(start(4), device, role, id);
     static const uint8_t row[53] = {2, 0, 0, 1, 0, 1, 0, 1, 1, 32, [16] = 1, [17] = 1, [20] = 1};
     frame[at++] = 1;
     move(frame + at, row, sizeof row);
     return at + sizeof row;
 }
 
-/* the same with a table id that does not begin with 02 */
-static size_t barred(uint8_t id) {
-    size_t end = configure(id);
-    frame[28] = 3;
-    return end;
-}
-
 /* n updates of a type, of the keys 1 to n */
-static size_t write(uint8_t id, uint8_t type, uint8_t n) {
-    size_t at = head(start(5), 0, id);
+static size_t write(uint8_t device, uint8_t role, uint8_t id, uint8_t atomicity, uint8_t type, uint8_t n) {
+    size_t at = head(start(5), device, role, id);
+    frame[at] = atomicity;
     frame[at + 1] = n;
     at += 2;
     for (uint8_t i = 1; i <= n; i++, at += 221) {
@@ -123,65 +119,160 @@ static size_t write(uint8_t id, uint8_t type, uint8_t n) {
     return at;
 }
 
-static size_t read(uint8_t only) {
-    static const uint8_t key[149] = {2, 0, 0, 1, 1, [9] = 1, [10] = 1, [11] = 1};
+/* of all tables, or of the key 1 of a table */
+static size_t read(uint8_t device, uint8_t role, uint8_t table) {
+    static const uint8_t key[149] = {2, 0, 0, 0, 1, [9] = 1, [10] = 1, [11] = 1};
     start(6);
-    frame[8] = 1;
-    if (only) {
+    frame[8] = device;
+    frame[9] = role;
+    if (table) {
         move(frame + 10, key, sizeof key);
+        frame[13] = table;
     }
     return 159;
 }
 
-/* ---- the table */
-
-static void call(size_t length) {
-    savorylatch_call(&agent, frame, length, store, sizeof store, answer, sizeof answer);
+/* the frame with another byte at a place */
+static size_t but(size_t length, size_t at, uint8_t byte) {
+    frame[at] = byte;
+    return length;
 }
 
-static void row(const char *what, size_t length) {
-    size_t copies = 0, bytes = 0;
-    kinds = 0;
-    call(length);
-    size_t found = kinds;
-    printf("| %s | %d |", what, answer[0]);
+/* ---- the table */
+
+static int failed;
+
+static uint8_t call(size_t length) {
+    return savorylatch_call(&agent, frame, length, store, sizeof store, answer, sizeof answer);
+}
+
+static void counted(const char *what, unsigned reason, unsigned returned, size_t first, size_t first_bytes) {
+    size_t copies = 0, bytes = 0, found = kinds;
+    printf("| %s | %u |", what, returned);
     for (size_t k = 0; k < found; k++) {
         printf("%s %zu of %zu", k ? "," : "", seen[k].times, seen[k].size);
         copies += seen[k].times;
         bytes += seen[k].times * seen[k].size;
     }
-    printf(" | %zu | %zu |\n", copies, bytes);
+    printf(" | %zu | %zu | %zu | %zu |\n", copies, bytes, first, first_bytes);
+    if (returned != reason) {
+        printf("%s: the reason is %u, and not %u\n", what, returned, reason);
+        failed = 1;
+    }
+    if (2 * copies > first || 2 * bytes > first_bytes) {
+        printf("%s: not halved\n", what);
+        failed = 1;
+    }
+}
+
+static void row(const char *what, unsigned reason, size_t length, size_t first, size_t first_bytes) {
+    kinds = 0;
+    unsigned returned = call(length);
+    counted(what, reason, returned, first, first_bytes);
+}
+
+/* opens a stream and binds it to role 0 */
+static void bind(uint8_t stream, uint8_t id) {
+    call(event(1, stream));
+    call(arbitrate(stream, 1, 0, id));
+}
+
+static void events(void) {
+    row("OPEN", 0, event(1, 1), 9, 10904);
+    row("OPEN of an open stream", 3, event(1, 1), 9, 10904);
+    row("CLOSE of an unbound stream", 0, event(2, 1), 9, 10904);
+    row("CLOSE of a closed stream", 4, event(2, 1), 9, 10904);
+    row("ARBITRATE of a closed stream", 4, arbitrate(1, 1, 0, 5), 9, 10904);
+    call(event(1, 1));
+    row("ARBITRATE, the first", 0, arbitrate(1, 1, 0, 5), 12, 11784);
+    row("ARBITRATE, repeated id", 0, arbitrate(1, 1, 0, 5), 11, 10888);
+    row("ARBITRATE, higher id", 0, arbitrate(1, 1, 0, 6), 12, 11784);
+    row("ARBITRATE of a primary, id unset", 0, arbitrate(1, 1, 0, 0), 12, 11784);
+    row("ARBITRATE with the mark again", 0, arbitrate(1, 1, 0, 6), 12, 11784);
+    call(event(1, 2));
+    row("ARBITRATE, a backup's first", 0, arbitrate(2, 1, 0, 4), 11, 10888);
+    row("CLOSE of a backup", 0, event(2, 2), 10, 11800);
+    bind(2, 4);
+    row("CLOSE of a primary, one stream told", 0, event(2, 1), 12, 13592);
+    call(event(2, 2));
+}
+
+/* stream 1 is the primary of role 0 with id 7 */
+static void refused_events(void) {
+    bind(1, 7);
+    call(event(1, 2));
+    row("ARBITRATE, unbound, other device", 5, arbitrate(2, 9, 0, 4), 10, 9992);
+    call(event(1, 2));
+    row("ARBITRATE, unbound, role 8", 6, arbitrate(2, 1, 8, 4), 10, 9992);
+    call(event(1, 2));
+    row("ARBITRATE, unbound, id in use", 8, arbitrate(2, 1, 0, 7), 10, 9992);
+    for (uint8_t s = 2; s <= 8; s++) {
+        bind(s, 0);
+    }
+    call(event(1, 9));
+    row("ARBITRATE, unbound, the ninth", 9, arbitrate(9, 1, 0, 4), 10, 9992);
+    row("ARBITRATE of a backup, other role", 7, arbitrate(8, 1, 1, 4), 10, 9992);
+    row("ARBITRATE of a backup, id in use", 8, arbitrate(7, 1, 0, 7), 10, 9992);
+    for (uint8_t s = 3; s <= 6; s++) {
+        call(event(2, s));
+    }
+    row("ARBITRATE of a primary, other device, one stream told", 7, arbitrate(1, 9, 0, 8), 13, 12680);
+    call(event(2, 2));
+    bind(2, 6);
+    bind(1, 8);
+    row("ARBITRATE of a primary, id in use, one stream told", 8, arbitrate(1, 1, 0, 6), 13, 12680);
+    call(event(2, 2));
+}
+
+static void malformed(void) {
+    kinds = 0;
+    counted("answer buffer too short", 2, savorylatch_call(&agent, frame, write(1, 0, 9, 0, 1, 1), store, sizeof store, answer, 57343), 3, 4392);
+    row("no byte", 1, 0, 3, 4392);
+    row("command 07", 1, start(7), 3, 4392);
+    row("OPEN, malformed", 1, event(1, 32), 3, 4392);
+    row("ARBITRATE, malformed", 1, but(arbitrate(1, 1, 0, 5), 11, 2), 3, 4392);
+    row("CONFIGURE, malformed", 1, but(configure(1, 0, 5), 10, 2), 3, 4392);
+    row("WRITE, malformed", 1, but(write(1, 0, 5, 0, 1, 1), 10, 2), 3, 4392);
+    row("READ, malformed", 1, but(read(1, 0, 0), 14, 2), 3, 4392);
+}
+
+/* stream 1 becomes the primary of role 0 with id 9, and stream 3 that of role 1 with id 1 */
+static void commands(void) {
+    bind(1, 9);
+    call(event(1, 3));
+    call(arbitrate(3, 1, 1, 1));
+    row("WRITE, not configured", 12, write(1, 0, 9, 0, 1, 1), 10, 9608);
+    row("READ, not configured", 12, read(1, 0, 0), 6, 8712);
+    row("CONFIGURE, other device", 5, configure(9, 0, 9), 10, 9620);
+    row("CONFIGURE, role 8", 6, configure(1, 8, 9), 10, 9620);
+    row("CONFIGURE by role 1", 11, configure(1, 1, 1), 10, 9620);
+    row("CONFIGURE, not the mark", 10, configure(1, 0, 4), 10, 9620);
+    row("CONFIGURE, rows not allowed", 14, but(configure(1, 0, 9), 28, 3), 10, 9620);
+    row("CONFIGURE of one row", 0, configure(1, 0, 9), 12, 10708);
+    row("WRITE, other device", 5, write(9, 0, 9, 0, 1, 1), 10, 9608);
+    row("WRITE, role 8", 6, write(1, 8, 9, 0, 1, 1), 10, 9608);
+    row("WRITE, not the mark", 10, write(1, 0, 4, 0, 1, 1), 10, 9608);
+    row("WRITE, atomicity 1", 13, write(1, 0, 9, 1, 1, 1), 10, 9608);
+    row("WRITE of no update", 0, write(1, 0, 9, 0, 1, 0), 10, 9608);
+    row("WRITE of 1 INSERT", 0, write(1, 0, 9, 0, 1, 1), 10, 9608);
+    row("WRITE of 64 INSERTs, one refused", 23, write(1, 0, 9, 0, 1, 64), 10, 9608);
+    row("READ, other device", 5, read(9, 0, 0), 6, 8712);
+    row("READ, role 8", 6, read(1, 8, 0), 6, 8712);
+    row("READ, unknown table", 15, read(1, 0, 2), 7, 8360);
+    row("READ, table of another role", 16, read(1, 2, 1), 7, 8360);
+    row("READ, key not of the kind", 17, but(read(1, 0, 1), 19, 2), 7, 8360);
+    row("READ, key with a priority", 19, but(read(1, 0, 1), 18, 1), 7, 8360);
+    row("READ of all", 0, read(1, 0, 0), 7, 8360);
+    row("READ of one key", 0, read(1, 0, 1), 7, 7960);
 }
 
 int main(void) {
     setvbuf(stdout, NULL, _IONBF, 0);
     savorylatch_new(&agent, 1);
-    printf("| call | reason | copies | in all | bytes |\n|---|--:|---|--:|--:|\n");
-    row("malformed", start(7));
-    row("OPEN", event(1, 1));
-    row("OPEN of an open stream", event(1, 1));
-    row("CLOSE of a closed stream", event(2, 3));
-    row("ARBITRATE, the first", arbitrate(1, 5));
-    row("ARBITRATE, repeated id", arbitrate(1, 5));
-    row("WRITE, not the mark", write(4, 1, 1));
-    row("READ, not configured", read(0));
-    row("CONFIGURE, not the mark", configure(4));
-    row("CONFIGURE, rows not allowed", barred(5));
-    row("CONFIGURE of one row", configure(5));
-    row("WRITE of no update", write(5, 1, 0));
-    row("WRITE of 1 INSERT", write(5, 1, 1));
-    row("WRITE of 64 INSERTs, one refused", write(5, 1, 64));
-    row("READ of all", read(0));
-    row("READ of one key", read(1));
-    call(event(1, 2));
-    row("ARBITRATE, id in use", arbitrate(2, 5));
-    call(event(1, 2));
-    call(arbitrate(2, 4));
-    row("CLOSE of a backup", event(2, 2));
-    call(event(1, 2));
-    call(arbitrate(2, 4));
-    row("CLOSE of a primary, one stream told", event(2, 1));
-    call(event(1, 1));
-    call(arbitrate(1, 6));
-    row("ARBITRATE of a primary, id in use, one stream told", arbitrate(1, 4));
+    printf("| call | reason | copies | in all | bytes | first version: in all | bytes |\n|---|--:|---|--:|--:|--:|--:|\n");
+    malformed();
+    events();
+    refused_events();
+    commands();
+    return failed;
 }

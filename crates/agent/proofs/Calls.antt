@@ -7,15 +7,17 @@ use mathlib.Core.Bool.{Bool, true, false, _&&_}
 use mathlib.Core.Logic.{_⊎_, inl, inr}
 use mathlib.Core.List.{List, _++_}
 use lib.Dec.{leb}
-use lib.ListN.{length, take, drop, length-drop}
-use lib.Seq.{take-all}
+use lib.ListN.{length, take, drop, length-take, length-drop}
+use lib.Seq.{take-at, take-all}
 use borrow.Author.Tests.{le-leb, lt-leb}
-use Rattle.rules.specs.Bytes.{if_then_else_, part}
-use Rattle.rules.specs.Frame.{Command, cramped, READ, readFrame}
+use Rattle.rules.specs.Bytes.{if_then_else_, number, part, int}
+use Rattle.rules.specs.Frame as rules
+use Rattle.rules.specs.Frame.{Command, cramped, readFrame}
+use Rattle.rules.specs.Key.{tableOf}
 use Rattle.rules.specs.Answer.{replyOf}
 use Rattle.rules.specs.Call.{roomy, commandOf, nextControl, nextTables, next, answer, reply}
 use Rattle.rules.specs.Sound.{Sound}
-use Rattle.rules.proofs.Formed.{parts-count, Formed, frame-formed, call-formed}
+use Rattle.rules.proofs.Formed.{parts-count, call-formed}
 use Rattle.rules.proofs.Lists.{part-part}
 use Rattle.rules.proofs.Sound.{next-sound}
 use Rattle.frames.specs.declared.Query.{Query}
@@ -89,7 +91,9 @@ query-there q f b e =
     ap₂ (λ (x y : List ℕ). record { device = q .device; role = q .role; table = q .table; only = q .only; key = x ++ y })
     (ap (part 0 4) e ∙ part-part 10 149 0 4 f (omega arith)) (ap (part 5 144) e ∙ part-part 10 149 5 144 f (omega arith))
 
-pub query-named : (q : Query) (f b : List ℕ) → readFrame f ≡ READ (queryOf q f) → b ≡ part 10 149 f → Named (queryIn q b)
-query-named q f b e l =
-    let z : Formed (READ (queryIn q b)) = subst Formed (e ∙ ap READ (sym (query-there q f b l))) (frame-formed f) in
-    (z .1, z .2)
+pub query-named : (q : Query) (f b : List ℕ) → length f ≡ 159 → int 10 4 f ≡ q .table → (q .only ≡ 1 → q .table ≡ 0 → ⊥)
+    → b ≡ part 10 149 f → Named (queryIn q b)
+query-named q f b n e o l =
+    let h : length (part 10 4 f) ≡ 4 = simp (length-take, length-drop) (omega arith) in
+    let z : tableOf (queryOf q f .key) ≡ q .table = ap number (take-at (part 10 4 f) (part 15 144 f) 4 h) ∙ e in
+    (ap (λ (x : rules.Query). tableOf (x .key)) (query-there q f b l) ∙ z, o)

@@ -1,11 +1,11 @@
 -- From what a handler leaves to what its command leaves under the rules. Assumes nothing.
 use Prim.Native.Nat.{ℕ}
 use native.Mathlib.Omega.{arith}
-use mathlib.Core.Path.{_≡_, refl, sym, ap, ap₂, _∙_, subst}
+use mathlib.Core.Path.{_≡_, refl, sym, ap, _∙_, subst}
 use mathlib.Core.Bool.{Bool, true, false, not, _&&_, true≢false}
 use mathlib.Core.List.{List, [], _∷_, _++_, map}
 use lib.Dec.{eqb, ltb}
-use borrow.Author.Tests.{eqb-true, eq-eqb, ne-eqb}
+use borrow.Author.Tests.{eqb-true, eq-eqb, ne-eqb, not-false}
 use Rattle.rules.specs.Bytes.{if_then_else_, parts, every}
 use Rattle.rules.specs.Reason.{first}
 use Rattle.rules.specs.Frame.{Head, Update, Query, Command, cramped, malformed, OPEN, CLOSE, ARBITRATE, CONFIGURE, WRITE, READ}
@@ -15,11 +15,12 @@ use Rattle.rules.specs.Key.{keyFormed, keyFits, keyRules}
 use Rattle.rules.specs.Answer.{Answer, answerBytes}
 use Rattle.rules.specs.Call.{Control, unconfigured, configureReason, writeReason, readReason, refusal, withStreams, withRows, nextControl, nextTables, next, batchOf, pairOf, headOf, shown, heard, plain, answer}
 use Rattle.rules.proofs.Formed.{parts-count, Formed}
-use Rattle.rules.proofs.Orders.{first-more}
+use Rattle.rules.proofs.Orders.{first-clear, first-more}
 use Rattle.rules.proofs.OneKey.{one-key}
 use Rattle.buffers.specs.Splice.{splice}
 use Rattle.arbitration.specs.declared.Outcome.{Outcome}
 use Rattle.arbitration.specs.Meaning.{outcomeOf}
+use Rattle.rows.specs.declared.Rows.{Rows}
 use Rattle.rows.specs.Meaning.{rowsOf}
 use Rattle.entries.specs.Store.{entriesIn, tablesIn}
 use Rattle.entry_store.specs.declared.Written.{Written}
@@ -27,7 +28,6 @@ use Rattle.entry_store.specs.Update.{Tidy, BatchApplied}
 use Rattle.entry_store.specs.Read.{keyReason, queryReason, readIn}
 use Rattle.agent.specs.declared.Agent.{Agent}
 use Rattle.agent.specs.declared.Called.{Called}
-use Rattle.agent.specs.declared.Configured.{Configured}
 use Rattle.agent.specs.declared.Wrote.{Wrote}
 use Rattle.agent.specs.Meaning.{controlOf, stateOf}
 use Rattle.agent.specs.Contract.{Kept, Obeyed}
@@ -142,26 +142,32 @@ unfolding first
 last true = refl
 last false = refl
 
-module _ (a : Agent) (h : Head) (rows : List (List ℕ)) where
+module _ (c : Control) (h : Head) (rows : List (List ℕ)) where
   -- the order in two parts: 5, 6, 11, 10; then 14
-  pub configure-order : {here primary : Bool} {r : ℕ} → here ≡ eqb (h .device) (a .device)
-      → primary ≡ streams.byPrimary (controlOf a .streams) (h .role) (h .id)
+  pub configure-order : {here primary : Bool} {r : ℕ} → here ≡ eqb (h .device) (c .device)
+      → primary ≡ streams.byPrimary (c .streams) (h .role) (h .id)
       → r ≡ first ((not here, 5) ∷ (ltb 7 (h .role), 6) ∷ (ltb 0 (h .role), 11) ∷ (not primary, 10) ∷ [])
-      → configureReason (controlOf a) h rows ≡ (if eqb r 0 then if row.configurationAllowed rows then 0 else 14 else r)
+      → configureReason c h rows ≡ (if eqb r 0 then if row.configurationAllowed rows then 0 else 14 else r)
   unfolding configureReason
   configure-order {here} {primary} {r} e p q =
       rw (q, e, p) (first-more
-      ((not (eqb (h .device) (a .device)), 5) ∷ (ltb 7 (h .role), 6) ∷ (ltb 0 (h .role), 11)
-      ∷ (not (streams.byPrimary (controlOf a .streams) (h .role) (h .id)), 10) ∷ [])
+      ((not (eqb (h .device) (c .device)), 5) ∷ (ltb 7 (h .role), 6) ∷ (ltb 0 (h .role), 11)
+      ∷ (not (streams.byPrimary (c .streams) (h .role) (h .id)), 10) ∷ [])
       ((not (row.configurationAllowed rows), 14) ∷ []) refl ∙ (rw (last (row.configurationAllowed rows))))
 
-  pub was-configured : (store d out : List ℕ) (r : Configured) → configureReason (controlOf a) h rows ≡ 0
-      → rowsOf (r .rows) ≡ map row.rowOf rows → r .count ≡ 0 → r .reason ≡ 0
-      → out ≡ splice d 0 (answerBytes (plain 0)) → Obeyed a (CONFIGURE h rows) store d (configured a r) store out
+  -- where nothing refuses a CONFIGURE, 14 does not
+  pub rows-allowed : configureReason c h rows ≡ 0 → row.configurationAllowed rows ≡ true
+  unfolding configureReason
+  rows-allowed e = not-false (row.configurationAllowed rows) (first-clear _ refl e .1 .1 .1 .1 .0)
+
+module _ (a : Agent) (h : Head) (rows : List (List ℕ)) where
+  pub was-configured : (store d out : List ℕ) (read : Rows) → configureReason (controlOf a) h rows ≡ 0
+      → rowsOf read ≡ map row.rowOf rows → out ≡ splice d 0 (answerBytes (plain 0))
+      → Obeyed a (CONFIGURE h rows) store d (configured a read) store out
   unfolding stateOf next nextControl nextTables answer refusal parts
-  was-configured store d out r e l c q o =
-      store-stays a (CONFIGURE h rows) store d (configured a r) out (λ z. let w : _≡_ {A = ℕ} 0 1 = cc in omega arith) (plain 0) (rw e)
-      (rw e (ap₂ (λ (k : Control) (n : ℕ). record { control = k; tables = tablesIn n store }) (ap (withRows (controlOf a)) l) c)) q o
+  was-configured store d out read e l o =
+      store-stays a (CONFIGURE h rows) store d (configured a read) out (λ z. let w : _≡_ {A = ℕ} 0 1 = cc in omega arith) (plain 0) (rw e)
+      (rw e (ap (λ (k : Control). record { control = k; tables = tablesIn 0 store }) (ap (withRows (controlOf a)) l))) refl o
 
 -- ---- WRITE
 

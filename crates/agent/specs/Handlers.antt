@@ -2,19 +2,15 @@
 use mathlib.Core.Path.{_≡_}
 use mathlib.Core.List.{List}
 use Prim.Native.Nat.{ℕ}
-use Rattle.rules.specs.Bytes.{if_then_else_}
 use Rattle.rules.specs.Frame as rules
-use Rattle.rules.specs.Row.{configurationAllowed}
-use Rattle.rules.specs.Call.{configureReason}
 use Rattle.rules.specs.Key.{tableOf}
 use Rattle.arbitration.specs.declared.Outcome.{Outcome}
+use Rattle.rows.specs.declared.Rows.{Rows}
 use Rattle.frames.specs.declared.Query.{Query}
 use Rattle.entry_store.specs.Read.{keyIn}
 use Rattle.agent.specs.declared.Agent.{Agent}
 use Rattle.agent.specs.declared.Called.{Called}
-use Rattle.agent.specs.declared.Configured.{Configured}
 use Rattle.agent.specs.declared.Wrote.{Wrote}
-use Rattle.agent.specs.Meaning.{controlOf}
 use Rattle.agent.specs.Contract.{Kept, Obeyed}
 
 -- what a READ asks for, where its bytes from the table on are these
@@ -31,9 +27,9 @@ Named q = (tableOf (q .key) ≡ q .table) × (q .only ≡ 1 → q .table ≡ 0 �
 abbrev pub elected : Agent → Outcome → Called
 elected a o = record { agent = record { device = a .device; streams = o .streams; rows = a .rows; count = a .count }; reason = o .reason }
 
--- CONFIGURE
-abbrev pub configured : Agent → Configured → Called
-configured a r = record { agent = record { device = a .device; streams = a .streams; rows = r .rows; count = r .count }; reason = r .reason }
+-- an accepted CONFIGURE, which empties the store
+abbrev pub configured : Agent → Rows → Called
+configured a rows = record { agent = record { device = a .device; streams = a .streams; rows = rows; count = 0 }; reason = 0 }
 
 -- WRITE
 abbrev pub wrote : Agent → Wrote → Called
@@ -50,9 +46,3 @@ Obeys a c store answer r store′ answer′ = Kept a store → Obeyed a c store 
 -- a command that is not given the store, and so leaves any store as it is
 abbrev pub ObeysAny : Agent → rules.Command → Called → List ℕ → List ℕ → Type 0
 ObeysAny a c r answer answer′ = (store : List ℕ) → Kept a store → Obeyed a c store answer r store answer′
-
--- rows of a CONFIGURE that nothing but 14 may refuse
-abbrev pub Replaces : Agent → List (List ℕ) → Configured → List ℕ → List ℕ → Type 0
-Replaces a rows r answer answer′ =
-    (h : rules.Head) → configureReason (controlOf a) h rows ≡ (if configurationAllowed rows then 0 else 14)
-    → ObeysAny a (rules.CONFIGURE h rows) (configured a r) answer answer′

@@ -1,6 +1,7 @@
 -- A call in parts: OPEN, CLOSE and ARBITRATE change the stream record alone, CONFIGURE the rows and the number of entries, WRITE that
 -- number, READ nothing. Each part of a call has functions that are given no more than their commands need, and hand back what they
--- change; any other command is refused there as a malformed frame is, under 1. Assumes nothing.
+-- change; any other command is refused there as a malformed frame is, under 1. A frame is read once, before the record is looked at,
+-- and what it was read as is handed on beside it. Assumes nothing.
 use mathlib.Core.Path.{_≡_}
 use mathlib.Core.Bool.{Bool}
 use mathlib.Core.List.{List, []}
@@ -10,19 +11,20 @@ use lib.ListN.{length}
 use Rattle.rules.specs.Bytes.{if_then_else_, between, byte}
 use Rattle.rules.specs.Frame.{Command, cramped, malformed, OPEN, CLOSE, ARBITRATE, CONFIGURE, WRITE, READ}
 use Rattle.rules.specs.Streams as rules
-use Rattle.rules.specs.Answer.{answerBytes}
-use Rattle.rules.specs.Call.{heard, roomy}
+use Rattle.rules.specs.Row.{Row}
+use Rattle.rules.specs.Answer.{Answer, answerBytes}
+use Rattle.rules.specs.Call.{configureReason, roomy}
 use Rattle.buffers.specs.Splice.{splice}
 use Rattle.arbitration.specs.declared.Streams.{Streams}
 use Rattle.arbitration.specs.declared.Outcome.{Outcome}
 use Rattle.arbitration.specs.Meaning.{streamsOf, outcomeOf, leftAs}
 use Rattle.frames.specs.declared.Frame.{Frame}
-use Rattle.frames.specs.Meaning.{frameOf}
+use Rattle.rows.specs.Meaning.{rowsIn}
+use Rattle.frames.specs.Meaning.{frameOf, givenBy}
 use Rattle.agent.specs.declared.Agent.{Agent}
-use Rattle.agent.specs.declared.Configured.{Configured}
 use Rattle.agent.specs.declared.Wrote.{Wrote}
-use Rattle.agent.specs.Contract.{Kept, asked, Obeyed}
-use Rattle.agent.specs.Handlers.{configured, wrote}
+use Rattle.agent.specs.Contract.{Kept, Obeyed}
+use Rattle.agent.specs.Handlers.{wrote}
 
 -- ---- which part a frame is for, by its command byte; an empty frame has none, and so is for neither of these two
 
@@ -33,6 +35,12 @@ isEvent f = between 1 3 (byte 0 f)
 -- CONFIGURE 04
 abbrev pub isConfigure : List ℕ → Bool
 isConfigure f = eqb (byte 0 f) 4
+
+-- ---- what is written
+
+-- an answer in the buffer d: nothing is written under 2, or where d has no room for n bytes, which the answer at most has
+abbrev pub answered : ℕ → Answer → List ℕ → List ℕ
+answered n a d = if ltb (length d) n then d else if eqb (a .reason) 2 then d else splice d 0 (answerBytes a)
 
 -- ---- OPEN, CLOSE, ARBITRATE
 
@@ -53,26 +61,33 @@ abbrev pub Elects : ℕ → Streams → Frame → ℕ → ℕ → Outcome → Ty
 Elects device streams x room space r =
     outcomeOf r ≡ turn device (streamsOf streams) (if roomy room space then frameOf x [] else cramped)
 
--- its answer: under 2, or where there is no room for 32 records, nothing is written
-abbrev pub notified : rules.Outcome → List ℕ → List ℕ
-notified o d = if ltb (length d) 644 then d else if eqb (o .reason) 2 then d else splice d 0 (answerBytes (heard o))
-
 -- ---- CONFIGURE
 
-abbrev pub onRows : Command → Command
-onRows cramped = cramped
-onRows malformed = malformed
-onRows (OPEN n) = malformed
-onRows (CLOSE n) = malformed
-onRows (ARBITRATE n h) = malformed
-onRows (CONFIGURE h rows) = CONFIGURE h rows
-onRows (WRITE h atomicity us) = malformed
-onRows (READ q) = malformed
+-- what is asked for, where x is handed on beside the frame f: under 2 neither is looked at
+abbrev pub given : Frame → List ℕ → ℕ → ℕ → Command
+given x f room space = if roomy room space then givenBy x f else cramped
 
--- with any store of that room, which stays as it is
-abbrev pub Configures : Agent → List ℕ → ℕ → List ℕ → Configured → List ℕ → Type 0
-Configures a frame room answer r answer′ =
-    (store : List ℕ) → length store ≡ room → Kept a store → Obeyed a (onRows (asked frame store answer)) store answer (configured a r) store answer′
+-- why a CONFIGURE is refused, on this device and with the streams e; the rows in force do not matter
+abbrev pub verdict : ℕ → rules.Streams → Command → ℕ
+verdict device e cramped = 2
+verdict device e malformed = 1
+verdict device e (OPEN n) = 1
+verdict device e (CLOSE n) = 1
+verdict device e (ARBITRATE n h) = 1
+verdict device e (CONFIGURE h rows) = configureReason (record { device = device; streams = e; rows = [] }) h rows
+verdict device e (WRITE h atomicity us) = 1
+verdict device e (READ q) = 1
+
+-- the rows that a command asks to be in force
+abbrev pub rowsAsked : Command → List Row
+rowsAsked cramped = []
+rowsAsked malformed = []
+rowsAsked (OPEN n) = []
+rowsAsked (CLOSE n) = []
+rowsAsked (ARBITRATE n h) = []
+rowsAsked (CONFIGURE h rows) = rowsIn rows
+rowsAsked (WRITE h atomicity us) = []
+rowsAsked (READ q) = []
 
 -- ---- WRITE, READ
 
@@ -86,6 +101,7 @@ onEntries (CONFIGURE h rows) = malformed
 onEntries (WRITE h atomicity us) = WRITE h atomicity us
 onEntries (READ q) = READ q
 
-abbrev pub Serves : Agent → List ℕ → List ℕ → List ℕ → Wrote → List ℕ → List ℕ → Type 0
-Serves a frame store answer r store′ answer′ =
-    Kept a store → Obeyed a (onEntries (asked frame store answer)) store answer (wrote a r) store′ answer′
+abbrev pub Serves : Agent → Frame → List ℕ → List ℕ → List ℕ → Wrote → List ℕ → List ℕ → Type 0
+Serves a x frame store answer r store′ answer′ =
+    Kept a store
+    → Obeyed a (onEntries (given x frame (length store) (length answer))) store answer (wrote a r) store′ answer′

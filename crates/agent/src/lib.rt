@@ -1,6 +1,6 @@
 // The agent: one call hands in a frame and gets its answer (document 01).
 ghost use mathlib.Core.Path.{_≡_};
-ghost use mathlib.Core.Bool.{not};
+ghost use mathlib.Core.Bool.{true, not};
 ghost use mathlib.Core.List.{[], _∷_};
 ghost use Prim.Native.Nat.{_*_, _≤_};
 ghost use lib.Dec.{ltb};
@@ -9,14 +9,15 @@ ghost use Rattle.rules.specs.Bytes.{parts, bytesOf, if_then_else_};
 ghost use Rattle.rules.specs.Reason.{first, codeOf};
 ghost use Rattle.rules.specs.Frame as rules;
 ghost use Rattle.rules.specs.Answer.{answerBytes};
-ghost use Rattle.rules.specs.Call.{heard};
+ghost use Rattle.rules.specs.Call.{heard, plain};
 ghost use Rattle.buffers.specs.Splice.{splice};
 ghost use Rattle.arbitration.specs.Meaning.{headOf, streamsOf, outcomeOf, leftAs};
 ghost use Rattle.entry_store.specs.Update.{updatesIn};
-ghost use Rattle.frames.specs.Meaning.{commandOf, Fits};
+ghost use Rattle.rows.specs.Meaning.{rowsOf};
+ghost use Rattle.frames.specs.Meaning.{commandOf, stands, givenBy};
 ghost use Rattle.agent.specs.Contract.{Fresh, Meets};
-ghost use Rattle.agent.specs.Handlers.{queryIn, Named, configured, wrote, unchanged, Obeys, ObeysAny, Replaces};
-ghost use Rattle.agent.specs.Parts.{isEvent, isConfigure, turn, Elects, notified, onRows, Configures, onEntries, Serves};
+ghost use Rattle.agent.specs.Handlers.{queryIn, Named, wrote, unchanged, Obeys, ObeysAny};
+ghost use Rattle.agent.specs.Parts.{answered, isEvent, isConfigure, turn, Elects, given, verdict, rowsAsked, onEntries, Serves};
 use arbitration::Head;
 use arbitration::Notify;
 use arbitration::Outcome;
@@ -68,17 +69,23 @@ fn write_head(reason: u8, count: usize, answer: &mut [u8])
     answer[3] = (count % 256) as u8;
 }
 
-// What CONFIGURE leaves of the record.
-pub struct Configured {
-    pub count: usize,
-    pub reason: u8,
-    pub rows: Rows,
-}
-
 // What WRITE or READ leaves of the record.
 pub struct Wrote {
     pub count: usize,
     pub reason: u8,
+}
+
+// Writes an answer without records. Under 2, or where there is no room for a head, nothing is written.
+pub fn answer_plain(reason: u8, answer: &mut [u8])
+    ensures { λ _. ⌜ now (answer .exit) ≡ answered 4 (plain reason) (now (answer .entry)) ⌝ }
+{
+    if answer.len() < 4 {
+        return;
+    }
+    if reason == 2 {
+        return;
+    }
+    write_head(reason, 0, answer);
 }
 
 // ---- which part of the record a frame is for
@@ -161,7 +168,7 @@ pub fn elect(device: u64, streams: Streams, asked: Frame, room: usize, space: us
 
 // Writes an event's answer; under 2 nothing is written.
 pub fn notify(outcome: Outcome, answer: &mut [u8])
-    ensures { λ _. ⌜ now (answer .exit) ≡ notified (outcomeOf outcome) (now (answer .entry)) ⌝ }
+    ensures { λ _. ⌜ now (answer .exit) ≡ answered 644 (heard (outcomeOf outcome)) (now (answer .entry)) ⌝ }
 {
     if answer.len() < 644 {
         return;
@@ -193,90 +200,89 @@ fn configure_reason(here: bool, role: u8, primary: bool) -> u8
     0
 }
 
-// The rows and the number of entries as they are, under a reason.
-fn unconfigured(agent: Agent, reason: u8) -> Configured
-    ensures { λ r. ⌜ configured agent r ≡ unchanged agent reason ⌝ }
+// The reason of a CONFIGURE: 5, 6, 11 and 10; then 14, which is told from the bytes of the rows.
+fn verify_rows(device: u64, streams: Streams, head: Head, t: usize, rows: &[u8]) -> u8
+    requires { ⌜ (t ≤ 8) × (length (now rows) ≡ 53 * t) ⌝ }
+    ensures { λ r. ⌜ r ≡ verdict device (streamsOf streams) (rules.CONFIGURE (headOf head) (parts t 53 (now (rows .entry)))) ⌝ }
 {
-    let rows = agent.rows;
-    Configured {
-        count: agent.count,
-        reason,
-        rows,
-    }
-}
-
-// 14, or all rows are replaced and the store is empty.
-fn replace(agent: Agent, t: usize, rows: &[u8], answer: &mut [u8]) -> Configured
-    requires { ⌜ (t ≤ 8) × (length (now rows) ≡ 53 * t) × (4 ≤ length (now answer)) ⌝ }
-    ensures { λ r. ⌜ Replaces agent (parts t 53 (now (rows .entry))) r (now (answer .entry)) (now (answer .exit)) ⌝ }
-{
-    let reading = Rows::read(rows, t);
-    if !reading.allowed {
-        write_head(14, 0, answer);
-        return unconfigured(agent, 14);
-    }
-    write_head(0, 0, answer);
-    let read = reading.rows;
-    Configured {
-        count: 0,
-        reason: 0,
-        rows: read,
-    }
-}
-
-// CONFIGURE: 5, 6, 11 and 10; then 14.
-fn configure(agent: Agent, head: Head, t: usize, rows: &[u8], answer: &mut [u8]) -> Configured
-    requires { ⌜ (t ≤ 8) × (length (now rows) ≡ 53 * t) × (4 ≤ length (now answer)) ⌝ }
-    ensures { λ r. ⌜ ObeysAny agent (rules.CONFIGURE (headOf head) (parts t 53 (now (rows .entry)))) (configured agent r) (now (answer .entry)) (now (answer .exit)) ⌝ }
-{
-    let streams = agent.streams;
     let primary = streams.by_primary(head.role, head.id);
-    let reason = configure_reason(head.device == agent.device, head.role, primary);
+    let reason = configure_reason(head.device == device, head.role, primary);
     if reason != 0 {
-        write_head(reason, 0, answer);
-        return unconfigured(agent, reason);
+        return reason;
     }
-    replace(agent, t, rows, answer)
+    if rows::allowed(rows, t) {
+        return 0;
+    }
+    14
 }
 
-// 1: the frame is malformed, or no CONFIGURE.
-fn refuse_rows(agent: Agent, answer: &mut [u8]) -> Configured
-    requires { ⌜ 4 ≤ length (now answer) ⌝ }
-    ensures { λ r. ⌜ ObeysAny agent rules.malformed (configured agent r) (now (answer .entry)) (now (answer .exit)) ⌝ }
-{
-    write_head(1, 0, answer);
-    unconfigured(agent, 1)
-}
-
-// Obeys a CONFIGURE; any other command is refused under 1.
-fn install(agent: Agent, command: Command, frame: &[u8], answer: &mut [u8]) -> Configured
-    requires { ⌜ Fits command (now frame) × (4 ≤ length (now answer)) ⌝ }
-    ensures { λ r. ⌜ ObeysAny agent (onRows (commandOf command (now (frame .entry)))) (configured agent r) (now (answer .entry)) (now (answer .exit)) ⌝ }
+// The reason of a command that is a CONFIGURE; any other is refused under 1.
+fn verify_command(device: u64, streams: Streams, command: Command, frame: &[u8]) -> u8
+    requires { ⌜ stands command (now frame) ≡ true ⌝ }
+    ensures { λ r. ⌜ r ≡ verdict device (streamsOf streams) (commandOf command (now (frame .entry))) ⌝ }
 {
     match command {
-        Command::Open(_) => refuse_rows(agent, answer),
-        Command::Close(_) => refuse_rows(agent, answer),
-        Command::Arbitrate(_, _) => refuse_rows(agent, answer),
-        Command::Configure(head, t) => configure(agent, head, t, &frame[28..], answer),
-        Command::Write(_, _, _) => refuse_rows(agent, answer),
-        Command::Read(_) => refuse_rows(agent, answer),
+        Command::Open(_) => 1,
+        Command::Close(_) => 1,
+        Command::Arbitrate(_, _) => 1,
+        Command::Configure(head, t) => verify_rows(device, streams, head, t, &frame[28..]),
+        Command::Write(_, _, _) => 1,
+        Command::Read(_) => 1,
     }
 }
 
-// A call that is a CONFIGURE: 2 is tested first, and nothing is written; then 1.
-pub fn reconfigure(agent: Agent, frame: &[u8], room: usize, answer: &mut [u8]) -> Configured
-    ensures { λ r. ⌜ Configures agent (now (frame .entry)) room (now (answer .entry)) r (now (answer .exit)) ⌝ }
+// Why a CONFIGURE is refused, 0 where it is accepted: 2 is tested first, then 1. It needs the stream record alone, and reads no row.
+pub fn verify(
+    device: u64,
+    streams: Streams,
+    asked: Frame,
+    frame: &[u8],
+    room: usize,
+    space: usize,
+) -> u8
+    ensures { λ r. ⌜ r ≡ verdict device (streamsOf streams) (given asked (now (frame .entry)) room space) ⌝ }
 {
-    if answer.len() < 57344 {
-        return unconfigured(agent, 2);
+    if space < 57344 {
+        return 2;
     }
     if room < 56320 {
-        return unconfigured(agent, 2);
+        return 2;
     }
-    let Frame::Asks(command) = frames::read_frame(frame) else {
-        return refuse_rows(agent, answer);
+    let Frame::Asks(command) = asked else {
+        return 1;
     };
-    install(agent, command, frame, answer)
+    if !command.stands(frame) {
+        return 1;
+    }
+    verify_command(device, streams, command, frame)
+}
+
+// The rows that a command asks to be in force: those of a CONFIGURE, and none of any other.
+fn rows_in(command: Command, frame: &[u8]) -> Rows
+    requires { ⌜ stands command (now frame) ≡ true ⌝ }
+    ensures { λ r. ⌜ rowsOf r ≡ rowsAsked (commandOf command (now (frame .entry))) ⌝ }
+{
+    match command {
+        Command::Open(_) => Rows::fresh(),
+        Command::Close(_) => Rows::fresh(),
+        Command::Arbitrate(_, _) => Rows::fresh(),
+        Command::Configure(_, t) => Rows::read(&frame[28..], t),
+        Command::Write(_, _, _) => Rows::fresh(),
+        Command::Read(_) => Rows::fresh(),
+    }
+}
+
+// The same of a frame as it was read.
+pub fn rows_asked(asked: Frame, frame: &[u8]) -> Rows
+    ensures { λ r. ⌜ rowsOf r ≡ rowsAsked (givenBy asked (now (frame .entry))) ⌝ }
+{
+    let Frame::Asks(command) = asked else {
+        return Rows::fresh();
+    };
+    if !command.stands(frame) {
+        return Rows::fresh();
+    }
+    rows_in(command, frame)
 }
 
 // ---- WRITE
@@ -412,7 +418,7 @@ fn refuse_entries(agent: Agent, answer: &mut [u8]) -> Wrote
 
 // Obeys a WRITE or a READ; any other command is refused under 1.
 fn obey(agent: Agent, command: Command, frame: &[u8], store: &mut [u8], answer: &mut [u8]) -> Wrote
-    requires { ⌜ (rules.readFrame (now frame) ≡ commandOf command (now frame)) × Fits command (now frame) × (agent .count ≤ 256) × (56320 ≤ length (now store)) × (57344 ≤ length (now answer)) ⌝ }
+    requires { ⌜ (stands command (now frame) ≡ true) × (agent .count ≤ 256) × (56320 ≤ length (now store)) × (57344 ≤ length (now answer)) ⌝ }
     ensures { λ r. ⌜ Obeys agent (onEntries (commandOf command (now (frame .entry)))) (now (store .entry)) (now (answer .entry)) (wrote agent r) (now (store .exit)) (now (answer .exit)) ⌝ }
 {
     match command {
@@ -431,9 +437,16 @@ fn obey(agent: Agent, command: Command, frame: &[u8], store: &mut [u8], answer: 
     }
 }
 
-// A call that is a WRITE or a READ, or no frame at all: 2 is tested first, and nothing is written; then 1.
-pub fn serve(agent: Agent, frame: &[u8], store: &mut [u8], answer: &mut [u8]) -> Wrote
-    ensures { λ r. ⌜ Serves agent (now (frame .entry)) (now (store .entry)) (now (answer .entry)) r (now (store .exit)) (now (answer .exit)) ⌝ }
+// A call that is a WRITE or a READ, or no frame at all: 2 is tested first, and nothing is written; then 1. `asked` is what the frame
+// was read as: it is read before the record is copied, so that a refusal copies no more of it than it looks at.
+pub fn serve(
+    agent: Agent,
+    asked: Frame,
+    frame: &[u8],
+    store: &mut [u8],
+    answer: &mut [u8],
+) -> Wrote
+    ensures { λ r. ⌜ Serves agent asked (now (frame .entry)) (now (store .entry)) (now (answer .entry)) r (now (store .exit)) (now (answer .exit)) ⌝ }
 {
     let count = agent.count;
     if answer.len() < 57344 {
@@ -446,9 +459,12 @@ pub fn serve(agent: Agent, frame: &[u8], store: &mut [u8], answer: &mut [u8]) ->
         // no list of calls leaves such a record; the store is too short for it
         return Wrote { count, reason: 2 };
     }
-    let Frame::Asks(command) = frames::read_frame(frame) else {
+    let Frame::Asks(command) = asked else {
         return refuse_entries(agent, answer);
     };
+    if !command.stands(frame) {
+        return refuse_entries(agent, answer);
+    }
     obey(agent, command, frame, store, answer)
 }
 
@@ -458,8 +474,8 @@ pub fn serve(agent: Agent, frame: &[u8], store: &mut [u8], answer: &mut [u8]) ->
 pub fn call(mut agent: Agent, frame: &[u8], store: &mut [u8], answer: &mut [u8]) -> Called
     ensures { λ r. ⌜ Meets agent (now (frame .entry)) (now (store .entry)) (now (answer .entry)) r (now (store .exit)) (now (answer .exit)) ⌝ }
 {
+    let asked = frames::read_frame(frame);
     if is_event(frame) {
-        let asked = frames::read_frame(frame);
         let streams = agent.streams;
         let outcome = elect(agent.device, streams, asked, store.len(), answer.len());
         notify(outcome, answer);
@@ -471,16 +487,25 @@ pub fn call(mut agent: Agent, frame: &[u8], store: &mut [u8], answer: &mut [u8])
         };
     }
     if is_configure(frame) {
-        let installed = reconfigure(agent, frame, store.len(), answer);
-        let rows = installed.rows;
+        let streams = agent.streams;
+        let reason = verify(
+            agent.device,
+            streams,
+            asked,
+            frame,
+            store.len(),
+            answer.len(),
+        );
+        answer_plain(reason, answer);
+        if reason != 0 {
+            return Called { agent, reason };
+        }
+        let rows = rows_asked(asked, frame);
         agent.rows = rows;
-        agent.count = installed.count;
-        return Called {
-            agent,
-            reason: installed.reason,
-        };
+        agent.count = 0;
+        return Called { agent, reason: 0 };
     }
-    let served = serve(agent, frame, store, answer);
+    let served = serve(agent, asked, frame, store, answer);
     agent.count = served.count;
     Called {
         agent,

@@ -1,4 +1,4 @@
--- What the walk of an ARBITRATE has seen, with what is left of the streams, is what the whole record shows. Assumes nothing.
+-- What a walk has seen, with what is left of the streams, is what the whole record shows. Assumes nothing.
 use Prim.Native.Nat.{ℕ, _+_, _%_, _<_, _≤_}
 use native.Mathlib.Nat.{mod-eq-of-lt}
 use native.Mathlib.Omega.{arith}
@@ -29,6 +29,10 @@ mark-read self n r = go (ltb r 8) (ltb-true r 8) (ltb-false r 8)
     go false p q = let h : 8 ≤ r = q refl in sym (past-read idOf (self .marks) r 0 (omega arith))
 
 -- ---- one turn, by the test of a stream
+
+pub at-most-one : (b : Bool) → (if b then 1 else 0) ≤ 1
+at-most-one true = omega arith
+at-most-one false = omega arith
 
 count-next : (b : Bool) (k : ℕ) (l : List ℕ) → length (if b then k ∷ l else l) ≡ (if b then 1 else 0) + length l
 count-next true k l = omega arith
@@ -63,7 +67,29 @@ head-next found b k l h = go (ltb found 32) refl b
     go false e true = rw (lt-ltb k 32 h)
     go false e false = refl
 
--- ---- the walk
+-- before stream k: the first that passes the test
+pub record First (p : rules.Stream → Bool) (e : rules.Streams) (found k : ℕ) : Type 0 where
+  pub whole : head (numbers p 0 (e .streams)) ≡ foundOr found (left p e k)
+
+pub first-none : (p : rules.Stream → Bool) (e : rules.Streams) → First p e 32 0
+first-none p e = record { whole = refl }
+
+module _ (self : Streams) (size : length (self .streams) ≡ 32) {p : rules.Stream → Bool} {found k : ℕ}
+    (w : First p (streamsOf self) found k) where
+  pub first-next : k < 32 → {x : rules.Stream} {b : Bool} → x ≡ streamOf (getD (self .streams) k noStream) → b ≡ p x
+      → {found′ : ℕ} → found′ ≡ firstOf found b k → First p (streamsOf self) found′ (k + 1)
+  first-next h {x} {b} e f g = record {
+    whole =
+        w .whole
+        ∙ ap (foundOr found) (left-next self size p k h e f b refl)
+        ∙ head-next found b k (left p (streamsOf self) (k + 1)) h
+        ∙ ap (λ (z : ℕ). foundOr z (left p (streamsOf self) (k + 1))) (sym g);
+  }
+
+  pub first-all : 32 ≤ k → numbered found ≡ head (numbers p 0 (streamsOf self .streams))
+  first-all h = sym (w .whole ∙ ap (foundOr found) (left-none self size p k h))
+
+-- ---- the walk of an ARBITRATE
 
 abbrev pub other : ℕ → ℕ → Bool
 other s q = not (eqb q s)
@@ -72,10 +98,10 @@ other s q = not (eqb q s)
 pub record Walked (e : rules.Streams) (s r i m n : ℕ) (held : Bool) (holder k : ℕ) : Type 0 where
   pub count : length (members e r) ≡ n + length (left (inRole r) e k)
   pub clash : some-of (other s) (numbers (holds r i) 0 (e .streams)) ≡ held || some-of (other s) (left (holds r i) e k)
-  pub first : head (numbers (holds r m) 0 (e .streams)) ≡ foundOr holder (left (holds r m) e k)
+  pub first : First (holds r m) e holder k
 
 pub walked-none : (e : rules.Streams) (s r i m : ℕ) → Walked e s r i m 0 false 32 0
-walked-none e s r i m = record { count = omega arith; clash = refl; first = refl }
+walked-none e s r i m = record { count = omega arith; clash = refl; first = first-none (holds r m) e }
 
 module _ (self : Streams) {s r i m n : ℕ} {held : Bool} {holder k : ℕ} (size : length (self .streams) ≡ 32)
     (w : Walked (streamsOf self) s r i m n held holder k) where
@@ -97,11 +123,7 @@ module _ (self : Streams) {s r i m n : ℕ} {held : Bool} {holder k : ℕ} (size
         ∙ some-next (other s) b k (left (holds r i) (streamsOf self) (k + 1)))
         ∙ sym (or-assoc held (other s k && b) (some-of (other s) (left (holds r i) (streamsOf self) (k + 1))))
         ∙ ap (λ (z : Bool). z || some-of (other s) (left (holds r i) (streamsOf self) (k + 1))) (sym eh);
-    first =
-        w .first
-        ∙ ap (foundOr holder) (left-next self size (holds r m) k h e t c refl)
-        ∙ head-next holder c k (left (holds r m) (streamsOf self) (k + 1)) h
-        ∙ ap (λ (z : ℕ). foundOr z (left (holds r m) (streamsOf self) (k + 1))) (sym ef);
+    first = first-next self size (w .first) h e t ef;
   }
 
   module _ (h : 32 ≤ k) where
@@ -114,4 +136,4 @@ module _ (self : Streams) {s r i m n : ℕ} {held : Bool} {holder k : ℕ} (size
     walked-clash = sym (w .clash ∙ ap (λ (l : List ℕ). held || some-of (other s) l) (left-none self size (holds r i) k h) ∙ or-none held)
 
     pub walked-first : numbered holder ≡ head (numbers (holds r m) 0 (streamsOf self .streams))
-    walked-first = sym (w .first ∙ ap (foundOr holder) (left-none self size (holds r m) k h))
+    walked-first = first-all self size (w .first) h

@@ -1,13 +1,15 @@
 // Who may write: the streams, the roles they are bound to, and the marks of the roles (document 01, "Streams and primaries").
 ghost use mathlib.Core.Path.{_≡_};
 ghost use mathlib.Core.Bool.{not, _&&_, _||_};
-ghost use Prim.Native.Nat.{_≤_};
-ghost use lib.ListN.{length};
+ghost use mathlib.Core.List.{map};
+ghost use mathlib.Core.Option.{none};
+ghost use Prim.Native.Nat.{_*_, _≤_};
+ghost use lib.ListN.{length, take};
 ghost use lib.Dec.{ltb, eqb};
 ghost use Rattle.rules.specs.Bytes.{if_then_else_, number, bytesOf, concat};
 ghost use Rattle.rules.specs.Streams as rules;
 ghost use Rattle.buffers.specs.Splice.{splice};
-ghost use Rattle.arbitration.specs.Meaning.{idOf, headOf, bindingOf, streamOf, streamsOf, primaryOf, recordsOf, outcomeOf, Shows, ReasonOf, SamePairOf, HeardOf};
+ghost use Rattle.arbitration.specs.Meaning.{idOf, headOf, bindingOf, streamOf, streamsOf, primaryOf, numbered, recordsOf, outcomeOf, Shows, ReasonOf, SamePairOf, HeardOf};
 use numbers::Number;
 
 // An election id: a 128-bit number, of which 0 is the unset id.
@@ -178,6 +180,13 @@ struct Standing {
     mark: ElectionId,
 }
 
+// What one walk over the record shows of a role: how many streams are bound to it, and what they are told.
+struct Roll {
+    count: usize,
+    primary: Primary,
+    mark: ElectionId,
+}
+
 // Who is to be notified of an event: nobody, one stream of a role, or all streams of a role.
 pub enum Notify {
     None,
@@ -237,6 +246,35 @@ pub fn write_notification(primary: Primary, mark: ElectionId, role: u8, stream: 
     out[2] = status(primary, stream);
     out[3] = flag(mark);
     mark.write(&mut out[4..]);
+}
+
+// The primary, where the mark's first holder is this one (32: none).
+fn primary_at(mark: ElectionId, holder: usize) -> Primary
+    ensures { λ r. ⌜ primaryOf r ≡ (if eqb (idOf mark) 0 then none else numbered holder) ⌝ }
+{
+    if !mark.is_set() {
+        return Primary::Nobody;
+    }
+    if 32 <= holder {
+        return Primary::Nobody;
+    }
+    Primary::Is(holder as u8)
+}
+
+// Writes the records of the streams that are listed from the first byte of `members` on.
+fn write_members(seen: Roll, role: u8, members: &[u8], out: &mut [u8])
+    requires { ⌜ (seen .count ≤ length (now members)) × (20 * seen .count ≤ length (now out)) ⌝ }
+    ensures { λ _. ⌜ now (out .exit) ≡ splice (now (out .entry)) 0 (concat (map (rules.noticeOf (primaryOf (seen .primary)) (idOf (seen .mark)) role) (take (seen .count) (now (members .entry))))) ⌝ }
+{
+    let p = seen.primary;
+    let mark = seen.mark;
+    let n = seen.count;
+    let mut i: usize = 0;
+    while i < n {
+        let at = 20 * i;
+        write_notification(p, mark, role, members[i], &mut out[at..]);
+        i += 1;
+    }
 }
 
 // The mark of a role, where read is the mark at the role modulo 8: a role past the last has none.
@@ -548,28 +586,47 @@ impl Streams {
         false
     }
 
+    // Lists the streams of the role by rising number, from the first byte of `members` on; their number, and what they are told. One
+    // walk: a second one, over the record by value, would copy it once more.
+    fn roll(self, role: u8, members: &mut [u8]) -> Roll
+        requires { ⌜ length (now members) ≡ 32 ⌝ }
+        ensures count { λ r. ⌜ r .count ≡ length (rules.members (streamsOf self) role) ⌝ }
+        ensures members { λ r. ⌜ take (r .count) (now (members .exit)) ≡ rules.members (streamsOf self) role ⌝ }
+        ensures primary { λ r. ⌜ primaryOf (r .primary) ≡ rules.primary (streamsOf self) role ⌝ }
+        ensures mark { λ r. ⌜ idOf (r .mark) ≡ rules.markOf (streamsOf self) role ⌝ }
+    {
+        let place = (role % 8) as usize;
+        let read = self.marks[place];
+        let mark = mark_of(role, read);
+        let mut count: usize = 0;
+        let mut holder: usize = 32;
+        let mut k: usize = 0;
+        while k < 32 {
+            let s = self.streams[k];
+            let b = s.binding();
+            // counted only where the stream is of the role: otherwise the next one is written over it
+            members[count] = k as u8;
+            count += one(b.in_role(role));
+            holder = first(holder, b.holds(role, mark), k);
+            k += 1;
+        }
+        Roll {
+            count,
+            primary: primary_at(mark, holder),
+            mark,
+        }
+    }
+
     // Writes the records of all streams of the role, by rising stream; the number of records.
     fn write_role(self, role: u8, out: &mut [u8]) -> usize
         requires { ⌜ 640 ≤ length (now out) ⌝ }
         ensures count { λ r. ⌜ r ≡ length (rules.notifyAll (streamsOf self) role) ⌝ }
         ensures records { λ _. ⌜ now (out .exit) ≡ splice (now (out .entry)) 0 (concat (rules.notifyAll (streamsOf self) role)) ⌝ }
     {
-        let now = self.standing(role);
-        let p = now.primary;
-        let mark = now.mark;
-        let mut n: usize = 0;
-        let mut k: usize = 0;
-        while k < 32 {
-            let s = self.streams[k];
-            let b = s.binding();
-            if b.in_role(role) {
-                let at = 20 * n;
-                write_notification(p, mark, role, k as u8, &mut out[at..]);
-                n += 1;
-            }
-            k += 1;
-        }
-        n
+        let mut members = [0; 32];
+        let seen = self.roll(role, &mut members);
+        write_members(seen, role, &members, out);
+        seen.count
     }
 
     // Writes the records of who is to be notified; the number of records.

@@ -1,21 +1,27 @@
 -- A batch before its update i: what the updates left will do to the store as it is now, after what was done, is what all of them
 -- do to the store at the start. Assumes nothing.
-use Prim.Native.Nat.{ℕ, _+_, _*_, _≤_}
+use Prim.Native.Nat.{ℕ, _+_, _*_, _%_, _≤_}
+use native.Mathlib.Omega.{arith}
 use mathlib.Core.Path.{_≡_, refl, sym, ap, _∙_}
 use mathlib.Core.Bool.{Bool, true, false, _&&_, not}
 use mathlib.Core.List.{List, [], _∷_, map}
-use lib.Dec.{eqb}
-use lib.ListN.{length, drop}
-use borrow.Author.Tests.{ne-eqb}
-use Rattle.rules.specs.Bytes.{if_then_else_, every, concat}
-use Rattle.rules.specs.Frame.{Update}
-use Rattle.rules.specs.Row.{Row}
+use lib.Dec.{eqb, ltb}
+use lib.ListN.{length, drop, getD}
+use borrow.Author.Tests.{ne-eqb, ltb-true}
+use Rattle.rules.specs.Bytes.{if_then_else_, every, concat, part, number, int}
+use Rattle.rules.specs.Frame.{Update, updateOf}
+use Rattle.rules.specs.Row.{Row, known, rowFor}
+use Rattle.rules.specs.Key.{tableOf}
 use Rattle.rules.specs.Update.{Tables, Batch, judge, apply, batch}
 use Rattle.rules.specs.Call.{pairOf}
+use Rattle.rules.proofs.Lists.{part-part}
+use Rattle.rows.specs.declared.Rows.{Rows}
+use Rattle.rows.specs.Meaning.{rowOf, rowsOf, rowAt}
+use Rattle.rows.proofs.Counted.{blank, row-at}
 use Rattle.buffers.specs.Splice.{splice}
 use Rattle.buffers.proofs.Written.{Written as Pairs, written-none, written-next, written-all}
 use Rattle.entries.specs.Store.{tablesIn}
-use Rattle.entry_store.specs.Update.{Tidy, Applied, BatchApplied}
+use Rattle.entry_store.specs.Update.{Tidy, FoundIn, Applied, BatchApplied}
 use Rattle.entry_store.specs.declared.Updated.{Updated}
 use Rattle.entry_store.proofs.Updates.{applied-tidy}
 
@@ -39,6 +45,22 @@ still reason failed rest = go (eqb 0 reason) failed
     go true f = refl
     go false true = refl
     go false false = refl
+
+-- ---- the row of an update's table
+
+-- what stands at the place that was found for the table of update i
+pub row-found : (c : Rows) (us : List ℕ) (i at : ℕ) {table : ℕ} → table ≡ int (221 * i + 1) 4 us
+    → ltb at 8 ≡ known table (rowsOf c) → rowAt c at ≡ rowFor table (rowsOf c)
+    → FoundIn (ltb at 8) (rowOf (getD (c .rows) (at % 8) blank)) (rowsOf c) (updateOf (part (221 * i) 221 us))
+row-found c us i at {table} t k r = (
+  k ∙ ap (λ (n : ℕ). known n (rowsOf c)) its,
+  λ h.
+      let here : at % 8 ≡ at = omega (arith, ltb-true at 8 h) in
+      ap (λ (n : ℕ). rowOf (getD (c .rows) n blank)) here ∙ sym (row-at c at) ∙ r ∙ ap (λ (n : ℕ). rowFor n (rowsOf c)) its,
+)
+  where
+    its : table ≡ tableOf (updateOf (part (221 * i) 221 us) .entry)
+    its = t ∙ sym (ap number (part-part (221 * i) 221 1 4 us (omega arith)))
 
 -- ---- the store and the answer
 

@@ -18,7 +18,7 @@ use Rattle.rules.specs.Update.{Tables, judge}
 use Rattle.rules.proofs.Lists.{parts-lent}
 use Rattle.values.proofs.Digits.{rest-all}
 use Rattle.entry_store.specs.declared.Verdict.{Verdict}
-use Rattle.entry_store.specs.Update.{entryReason, placeReason, reasonOf, Meant}
+use Rattle.entry_store.specs.Update.{entryReason, placeReason, reasonOf, Meant, FoundIn}
 
 -- ---- what is lent
 
@@ -108,16 +108,26 @@ module _ (rows : List Row) (role : ℕ) (t : Tables) (u : List ℕ) where
     typed : between 1 3 (byte 0 u) ≡ true
     typed = rw (le-leb 1 (byte 0 u) (omega arith), le-leb (byte 0 u) 3 most)
 
-    pub table-unknown : known (int 1 4 u) rows ≡ false → 15 ≡ reason
-    table-unknown k = sym (judge-asked ∙ (rw (typed, k)))
+    -- and this was found of the table
+    module _ {isKnown : Bool} {row : Row} (found : FoundIn isKnown row rows (updateOf u)) where
+      pub table-unknown : isKnown ≡ false → 15 ≡ reason
+      table-unknown k =
+          let none : known (int 1 4 u) rows ≡ false = sym (found .0) ∙ k in
+          sym (judge-asked ∙ (rw (typed, none)))
 
-    -- and the table has this row
-    module _ (k : known (int 1 4 u) rows ≡ true) {row : Row} (found : row ≡ rowFor (int 1 4 u) rows) where
-      pub not-owned : mayWrite role row ≡ false → 16 ≡ reason
-      not-owned w = sym (judge-asked ∙ (rw (typed, k, ← found, w)))
+      -- the table has this row
+      module _ (k : isKnown ≡ true) where
+        has : known (int 1 4 u) rows ≡ true
+        has = sym (found .0) ∙ k
 
-      pub owned : mayWrite role row ≡ true → Reached row
-      owned w = judge-asked ∙ (rw (typed, k, ← found, w))
+        its : row ≡ rowFor (int 1 4 u) rows
+        its = found .1 k
+
+        pub not-owned : mayWrite role row ≡ false → 16 ≡ reason
+        not-owned w = sym (judge-asked ∙ (rw (typed, has, ← its, w)))
+
+        pub owned : mayWrite role row ≡ true → Reached row
+        owned w = judge-asked ∙ (rw (typed, has, ← its, w))
 
   -- of the entry, as it is lent
   module _ (row : Row) {e : List ℕ} (left : Reached row) (whole : e ≡ drop 1 u) where
@@ -128,9 +138,13 @@ module _ (rows : List Row) (role : ℕ) (t : Tables) (u : List ℕ) where
 
     -- what is said of the place is the answer
     pub place-judged : (kind : ℕ) (v : Verdict) → 0 ≡ entryReason row e → kind ≡ byte 0 u
-        → reasonOf v ≡ placeReason row kind e t → Meant v kind e t
-        → (reasonOf v ≡ reason) × Meant v (byte 0 u) (drop 1 u) t
-    place-judged kind v z k q m =
+        → reasonOf v ≡ placeReason row kind e t → reasonOf v ≡ reason
+    place-judged kind v z k q =
         let a : entryReason row (drop 1 u) ≡ 0 = sym (z ∙ ap (entryReason row) whole) in
         let p : reason ≡ placeReason row (byte 0 u) (drop 1 u) t = left ∙ (rw a) in
-        (rw (k, whole) at q ∙ sym p, rw (k, whole) at m)
+        rw (k, whole) at q ∙ sym p
+
+-- what is meant of the entry as it is lent is meant of the update's entry
+pub place-meant : (t : Tables) (u : List ℕ) {e : List ℕ} {kind : ℕ} (v : Verdict) → e ≡ drop 1 u → kind ≡ byte 0 u
+    → Meant v kind e t → Meant v (byte 0 u) (drop 1 u) t
+place-meant t u v whole k m = rw (k, whole) at m

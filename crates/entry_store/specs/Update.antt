@@ -1,6 +1,6 @@
 -- What the functions over a store are held to, in the rules' terms. Assumes nothing.
 use mathlib.Core.Path.{_≡_}
-use mathlib.Core.Bool.{true, false, _&&_, not}
+use mathlib.Core.Bool.{Bool, true, false, _&&_, not}
 use mathlib.Core.List.{List, [], _∷_, _++_, map}
 use mathlib.Core.Option.{some}
 use Prim.Native.Nat.{ℕ, _+_, _-_, _≤_, _<_}
@@ -9,8 +9,8 @@ use lib.ListN.{length, take, drop, getD, set}
 use Rattle.rules.specs.Bytes.{every, parts}
 use Rattle.rules.specs.Reason.{first}
 use Rattle.rules.specs.Frame.{Update, updateOf}
-use Rattle.rules.specs.Row.{Row}
-use Rattle.rules.specs.Key.{keyFormed, keyFits, keyRules, shortKey}
+use Rattle.rules.specs.Row.{Row, known, rowFor}
+use Rattle.rules.specs.Key.{tableOf, keyFormed, keyFits, keyRules, shortKey}
 use Rattle.rules.specs.Entry.{actionFormed, actionFits, shortEntry}
 use Rattle.rules.specs.Update.{Tables, isInsert, isModify, stored, held, judge, apply, batch}
 use Rattle.rules.specs.Sound.{Distinct}
@@ -70,6 +70,10 @@ Performed Insert count before after e n =
 Performed (Modify i) count before after e n =
     i < count → (n ≡ count) × Left before after n (set (entriesIn count before) i (changed (getD (entriesIn count before) i []) e))
 Performed (Delete i) count before after e n = i < count → (n ≡ count - 1) × Left before after n (without i (entriesIn count before))
+
+-- what was found of an update's table in the rows: whether it is known and, where it is, its row
+abbrev pub FoundIn : Bool → Row → List Row → Update → Type 0
+FoundIn isKnown row rows u = (isKnown ≡ known (tableOf (u .entry)) rows) × (isKnown ≡ true → row ≡ rowFor (tableOf (u .entry)) rows)
 
 -- one update, judged and applied
 pub record Applied (rows : List Row) (role count : ℕ) (before after : List ℕ) (u : Update) (r : Updated) : Type 0 where

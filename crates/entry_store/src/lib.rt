@@ -2,13 +2,14 @@
 // (document 01, "Configuration and entries" and "The maker of an update").
 ghost use mathlib.Core.Path.{_≡_};
 ghost use mathlib.Core.Bool.{false, _&&_, not};
-ghost use mathlib.Core.List.{[], _∷_, _++_, map};
+ghost use mathlib.Core.List.{List, [], _∷_, _++_, map};
 ghost use Prim.Native.Nat.{_+_, _*_, _≤_, _<_};
 ghost use lib.ListN.{length, drop, getD, set};
 ghost use Rattle.rules.specs.Bytes.{if_then_else_, byte, keep, concat};
 ghost use Rattle.rules.specs.Reason.{first};
 ghost use Rattle.rules.specs.Frame.{updateOf};
 ghost use lib.Dec.{eqb, leb};
+ghost use Rattle.rules.specs.Row as rules;
 ghost use Rattle.rules.specs.Row.{mayWrite};
 ghost use Rattle.rules.specs.Key.{keyFormed, keyFits, shortKey, hasKey};
 ghost use Rattle.rules.specs.Entry.{actionFormed, actionFits, shortEntry};
@@ -18,7 +19,7 @@ ghost use Rattle.buffers.specs.Splice.{splice};
 ghost use Rattle.rows.specs.Meaning.{rowOf, rowsOf};
 ghost use Rattle.entries.specs.Store.{entriesIn, tablesIn, place, placeOf, Left};
 ghost use Rattle.entry_store.specs.Read.{keyIn, keyReason, queryReason, readIn, Reads};
-ghost use Rattle.entry_store.specs.Update.{entryReason, placeReason, reasonOf, Meant, changed, Performed, Tidy, Applied, updatesIn, BatchApplied};
+ghost use Rattle.entry_store.specs.Update.{entryReason, placeReason, reasonOf, Meant, changed, Performed, Tidy, FoundIn, Applied, updatesIn, BatchApplied};
 use entries::Found;
 use numbers::integer;
 use rows::Row;
@@ -151,10 +152,10 @@ fn judge_change(row: Row, kind: u8, store: &[u8], count: usize, entry: &[u8]) ->
     }
 }
 
-// Judges an update of 221 bytes by the rows, the role and the entries stored.
-fn judge(rows: Rows, role: u8, store: &[u8], count: usize, update: &[u8]) -> Verdict
+// Judges an update of 221 bytes by its table's row, if the table is known, the role and the entries stored.
+fn judge(known: bool, row: Row, role: u8, store: &[u8], count: usize, update: &[u8]) -> Verdict
     requires { ⌜ (220 * count ≤ length (now store)) × (length (now update) ≡ 221) ⌝ }
-    ensures reason { λ r. ⌜ reasonOf r ≡ judgement (rowsOf rows) role (tablesIn count (now (store .entry))) (updateOf (now (update .entry))) ⌝ }
+    ensures reason { λ r. ⌜ ((rows : List rules.Row) → FoundIn known (rowOf row) rows (updateOf (now (update .entry))) → reasonOf r ≡ judgement rows role (tablesIn count (now (store .entry))) (updateOf (now (update .entry)))) ⌝ }
     ensures meant { λ r. ⌜ Meant r (byte 0 (now (update .entry))) (drop 1 (now (update .entry))) (tablesIn count (now (store .entry))) ⌝ }
 {
     let kind = update[0];
@@ -164,11 +165,9 @@ fn judge(rows: Rows, role: u8, store: &[u8], count: usize, update: &[u8]) -> Ver
     if 3 < kind {
         return Verdict::Refused(17);
     }
-    let found = rows.find(integer(update, 1, 4));
-    if !found.known {
+    if !known {
         return Verdict::Refused(15);
     }
-    let row = found.row;
     if !row.may_write(role) {
         return Verdict::Refused(16);
     }
@@ -233,14 +232,14 @@ fn perform(verdict: Verdict, store: &mut [u8], count: usize, entry: &[u8]) -> us
 }
 
 // One update of 221 bytes, judged and applied. A count over 256, which no list of calls leaves, is refused with 24.
-fn update(rows: Rows, role: u8, store: &mut [u8], count: usize, update: &[u8]) -> Updated
+fn update(known: bool, row: Row, role: u8, store: &mut [u8], count: usize, update: &[u8]) -> Updated
     requires { ⌜ (56320 ≤ length (now store)) × (length (now update) ≡ 221) ⌝ }
-    ensures { λ r. ⌜ (Tidy count (now (store .entry)) → Applied (rowsOf rows) role count (now (store .entry)) (now (store .exit)) (updateOf (now (update .entry))) r) ⌝ }
+    ensures { λ r. ⌜ ((rows : List rules.Row) → FoundIn known (rowOf row) rows (updateOf (now (update .entry))) → Tidy count (now (store .entry)) → Applied rows role count (now (store .entry)) (now (store .exit)) (updateOf (now (update .entry))) r) ⌝ }
 {
     if 256 < count {
         return Updated { reason: 24, count };
     }
-    let verdict = judge(rows, role, store, count, update);
+    let verdict = judge(known, row, role, store, count, update);
     let reason = verdict.reason();
     let count = perform(verdict, store, count, &update[1..]);
     Updated { reason, count }
@@ -291,7 +290,11 @@ pub fn batch(
     while i < n {
         let from = 221 * i;
         let end = from + 221;
-        let done = update(rows, role, store, held, &updates[from..end]);
+        // the row alone is handed on: an update that was given the rows would copy them
+        let place = rows.position(integer(updates, from + 1, 4));
+        let within = place % 8;
+        let row = rows.rows[within];
+        let done = update(place < 8, row, role, store, held, &updates[from..end]);
         held = done.count;
         if done.reason != 0 {
             failed = true;

@@ -1,2 +1,3 @@
 -- Laws of the frame reader.
 pub mod Readings
+pub mod Standing

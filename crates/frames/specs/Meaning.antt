@@ -1,9 +1,10 @@
 -- What a frame reads as, in the rules' terms. Rows, updates and keys stay in the frame. Assumes nothing.
-use mathlib.Core.Path.{_≡_}
+use mathlib.Core.Bool.{Bool, true, _&&_, not}
 use mathlib.Core.List.{List, _++_, map}
-use Prim.Native.Nat.{ℕ, _+_, _*_, _≤_}
+use Prim.Native.Nat.{ℕ, _+_, _*_}
+use lib.Dec.{eqb, leb}
 use lib.ListN.{length, drop}
-use Rattle.rules.specs.Bytes.{part, parts}
+use Rattle.rules.specs.Bytes.{if_then_else_, part, parts, int}
 use Rattle.rules.specs.Frame as rules
 use Rattle.arbitration.specs.Meaning.{headOf}
 use Rattle.frames.specs.declared.Query.{Query}
@@ -30,15 +31,20 @@ abbrev pub frameOf : Frame → List ℕ → rules.Command
 frameOf (Asks c) f = commandOf c f
 frameOf Malformed f = rules.malformed
 
--- the stream and the counts are in range, and the frame is as long as they say
-abbrev pub Fits : Command → List ℕ → Type 0
-Fits (Open s) f = s ≤ 31
-Fits (Close s) f = s ≤ 31
-Fits (Arbitrate s h) f = s ≤ 31
-Fits (Configure h t) f = (t ≤ 8) × (length f ≡ 28 + 53 * t)
-Fits (Write h atomicity n) f = (n ≤ 64) × (length f ≡ 29 + 221 * n)
-Fits (Read q) f = length f ≡ 159
+-- The rows, updates or key that a command leaves in the frame stand in f: the count is in range, f is as long as it says, and a
+-- READ's table is the one there, and with only 1 a named one.
+abbrev pub stands : Command → List ℕ → Bool
+stands (Open s) f = true
+stands (Close s) f = true
+stands (Arbitrate s h) f = true
+stands (Configure h t) f = leb t 8 && eqb (length f) (28 + 53 * t)
+stands (Write h atomicity n) f = leb n 64 && eqb (length f) (29 + 221 * n)
+stands (Read q) f = eqb (length f) 159 && eqb (int 10 4 f) (q .table) && not (eqb (q .only) 1 && eqb (q .table) 0)
 
-abbrev pub FrameFits : Frame → List ℕ → Type 0
-FrameFits (Asks c) f = Fits c f
-FrameFits Malformed f = Unit {0}
+abbrev pub frameStands : Frame → List ℕ → Bool
+frameStands (Asks c) f = stands c f
+frameStands Malformed f = true
+
+-- what is asked for, where x is handed on beside the frame f: the command, if what it leaves in the frame stands there
+abbrev pub givenBy : Frame → List ℕ → rules.Command
+givenBy x f = if frameStands x f then frameOf x f else rules.malformed

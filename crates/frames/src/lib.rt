@@ -1,11 +1,12 @@
 // The frame reader: a frame is a command with its operands, or malformed (document 01, "Frames" and reason 1).
 ghost use mathlib.Core.Path.{_≡_};
+ghost use mathlib.Core.Bool.{true};
 ghost use Prim.Native.Nat.{_+_, _≤_};
 ghost use lib.ListN.{length};
 ghost use Rattle.rules.specs.Bytes.{byte};
 ghost use Rattle.rules.specs.Frame as rules;
 ghost use Rattle.arbitration.specs.Meaning.{headOf};
-ghost use Rattle.frames.specs.Meaning.{frameOf, FrameFits};
+ghost use Rattle.frames.specs.Meaning.{frameOf, frameStands, stands};
 use arbitration::ElectionId;
 use arbitration::Head;
 use numbers::integer;
@@ -32,6 +33,37 @@ pub enum Command {
 pub enum Frame {
     Asks(Command),
     Malformed,
+}
+
+impl Query {
+    // Whether its key stands in the frame: there is the table that it names, and with only 1 it names one.
+    fn stands(self, frame: &[u8]) -> bool
+        ensures { λ r. ⌜ r ≡ stands (Command.Read self) (now (frame .entry)) ⌝ }
+    {
+        if frame.len() != 159 {
+            return false;
+        }
+        if integer(frame, 10, 4) != self.table {
+            return false;
+        }
+        self.only != 1 || self.table != 0
+    }
+}
+
+impl Command {
+    // Whether what the command leaves in the frame stands in this one, so that it can be handed on beside any frame.
+    pub fn stands(self, frame: &[u8]) -> bool
+        ensures { λ r. ⌜ r ≡ stands self (now (frame .entry)) ⌝ }
+    {
+        match self {
+            Command::Open(_) => true,
+            Command::Close(_) => true,
+            Command::Arbitrate(_, _) => true,
+            Command::Configure(_, t) => t <= 8 && frame.len() == 28 + 53 * t,
+            Command::Write(_, _, n) => n <= 64 && frame.len() == 29 + 221 * n,
+            Command::Read(query) => query.stands(frame),
+        }
+    }
 }
 
 // The head at a place of a frame.
@@ -66,7 +98,7 @@ fn flag_fits(frame: &[u8], at: usize) -> bool
 // OPEN: length 2, stream 0 to 31.
 fn read_open(frame: &[u8]) -> Frame
     ensures means { λ r. ⌜ frameOf r (now (frame .entry)) ≡ rules.formed (rules.streamFormed (now (frame .entry))) (rules.OPEN (byte 1 (now (frame .entry)))) ⌝ }
-    ensures fits { λ r. ⌜ FrameFits r (now (frame .entry)) ⌝ }
+    ensures stands { λ r. ⌜ frameStands r (now (frame .entry)) ≡ true ⌝ }
 {
     if frame.len() != 2 {
         return Frame::Malformed;
@@ -81,7 +113,7 @@ fn read_open(frame: &[u8]) -> Frame
 // CLOSE: likewise.
 fn read_close(frame: &[u8]) -> Frame
     ensures means { λ r. ⌜ frameOf r (now (frame .entry)) ≡ rules.formed (rules.streamFormed (now (frame .entry))) (rules.CLOSE (byte 1 (now (frame .entry)))) ⌝ }
-    ensures fits { λ r. ⌜ FrameFits r (now (frame .entry)) ⌝ }
+    ensures stands { λ r. ⌜ frameStands r (now (frame .entry)) ≡ true ⌝ }
 {
     if frame.len() != 2 {
         return Frame::Malformed;
@@ -96,7 +128,7 @@ fn read_close(frame: &[u8]) -> Frame
 // ARBITRATE: length 28, stream 0 to 31.
 fn read_arbitrate(frame: &[u8]) -> Frame
     ensures means { λ r. ⌜ frameOf r (now (frame .entry)) ≡ rules.formed (rules.arbitrateFormed (now (frame .entry))) (rules.ARBITRATE (byte 1 (now (frame .entry))) (rules.headAt 2 (now (frame .entry)))) ⌝ }
-    ensures fits { λ r. ⌜ FrameFits r (now (frame .entry)) ⌝ }
+    ensures stands { λ r. ⌜ frameStands r (now (frame .entry)) ≡ true ⌝ }
 {
     if frame.len() != 28 {
         return Frame::Malformed;
@@ -114,7 +146,7 @@ fn read_arbitrate(frame: &[u8]) -> Frame
 // CONFIGURE: t 1 to 8, length 28 + 53t.
 fn read_configure(frame: &[u8]) -> Frame
     ensures means { λ r. ⌜ frameOf r (now (frame .entry)) ≡ rules.formed (rules.configureFormed (byte 27 (now (frame .entry))) (now (frame .entry))) (rules.configureOf (byte 27 (now (frame .entry))) (now (frame .entry))) ⌝ }
-    ensures fits { λ r. ⌜ FrameFits r (now (frame .entry)) ⌝ }
+    ensures stands { λ r. ⌜ frameStands r (now (frame .entry)) ≡ true ⌝ }
 {
     if frame.len() < 28 {
         return Frame::Malformed;
@@ -138,7 +170,7 @@ fn read_configure(frame: &[u8]) -> Frame
 // WRITE: n 0 to 64, length 29 + 221n, atomicity 0 to 2.
 fn read_write(frame: &[u8]) -> Frame
     ensures means { λ r. ⌜ frameOf r (now (frame .entry)) ≡ rules.formed (rules.writeFormed (byte 28 (now (frame .entry))) (now (frame .entry))) (rules.writeOf (byte 28 (now (frame .entry))) (now (frame .entry))) ⌝ }
-    ensures fits { λ r. ⌜ FrameFits r (now (frame .entry)) ⌝ }
+    ensures stands { λ r. ⌜ frameStands r (now (frame .entry)) ≡ true ⌝ }
 {
     if frame.len() < 29 {
         return Frame::Malformed;
@@ -163,7 +195,7 @@ fn read_write(frame: &[u8]) -> Frame
 // READ: length 159; only 0 with a key of zeros, or only 1 with a table other than 0.
 fn read_read(frame: &[u8]) -> Frame
     ensures means { λ r. ⌜ frameOf r (now (frame .entry)) ≡ rules.formed (rules.readFormed (now (frame .entry))) (rules.READ (rules.queryOf (now (frame .entry)))) ⌝ }
-    ensures fits { λ r. ⌜ FrameFits r (now (frame .entry)) ⌝ }
+    ensures stands { λ r. ⌜ frameStands r (now (frame .entry)) ≡ true ⌝ }
 {
     if frame.len() != 159 {
         return Frame::Malformed;
@@ -190,7 +222,7 @@ fn read_read(frame: &[u8]) -> Frame
 // What a frame asks for.
 pub fn read_frame(frame: &[u8]) -> Frame
     ensures means { λ r. ⌜ frameOf r (now (frame .entry)) ≡ rules.readFrame (now (frame .entry)) ⌝ }
-    ensures fits { λ r. ⌜ FrameFits r (now (frame .entry)) ⌝ }
+    ensures stands { λ r. ⌜ frameStands r (now (frame .entry)) ≡ true ⌝ }
 {
     if frame.len() == 0 {
         return Frame::Malformed;

@@ -1,23 +1,26 @@
--- A configuration is allowed where each row is so by itself and their tables and sizes are so together. Assumes nothing.
-use Prim.Native.Nat.{ℕ, _+_, _*_, _≤_, _<_}
+-- A configuration is allowed where each row is so by itself and their tables and sizes are so together; allowed rows have counts
+-- that fit, so that all are read. Assumes nothing.
+use Prim.Native.Nat.{ℕ, zero, suc, _+_, _*_, _-_, _≤_, _<_}
 use native.Mathlib.Omega.{arith}
 use mathlib.Core.Path.{_≡_, refl, sym, ap, _∙_}
-use mathlib.Core.Bool.{Bool, true, false, _&&_, and-true as and-unit}
-use mathlib.Core.List.{List, [], _∷_, map}
-use lib.Dec.{eqb, leb}
-use lib.ListN.{length, take, getD, set, length-map}
-use lib.Seq.{getD-set-same, getD-set-other}
+use mathlib.Core.Bool.{Bool, true, false, _&&_, and-assoc, and-comm}
+use mathlib.Core.List.{List, [], _∷_, map, map-map}
+use lib.Dec.{eqb, leb, ltb, lit≤}
+use lib.ListN.{length, take, drop, getD, set, length-map}
+use lib.Seq.{getD-drop, getD-set-same, getD-set-other}
 use borrow.Author.Count.{below-more}
-use Rattle.rules.specs.Bytes.{between, every, sum, distinct, byte, part, parts}
+use borrow.Author.Tests.{ltb-true, ltb-false, eqb-true}
+use Rattle.rules.specs.Bytes.{if_then_else_, between, every, sum, distinct, byte, part, parts, int, number, allZero}
 use Rattle.rules.specs.Row as rules
 use Rattle.rules.proofs.Tests.{and-true, both-true, clash}
 use Rattle.rules.proofs.Formed.{parts-count}
+use Rattle.rules.proofs.Lists.{every-map, part-part, byte-part}
 use Rattle.rows.specs.declared.Row.{Row}
-use Rattle.rows.specs.declared.Rows.{Rows}
-use Rattle.rows.specs.Meaning.{rowOf, rowsOf, countsFit, tablesOf, sizesOf}
-use Rattle.rules.proofs.Lists.{every-map}
-use Rattle.rows.proofs.Bytes.{read-all, every-part, every-parts}
+use Rattle.rows.specs.Meaning.{rowOf, rowsIn, countsFit, tableIds, rowsPass, tableSizes}
+use Rattle.rows.proofs.Bytes.{int-first, read-all, every-part, every-parts, column-next, column-none, passOnce}
 use Rattle.rows.proofs.Counted.{blank}
+use Rattle.rows.proofs.OneRow.{every-both}
+use Rattle.rows.proofs.Records.{fewParameters}
 
 -- ---- tests of all elements of a list
 
@@ -50,9 +53,12 @@ few-parameters : (a : List ℕ) → rules.actionAllowed (rules.actionOf a) ≡ t
 unfolding rules.actionOf
 few-parameters a e = rw (count-is (byte 0) (rules.parameterCount a) 1 (rules.widthBytes a)) at (few-widths (rules.actionOf a) e)
 
-few-parts : (row : rules.Row) → rules.rowAllowed row ≡ true
-    → (leb (length (row .fields)) 4 ≡ true) × (leb (length (row .actions)) 4 ≡ true)
+abbrev FewParts : rules.Row → Type 0
+FewParts row =
+    (leb (length (row .fields)) 4 ≡ true) × (leb (length (row .actions)) 4 ≡ true)
     × (every rules.actionAllowed (row .actions) ≡ true)
+
+few-parts : (row : rules.Row) → rules.rowAllowed row ≡ true → FewParts row
 unfolding rules.rowAllowed
 few-parts row e =
     let head : Bool = eqb (rules.topByte (row .table)) 0x02 && leb (row .owner) 7 && leb 1 (row .size) in
@@ -69,70 +75,146 @@ few-parts row e =
       p .1,
     )
 
--- an allowed row has counts of at most 4
+-- past place k there are only zeros
+zero-at : (i : ℕ) (l : List ℕ) → allZero l ≡ true → byte i l ≡ 0
+zero-at zero [] e = refl
+zero-at (suc i) [] e = refl
+zero-at zero (x ∷ l) e = sym (eqb-true 0 x (and-true (eqb 0 x) (allZero l) e .0))
+zero-at (suc i) (x ∷ l) e = zero-at i l (and-true (eqb 0 x) (allZero l) e .1)
+
+zero-past : (k i : ℕ) (l : List ℕ) → allZero (drop k l) ≡ true → k ≤ i → byte i l ≡ 0
+zero-past k i l e h =
+    let s : k + (i - k) ≡ i = omega arith in
+    ap (λ (a : ℕ). byte a l) (sym s) ∙ sym (getD-drop k l (i - k) 0) ∙ zero-at (i - k) (drop k l) e
+
+-- an allowed row has counts of at most 4: actions past its count are zeros
 counts-fit : (b : List ℕ) → alone b ≡ true → countsFit b ≡ true
-unfolding rules.rowOf countsFit
+unfolding rules.rowOf rules.unusedZero countsFit
 counts-fit b e =
-    let n : ℕ = rules.actionCount b in
-    let ps : List (List ℕ) = parts n 9 (rules.actionBytes b) in
-    let few = few-parts (rules.rowOf b) (and-true (passes b) (rules.unusedZero b) e .0) in
     both-true
     (both-true (rw (count-is rules.fieldOf (rules.fieldCount b) 2 (rules.fieldBytes b)) at (few .0))
-    (rw (count-is rules.actionOf n 9 (rules.actionBytes b)) at (few .1)))
-    (every-weaker (λ (a : List ℕ). rules.actionAllowed (rules.actionOf a)) (λ (a : List ℕ). leb (rules.parameterCount a) 4)
-    few-parameters ps (sym (every-map rules.actionAllowed rules.actionOf ps) ∙ few .2))
+    (rw (count-is rules.actionOf n 9 l) at (few .1)))
+    (every-parts fewParameters 9 4 l (λ i _. each i (ltb i n) refl))
+  where
+    n : ℕ
+    n = rules.actionCount b
+
+    l : List ℕ
+    l = rules.actionBytes b
+
+    own : (passes b ≡ true) × (rules.unusedZero b ≡ true)
+    own = and-true (passes b) (rules.unusedZero b) e
+
+    few : FewParts (rules.rowOf b)
+    few = few-parts (rules.rowOf b) (own .0)
+
+    within : every fewParameters (parts n 9 l) ≡ true
+    within =
+        every-weaker (λ (a : List ℕ). rules.actionAllowed (rules.actionOf a)) fewParameters few-parameters (parts n 9 l)
+        (sym (every-map rules.actionAllowed rules.actionOf (parts n 9 l)) ∙ few .2)
+
+    past : allZero (drop (9 * n) l) ≡ true
+    past =
+        let fields : Bool = allZero (drop (2 * rules.fieldCount b) (rules.fieldBytes b)) in
+        let actions : Bool = allZero (drop (9 * n) l) in
+        and-true fields actions (and-true (fields && actions) (every rules.unusedWidths (parts n 9 l)) (own .1) .0) .1
+
+    each : (i : ℕ) (v : Bool) → ltb i n ≡ v → fewParameters (part (9 * i) 9 l) ≡ true
+    each i true q = every-part fewParameters 9 n i l within (ltb-true i n q)
+    each i false q =
+        let h : n ≤ i = ltb-false i n q in
+        rw (byte-part (9 * i) 9 4 l (omega arith), zero-past (9 * n) (9 * i + 4) l past (omega arith))
 
 -- ---- the rows together
 
-each-alone : (n i : ℕ) (b : List ℕ) → rules.configurationAllowed (parts n 53 b) ≡ true → i < n
-    → alone (part (53 * i) 53 b) ≡ true
-unfolding rules.configurationAllowed rules.rowsAllowed
-each-alone n i b e h =
-    let both = and-true _ _ e in
-    let rows = sym (every-map rules.rowAllowed rules.rowOf (parts n 53 b)) ∙ and-true _ _ (and-true _ _ (both .0) .0) .0 in
-    both-true (every-part passes 53 n i b rows h) (every-part rules.unusedZero 53 n i b (both .1) h)
+abbrev pub tableOf : List ℕ → ℕ
+tableOf b = rules.rowOf b .table
 
--- one row that is not allowed by itself is enough
-pub refused : (n i : ℕ) (b : List ℕ) → i < n → alone (part (53 * i) 53 b) ≡ false
-    → false ≡ rules.configurationAllowed (parts n 53 b)
-refused n i b h f = go (rules.configurationAllowed (parts n 53 b)) refl
+abbrev sizeOf : List ℕ → ℕ
+sizeOf b = rules.rowOf b .size
+
+-- 14 of them: each by itself, no table id repeated, and the sizes
+pub rows-asked : (t : ℕ) (b : List ℕ) → rowsPass (parts t 53 b) ≡ passOnce alone tableOf t 53 b 0
+unfolding rowsPass tableIds
+rows-asked t b = refl
+
+pub configuration-asked : (rows : List (List ℕ)) → rules.configurationAllowed rows ≡ (rowsPass rows && leb (sum (tableSizes rows)) 256)
+unfolding rules.configurationAllowed rules.rowsAllowed rowsPass tableIds tableSizes
+configuration-asked rows =
+    rw (
+      every-map rules.rowAllowed rules.rowOf rows,
+      map-map (λ (r : rules.Row). r .table) rules.rowOf rows,
+      map-map (λ (r : rules.Row). r .size) rules.rowOf rows,
+      every-both passes rules.unusedZero rows,
+    )
+    (last-second (every passes rows) (distinct (map tableOf rows)) (leb (sum (map sizeOf rows)) 256) (every rules.unusedZero rows))
   where
-    go : (v : Bool) → rules.configurationAllowed (parts n 53 b) ≡ v → false ≡ v
-    go true e = clash (each-alone n i b e h) f
-    go false e = refl
+    last-second : (own once few unused : Bool) → own && once && few && unused ≡ own && unused && once && few
+    last-second own once few unused = simp (and-assoc, and-comm)
 
--- where all are, tables and sizes decide
-pub decided : (all : Rows) (ps : List (List ℕ)) → rowsOf all ≡ map rules.rowOf ps → every alone ps ≡ true
-    → distinct (tablesOf all) && leb (sum (sizesOf all)) 256 ≡ rules.configurationAllowed ps
-unfolding rules.configurationAllowed rules.rowsAllowed tablesOf sizesOf
-decided all ps e h = rw (own, unused, e) (sym (and-unit _))
-  where
-    both : (r : List ℕ) → alone r ≡ true → (passes r ≡ true) × (rules.unusedZero r ≡ true)
-    both r q = and-true (passes r) (rules.unusedZero r) q
+-- the table id and the size of the row at place i, and those past the first i
+module _ (t i : ℕ) (b : List ℕ) where
+  pub table-at : int (53 * i) 4 b ≡ tableOf (part (53 * i) 53 b)
+  unfolding rules.rowOf
+  table-at = sym (int-first (53 * i) 53 4 b (lit≤ tt))
 
-    own : every rules.rowAllowed (map rules.rowOf ps) ≡ true
-    own = every-map rules.rowAllowed rules.rowOf ps ∙ every-weaker alone passes (λ r q. both r q .0) ps h
+  size-at : int (53 * i + 5) 2 b ≡ sizeOf (part (53 * i) 53 b)
+  unfolding rules.rowOf
+  size-at = ap number (sym (part-part (53 * i) 53 5 2 b (lit≤ tt)))
 
-    unused : every rules.unusedZero ps ≡ true
-    unused = every-weaker alone rules.unusedZero (λ r q. both r q .1) ps h
+  pub tables-next : i < t → drop i (tableIds (parts t 53 b)) ≡ int (53 * i) 4 b ∷ drop (i + 1) (tableIds (parts t 53 b))
+  unfolding tableIds
+  tables-next h = rw table-at (column-next tableOf t 53 i b h)
+
+  pub tables-none : t ≤ i → drop i (tableIds (parts t 53 b)) ≡ []
+  unfolding tableIds
+  tables-none h = column-none tableOf t 53 i b h
+
+  pub sizes-next : i < t → drop i (tableSizes (parts t 53 b)) ≡ int (53 * i + 5) 2 b ∷ drop (i + 1) (tableSizes (parts t 53 b))
+  unfolding tableSizes
+  sizes-next h = rw size-at (column-next sizeOf t 53 i b h)
+
+  pub sizes-none : t ≤ i → drop i (tableSizes (parts t 53 b)) ≡ []
+  unfolding tableSizes
+  sizes-none h = column-none sizeOf t 53 i b h
 
 -- ---- reading them one by one
 
--- row k is allowed by itself, and read
+fit-read : (rows : List (List ℕ)) → every countsFit rows ≡ true → rowsIn rows ≡ map rules.rowOf rows
+unfolding rowsIn
+fit-read rows e = rw e
+
+-- allowed rows are all read
+pub rows-allowed-read : (rows : List (List ℕ)) → rules.configurationAllowed rows ≡ true → rowsIn rows ≡ map rules.rowOf rows
+unfolding rowsPass
+rows-allowed-read rows e =
+    let pass = and-true (rowsPass rows) (leb (sum (tableSizes rows)) 256) (sym (configuration-asked rows) ∙ e) .0 in
+    let own = and-true (every alone rows) (distinct (tableIds rows)) pass .0 in
+    fit-read rows (every-weaker alone countsFit counts-fit rows own)
+
+-- one whose counts do not fit is enough to read none
+pub none-read : (n i : ℕ) (b : List ℕ) → i < n → countsFit (part (53 * i) 53 b) ≡ false → rowsIn (parts n 53 b) ≡ []
+unfolding rowsIn
+none-read n i b h f = go (every countsFit (parts n 53 b)) refl
+  where
+    go : (v : Bool) → every countsFit (parts n 53 b) ≡ v → (if v then map rules.rowOf (parts n 53 b) else []) ≡ []
+    go true e = clash (every-part countsFit 53 n i b e h) f
+    go false e = refl
+
+-- the counts of row k fit, and it is read
 abbrev pub Taken : List ℕ → List Row → ℕ → Type 0
-Taken b rows k = (alone (part (53 * k) 53 b) ≡ true) × (rowOf (getD rows k blank) ≡ rules.rowOf (part (53 * k) 53 b))
+Taken b rows k = (countsFit (part (53 * k) 53 b) ≡ true) × (rowOf (getD rows k blank) ≡ rules.rowOf (part (53 * k) 53 b))
 
 pub taken-next : (b : List ℕ) (rows : List Row) (i : ℕ) (r : Row) → i < length rows → ((k : ℕ) → k < i → Taken b rows k)
-    → alone (part (53 * i) 53 b) ≡ true → (countsFit (part (53 * i) 53 b) ≡ true → rowOf r ≡ rules.rowOf (part (53 * i) 53 b))
+    → countsFit (part (53 * i) 53 b) ≡ true → (countsFit (part (53 * i) 53 b) ≡ true → rowOf r ≡ rules.rowOf (part (53 * i) 53 b))
     → (k : ℕ) → k < i + 1 → Taken b (set rows i r) k
 taken-next b rows i r h all a e =
     below-more (Taken b (set rows i r)) i
     (λ k l. (all k l .0, ap rowOf (getD-set-other rows i k r blank (omega arith)) ∙ all k l .1))
-    (a, ap rowOf (getD-set-same rows i r blank h) ∙ e (counts-fit (part (53 * i) 53 b) a))
+    (a, ap rowOf (getD-set-same rows i r blank h) ∙ e a)
 
 pub taken-all : (b : List ℕ) (rows : List Row) (n : ℕ) → n ≤ length rows → ((k : ℕ) → k < n → Taken b rows k)
-    → (every alone (parts n 53 b) ≡ true) × (map rowOf (take n rows) ≡ map rules.rowOf (parts n 53 b))
-taken-all b rows n h all = (
-  every-parts alone 53 n b (λ i l. all i l .0),
-  read-all rowOf rules.rowOf blank 53 n rows b h (λ i l. all i l .1),
-)
+    → map rowOf (take n rows) ≡ rowsIn (parts n 53 b)
+taken-all b rows n h all =
+    read-all rowOf rules.rowOf blank 53 n rows b h (λ i l. all i l .1)
+    ∙ sym (fit-read (parts n 53 b) (every-parts countsFit 53 n b (λ i l. all i l .0)))

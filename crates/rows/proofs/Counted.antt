@@ -11,7 +11,6 @@ use lib.Dec.{eqb, eqb·suc-zero}
 use Rattle.rules.specs.Call.{unconfigured}
 use Rattle.rules.specs.Row as rules
 use Rattle.rows.specs.declared.Row.{Row}
-use Rattle.rules.proofs.Lists.{drop-map}
 use Rattle.rows.specs.declared.Rows.{Rows}
 use Rattle.rows.specs.Meaning.{rowOf, rowsOf, rowAt}
 
@@ -53,24 +52,3 @@ row-at c i = List·getD-map rowOf (c .rows) i blank
 pub row-past : (c : Rows) (i : ℕ) → length (c .rows) ≡ 8 → 8 ≤ i → rowAt c i ≡ rules.noRow
 unfolding rowAt
 row-past c i e h = List·getD-eq-default (map rowOf (c .rows)) rules.noRow {n = i} (rw (length-map, e) h)
-
--- ---- one number of each: their tables, or their sizes
-
-abbrev pub tableOf : rules.Row → ℕ
-tableOf r = r .table
-
-abbrev pub sizeOf : rules.Row → ℕ
-sizeOf r = r .size
-
-abbrev pub column : (rules.Row → ℕ) → Rows → ℕ → List ℕ
-column h c j = map h (drop j (rowsOf c))
-
-pub column-from : (h : rules.Row → ℕ) (c : Rows) (j : ℕ) → drop j (map h (rowsOf c)) ≡ column h c j
-column-from h c j = drop-map h j (rowsOf c)
-
-pub column-next : (h : rules.Row → ℕ) (c : Rows) (j : ℕ) → length (c .rows) ≡ 8 → j < c .count → j < 8
-    → column h c j ≡ h (rowOf (getD (c .rows) j blank)) ∷ column h c (j + 1)
-column-next h c j e g k = ap (map h) (rows-next c j e g k)
-
-pub column-none : (h : rules.Row → ℕ) (c : Rows) (j : ℕ) → length (c .rows) ≡ 8 → min (c .count) 8 ≤ j → column h c j ≡ []
-column-none h c j e g = ap (map h) (rows-none c j e g)

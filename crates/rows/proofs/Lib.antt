@@ -3,4 +3,4 @@ pub mod Bytes
 pub mod Configuration
 pub mod Counted
 pub mod Records
-pub mod Allowed
+pub mod OneRow

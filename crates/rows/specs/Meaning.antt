@@ -1,10 +1,10 @@
 -- What the values of this crate mean in the rules' terms. Assumes nothing.
 use mathlib.Core.Bool.{Bool, _&&_}
-use mathlib.Core.List.{List, map}
+use mathlib.Core.List.{List, [], map}
 use Prim.Native.Nat.{ℕ, _*_}
 use lib.Dec.{leb}
 use lib.ListN.{take, drop, getD}
-use Rattle.rules.specs.Bytes.{between, every, distinct, parts, allZero}
+use Rattle.rules.specs.Bytes.{if_then_else_, between, every, distinct, parts, allZero}
 use Rattle.rules.specs.Row as rules
 use Rattle.rows.specs.declared.Field.{Field}
 use Rattle.rows.specs.declared.Action.{Action}
@@ -39,7 +39,11 @@ rowAt c i = getD (map rowOf (c .rows)) i rules.noRow
 unfoldable pub countsFit : List ℕ → Bool
 countsFit b =
     leb (rules.fieldCount b) 4 && leb (rules.actionCount b) 4
-    && every (λ (a : List ℕ). leb (rules.parameterCount a) 4) (parts (rules.actionCount b) 9 (rules.actionBytes b))
+    && every (λ (a : List ℕ). leb (rules.parameterCount a) 4) (parts 4 9 (rules.actionBytes b))
+
+-- rows of 53 bytes as they are read; where a count does not fit, which 14 does not allow, none is
+unfoldable pub rowsIn : List (List ℕ) → List rules.Row
+rowsIn rows = if every countsFit rows then map rules.rowOf rows else []
 
 -- ---- the parts of 14 that single functions decide, on the bytes of a row
 
@@ -66,10 +70,17 @@ actionsPass b =
     && distinct (actionIds (rules.actionCount b) b)
     && allZero (drop (9 * rules.actionCount b) (rules.actionBytes b))
 
--- ---- of the rows in force
+-- ---- and on the bytes of all rows
 
-unfoldable pub tablesOf : Rows → List ℕ
-tablesOf c = map (λ (r : rules.Row). r .table) (rowsOf c)
+-- their table ids
+unfoldable pub tableIds : List (List ℕ) → List ℕ
+tableIds rows = map (λ (b : List ℕ). rules.rowOf b .table) rows
 
-unfoldable pub sizesOf : Rows → List ℕ
-sizesOf c = map (λ (r : rules.Row). r .size) (rowsOf c)
+-- each row by itself, and no table id repeated
+unfoldable pub rowsPass : List (List ℕ) → Bool
+rowsPass rows =
+    every (λ (b : List ℕ). rules.rowAllowed (rules.rowOf b) && rules.unusedZero b) rows && distinct (tableIds rows)
+
+-- their sizes
+unfoldable pub tableSizes : List (List ℕ) → List ℕ
+tableSizes rows = map (λ (b : List ℕ). rules.rowOf b .size) rows

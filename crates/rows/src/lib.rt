@@ -1,14 +1,14 @@
 // Configuration rows: their type, reading them from 53 bytes each, and reason 14 (document 01, "Frames" and 14).
 ghost use mathlib.Core.Path.{_≡_};
-ghost use mathlib.Core.Bool.{true, false, _&&_};
-ghost use mathlib.Core.List.{[], map};
+ghost use mathlib.Core.Bool.{true, _&&_};
+ghost use mathlib.Core.List.{[]};
 ghost use Prim.Native.Nat.{_+_, _*_, _≤_, _<_};
 ghost use lib.ListN.{length, drop};
 ghost use lib.Dec.{eqb, ltb};
-ghost use Rattle.rules.specs.Bytes.{if_then_else_, some-of, distinct, part, parts, sum};
+ghost use Rattle.rules.specs.Bytes.{some-of, part, parts, sum};
 ghost use Rattle.rules.specs.Call.{unconfigured};
 ghost use Rattle.rules.specs.Row as rules;
-ghost use Rattle.rows.specs.Meaning.{fieldOf, actionOf, rowOf, rowsOf, rowAt, tablesOf, sizesOf, countsFit, fieldsPass, actionPasses, actionIds, actionsPass};
+ghost use Rattle.rows.specs.Meaning.{fieldOf, actionOf, rowOf, rowsOf, rowAt, rowsIn, countsFit, fieldsPass, actionPasses, actionIds, actionsPass, tableIds, rowsPass, tableSizes};
 use numbers::integer;
 
 // A match field: a kind and a width in bits.
@@ -49,23 +49,6 @@ pub struct Rows {
 pub struct Found {
     pub known: bool,
     pub row: Row,
-}
-
-// Whether 14 allows the rows of a frame, and the rows where it does.
-pub struct Reading {
-    pub rows: Rows,
-    pub allowed: bool,
-}
-
-impl Reading {
-    fn refused() -> Reading
-        ensures { λ r. ⌜ (r .allowed ≡ false) × (rowsOf (r .rows) ≡ []) ⌝ }
-    {
-        Reading {
-            rows: Rows::fresh(),
-            allowed: false,
-        }
-    }
 }
 
 impl Field {
@@ -274,6 +257,73 @@ fn row_allowed(b: &[u8]) -> bool
     actions_allowed(b)
 }
 
+// ---- reason 14, on the 53 bytes of each of the t rows
+
+// Whether one of the rows from `from` on has the table id.
+fn table_repeated(b: &[u8], table: u64, from: usize, t: usize) -> bool
+    requires { ⌜ (t ≤ 8) × (length (now b) ≡ 53 * t) ⌝ }
+    ensures { λ r. ⌜ r ≡ some-of (eqb table) (drop from (tableIds (parts t 53 (now (b .entry))))) ⌝ }
+{
+    let mut j = from;
+    while j < t {
+        if integer(b, 53 * j, 4) == table {
+            return true;
+        }
+        j += 1;
+    }
+    false
+}
+
+// Each row by itself, and no table id repeated.
+fn each_allowed(b: &[u8], t: usize) -> bool
+    requires { ⌜ (t ≤ 8) × (length (now b) ≡ 53 * t) ⌝ }
+    ensures { λ r. ⌜ r ≡ rowsPass (parts t 53 (now (b .entry))) ⌝ }
+{
+    let mut i: usize = 0;
+    while i < t {
+        let at = 53 * i;
+        let end = at + 53;
+        if !row_allowed(&b[at..end]) {
+            return false;
+        }
+        if table_repeated(b, integer(b, at, 4), i + 1, t) {
+            return false;
+        }
+        i += 1;
+    }
+    true
+}
+
+// The sizes of all rows together.
+fn sizes(b: &[u8], t: usize) -> u64
+    requires { ⌜ (t ≤ 8) × (length (now b) ≡ 53 * t) ⌝ }
+    ensures { λ r. ⌜ r ≡ sum (tableSizes (parts t 53 (now (b .entry)))) ⌝ }
+{
+    let mut total: u64 = 0;
+    let mut i: usize = 0;
+    while i < t {
+        total += integer(b, 53 * i + 5, 2);
+        i += 1;
+    }
+    total
+}
+
+// Whether 14 allows the t rows of 53 bytes each. Told from the bytes: where it does not, no row is read.
+pub fn allowed(b: &[u8], t: usize) -> bool
+    requires { ⌜ (t ≤ 8) × (length (now b) ≡ 53 * t) ⌝ }
+    ensures { λ r. ⌜ r ≡ rules.configurationAllowed (parts t 53 (now (b .entry))) ⌝ }
+{
+    each_allowed(b, t) && sizes(b, t) <= 256
+}
+
+// Whether no count of a row is over 4, so that nothing is left out when it is read.
+fn counts_fit(b: &[u8]) -> bool
+    requires { ⌜ length (now b) ≡ 53 ⌝ }
+    ensures { λ r. ⌜ r ≡ countsFit (now (b .entry)) ⌝ }
+{
+    b[7] <= 4 && b[16] <= 4 && b[21] <= 4 && b[30] <= 4 && b[39] <= 4 && b[48] <= 4
+}
+
 impl Rows {
     // No configuration.
     pub fn fresh() -> Rows
@@ -292,97 +342,30 @@ impl Rows {
         self.count == 0
     }
 
-    // Whether a row from `from` on has the table id.
-    fn table_repeated(self, table: u32, from: usize) -> bool
-        ensures { λ r. ⌜ r ≡ some-of (eqb table) (drop from (tablesOf self)) ⌝ }
-    {
-        let n = self.count as usize;
-        let mut j = from;
-        while j < n {
-            if 8 <= j {
-                return false;
-            }
-            let row = self.rows[j];
-            if row.table == table {
-                return true;
-            }
-            j += 1;
-        }
-        false
-    }
-
-    // No table id is repeated.
-    fn tables_distinct(self) -> bool
-        ensures { λ r. ⌜ r ≡ distinct (tablesOf self) ⌝ }
-    {
-        let n = self.count as usize;
-        let mut i: usize = 0;
-        while i < n {
-            if 8 <= i {
-                return true;
-            }
-            let row = self.rows[i];
-            if self.table_repeated(row.table, i + 1) {
-                return false;
-            }
-            i += 1;
-        }
-        true
-    }
-
-    // The sizes of all rows together.
-    fn sizes(self) -> u64
-        ensures { λ r. ⌜ r ≡ sum (sizesOf self) ⌝ }
-    {
-        let n = self.count as usize;
-        let mut total: u64 = 0;
-        let mut i: usize = 0;
-        while i < n {
-            if 8 <= i {
-                return total;
-            }
-            let row = self.rows[i];
-            total += row.size as u64;
-            i += 1;
-        }
-        total
-    }
-
-    // The t rows of 53 bytes each where 14 allows them, otherwise none.
-    pub fn read(b: &[u8], t: usize) -> Reading
+    // The t rows of 53 bytes each; none where a count in them is over 4, which 14 does not allow.
+    pub fn read(b: &[u8], t: usize) -> Rows
         requires { ⌜ (t ≤ 8) × (length (now b) ≡ 53 * t) ⌝ }
-        ensures verdict { λ r. ⌜ r .allowed ≡ rules.configurationAllowed (parts t 53 (now (b .entry))) ⌝ }
-        ensures read { λ r. ⌜ rowsOf (r .rows) ≡ (if r .allowed then map rules.rowOf (parts t 53 (now (b .entry))) else []) ⌝ }
+        ensures { λ r. ⌜ rowsOf r ≡ rowsIn (parts t 53 (now (b .entry))) ⌝ }
     {
         let mut rows = [Row::NONE; 8];
         let mut i: usize = 0;
         while i < t {
             let at = 53 * i;
             let end = at + 53;
-            if !row_allowed(&b[at..end]) {
-                return Reading::refused();
+            if !counts_fit(&b[at..end]) {
+                return Rows::fresh();
             }
             rows[i] = Row::read(&b[at..end]);
             i += 1;
         }
-        let all = Rows {
+        Rows {
             rows,
             count: t as u8,
-        };
-        if !all.tables_distinct() {
-            return Reading::refused();
-        }
-        if 256 < all.sizes() {
-            return Reading::refused();
-        }
-        Reading {
-            rows: all,
-            allowed: true,
         }
     }
 
     // The place of a table's row, 8 where the table is not known.
-    fn position(self, table: u64) -> usize
+    pub fn position(self, table: u64) -> usize
         ensures known { λ r. ⌜ ltb r 8 ≡ rules.known table (rowsOf self) ⌝ }
         ensures row { λ r. ⌜ rowAt self r ≡ rules.rowFor table (rowsOf self) ⌝ }
     {

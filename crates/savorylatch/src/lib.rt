@@ -22,8 +22,8 @@ pub extern "C" fn savorylatch_call(
 ) -> u8
     ensures { λ r. ⌜ Meets (now (agent .entry)) (now (frame .entry)) (now (store .entry)) (now (answer .entry)) (called (now (agent .exit)) r) (now (store .exit)) (now (answer .exit)) ⌝ }
 {
+    let asked = frames::read_frame(frame);
     if agent::is_event(frame) {
-        let asked = frames::read_frame(frame);
         let left = agent::elect(
             agent.device,
             agent.streams,
@@ -36,12 +36,23 @@ pub extern "C" fn savorylatch_call(
         return left.reason;
     }
     if agent::is_configure(frame) {
-        let left = agent::reconfigure(*agent, frame, store.len(), answer);
-        agent.rows = left.rows;
-        agent.count = left.count;
-        return left.reason;
+        let reason = agent::verify(
+            agent.device,
+            agent.streams,
+            asked,
+            frame,
+            store.len(),
+            answer.len(),
+        );
+        agent::answer_plain(reason, answer);
+        if reason != 0 {
+            return reason;
+        }
+        agent.rows = agent::rows_asked(asked, frame);
+        agent.count = 0;
+        return 0;
     }
-    let left = agent::serve(*agent, frame, store, answer);
+    let left = agent::serve(*agent, asked, frame, store, answer);
     agent.count = left.count;
     left.reason
 }

@@ -1,16 +1,16 @@
 -- Right because by its command byte a frame is for one part of the record, and what that part obeys is what was asked. Assumes nothing.
 use denote.Ref.{now}
 use mathlib.Core.Path.{sym, _∙_}
-use Rattle.agent.proofs.Parts.{event-met, configure-met, serve-met}
+use Rattle.agent.proofs.Parts.{event-met, configure-refused-met, configured-met, serve-met}
 use borrow.Author.Needs.{needs}
 use Rattle.agent.proofs.call.Statement.{statement}
 use Rattle.agent.proofs.call.Tie as tie
 
-is-event-requires : tie.Need-is-event-requires
-is-event-requires c κs = search needs
-
 read-frame-requires : tie.Need-read-frame-requires
 read-frame-requires c κs = search needs
+
+is-event-requires : tie.Need-is-event-requires
+is-event-requires c κs = search needs
 
 elect-requires : tie.Need-elect-requires
 elect-requires c κs = search needs
@@ -24,56 +24,82 @@ same-length c = search needs
 returns : tie.Need-returns
 returns c =
     let a = c .before .before .before .before .before .before .before .before .before .before .before .before .before .args in
-    event-met (a .agent) (now (a .frame)) (now (a .store)) (now (a .answer)) (c .before .before .before .notify .last .1 .0) (c .before .before .before .before .before .before .before .read-frame .result) (c .before .before .before .before .before .elect .result)
-    (sym (c .before .before .before .before .before .before .before .before .before .is-event .ensures) ∙ c .before .before .before .before .before .before .before .before .if1 .taken) (c .before .before .before .before .before .before .before .read-frame .ensures .0) (c .before .before .before .before .before .elect .ensures) (c .before .before .before .notify .ensures)
+    let x = c .before .before .before .before .before .before .before .before .before .read-frame in
+    event-met (a .agent) (now (a .frame)) (now (a .store)) (now (a .answer)) (c .before .before .before .notify .last .1 .0) (x .result) (c .before .before .before .before .before .elect .result)
+    (sym (c .before .before .before .before .before .before .before .before .is-event .ensures) ∙ c .before .before .before .before .before .before .before .if1 .taken) (x .ensures .0) (c .before .before .before .before .before .elect .ensures) (c .before .before .before .notify .ensures)
 
 is-configure-requires : tie.Need-is-configure-requires
 is-configure-requires c κs = search needs
 
-reconfigure-requires : tie.Need-reconfigure-requires
-reconfigure-requires c κs = search needs
+verify-requires : tie.Need-verify-requires
+verify-requires c κs = search needs
+
+answer-plain-requires : tie.Need-answer-plain-requires
+answer-plain-requires c κs = search needs
 
 same-length-2 : tie.Need-same-length-2
 same-length-2 c = search needs
 
 returns-2 : tie.Need-returns-2
 returns-2 c =
-    let a = c .before .before .before .before .before .before .before .before .before .before .before .before .args in
-    let r = c .before .before .before .reconfigure in
-    configure-met (a .agent) (now (a .frame)) (now (a .store)) (now (a .answer)) (r .last .1 .1 .1 .0) (r .result)
-    (sym (c .before .before .before .before .before .before .is-configure .ensures) ∙ c .before .before .before .before .before .if2 .taken) (r .ensures)
+    let a = c .before .before .before .before .before .before .before .before .before .before .before .before .before .before .before .args in
+    let x = c .before .before .before .before .before .before .before .before .before .before .before .read-frame in
+    let v = c .before .before .before .before .before .verify in
+    let w = c .before .before .before .answer-plain in
+    configure-refused-met (a .agent) (x .result) (now (a .frame)) (now (a .store)) (now (a .answer)) (x .ensures .0) (x .ensures .1) (v .result) (w .last .1 .0)
+    (sym (c .before .before .before .before .before .before .before .before .is-configure .ensures) ∙ c .before .before .before .before .before .before .before .if2 .taken) (v .ensures) (w .ensures) (c .if3 .taken)
 
-serve-requires : tie.Need-serve-requires
-serve-requires c κs = search needs
+rows-asked-requires : tie.Need-rows-asked-requires
+rows-asked-requires c κs = search needs
 
 same-length-3 : tie.Need-same-length-3
 same-length-3 c = search needs
 
+returns-3 : tie.Need-returns-3
+returns-3 c =
+    let a = c .before .before .before .before .before .before .before .before .before .before .before .before .before .before .before .before .args in
+    let x = c .before .before .before .before .before .before .before .before .before .before .before .before .read-frame in
+    let v = c .before .before .before .before .before .before .verify in
+    let w = c .before .before .before .before .answer-plain in
+    configured-met (a .agent) (x .result) (now (a .frame)) (now (a .store)) (now (a .answer)) (x .ensures .0) (x .ensures .1) (v .result) (w .last .1 .0)
+    (sym (c .before .before .before .before .before .before .before .before .before .is-configure .ensures) ∙ c .before .before .before .before .before .before .before .before .if2 .taken) (v .ensures) (w .ensures) (c .before .if3 .left) (c .rows-asked .result) (c .rows-asked .ensures)
+
+serve-requires : tie.Need-serve-requires
+serve-requires c κs = search needs
+
 same-length-4 : tie.Need-same-length-4
 same-length-4 c = search needs
 
-returns-3 : tie.Need-returns-3
-returns-3 c =
-    let a = c .before .before .before .before .before .before .before .before .before .before .before .before .before .before .args in
+same-length-5 : tie.Need-same-length-5
+same-length-5 c = search needs
+
+returns-4 : tie.Need-returns-4
+returns-4 c =
+    let a = c .before .before .before .before .before .before .before .before .before .before .before .before .before .before .before .args in
+    let x = c .before .before .before .before .before .before .before .before .before .before .before .read-frame in
     let r = c .before .before .before .before .serve in
-    serve-met (a .agent) (now (a .frame)) (now (a .store)) (now (a .answer)) (r .result) (r .last .1 .1 .0) (r .last .1 .1 .1 .0)
+    serve-met (a .agent) (x .result) (now (a .frame)) (now (a .store)) (now (a .answer)) (x .ensures .0) (x .ensures .1) (r .result) (r .last .1 .1 .1 .0) (r .last .1 .1 .1 .1 .0)
     (sym (c .before .before .before .before .before .before .before .before .before .before .is-event .ensures) ∙ c .before .before .before .before .before .before .before .before .before .if1 .left) (sym (c .before .before .before .before .before .before .before .before .is-configure .ensures) ∙ c .before .before .before .before .before .before .before .if2 .left) (r .ensures)
 
 pub call-spec : {M : Type 1} → statement M
 call-spec =
     tie.close
     (tie.spec
-    is-event-requires
     read-frame-requires
+    is-event-requires
     elect-requires
     notify-requires
     same-length
     returns
     is-configure-requires
-    reconfigure-requires
+    verify-requires
+    answer-plain-requires
     same-length-2
     returns-2
-    serve-requires
+    rows-asked-requires
     same-length-3
+    returns-3
+    serve-requires
     same-length-4
-    returns-3)
+    same-length-5
+    returns-4)

@@ -2,14 +2,16 @@
 use Prim.Native.Nat.{ℕ, _+_, _-_, _*_, _≤_}
 use native.Mathlib.Omega.{arith}
 use mathlib.Core.Path.{_≡_, sym, ap, _∙_, subst}
+use mathlib.Core.Bool.{true}
 use mathlib.Core.List.{List}
 use lib.ListN.{length, take, drop, length-take, length-drop}
 use denote.Ref.{now}
-use Rattle.rules.specs.Bytes.{part}
+use Rattle.rules.specs.Bytes.{part, int}
 use Rattle.rules.specs.Frame as rules
 use Rattle.arbitration.specs.Meaning.{headOf}
 use Rattle.frames.specs.declared.Command.{Command}
-use Rattle.frames.specs.Meaning.{queryOf, commandOf, Fits}
+use Rattle.frames.specs.Meaning.{commandOf, stands}
+use Rattle.frames.proofs.Standing.{write-stands, read-stands}
 use Rattle.entry_store.specs.Update.{updatesIn}
 use Rattle.agent.specs.Handlers.{wrote, unchanged, Obeys}
 use Rattle.agent.specs.Parts.{onEntries}
@@ -45,12 +47,19 @@ refuse-entries-requires-4 c κs = search needs
 enum-known-command : tie.Need-enum-known-command
 enum-known-command c = search needs
 
--- what the reader has tested of the frame's length
+-- what was tested of the frame
 updates-fit : (t : tie.After-command) → let f = now (t .before .before .before .before .before .args .frame) in let n = t .command .given .0 .1 .1 .0 in (n ≤ 64) × (length f ≡ 29 + 221 * n)
-updates-fit t = subst (λ (k : Command). Fits k (now (t .before .before .before .before .before .args .frame))) (t .command .given .1) (t .before .before .before .before .before .pre .1)
+updates-fit t =
+    let a = t .before .before .before .before .before in
+    let v = t .command .given in
+    write-stands (v .0 .0) (v .0 .1 .0) (v .0 .1 .1 .0) (now (a .args .frame)) (subst (λ (k : Command). stands k (now (a .args .frame)) ≡ true) (v .1) (a .pre .0))
 
-query-fits : (t : tie.After-command2) → length (now (t .before .before .before .before .before .args .frame)) ≡ 159
-query-fits t = subst (λ (k : Command). Fits k (now (t .before .before .before .before .before .args .frame))) (t .command2 .given .1) (t .before .before .before .before .before .pre .1)
+query-fits : (t : tie.After-command2) → let f = now (t .before .before .before .before .before .args .frame) in let q = t .command2 .given .0 .0 in
+    (length f ≡ 159) × (int 10 4 f ≡ q .table) × (q .only ≡ 1 → q .table ≡ 0 → ⊥)
+query-fits t =
+    let a = t .before .before .before .before .before in
+    let v = t .command2 .given in
+    read-stands (v .0 .0) (now (a .args .frame)) (subst (λ (k : Command). stands k (now (a .args .frame)) ≡ true) (v .1) (a .pre .0))
 
 sub-write : tie.Need-sub-write
 sub-write c = omega (arith, updates-fit (c .before) .1)
@@ -62,16 +71,16 @@ part-write-end : tie.Need-part-write-end
 part-write-end c = search needs
 
 write-requires : tie.Need-write-requires
-write-requires c κs = let s = updates-fit (c .before .before .before .before) in (s .0, simp (length-take, length-drop) (omega (arith, s .1)), c .before .before .before .before .before .before .before .before .before .pre .3, omega (arith, c .before .before .before .before .before .before .before .before .before .pre .4))
+write-requires c κs = let s = updates-fit (c .before .before .before .before) in (s .0, simp (length-take, length-drop) (omega (arith, s .1)), c .before .before .before .before .before .before .before .before .before .pre .2, omega (arith, c .before .before .before .before .before .before .before .before .before .pre .3))
 
 enum-known-command-2 : tie.Need-enum-known-command-2
 enum-known-command-2 c = search needs
 
 sub-read : tie.Need-sub-read
-sub-read c = omega (arith, query-fits (c .before))
+sub-read c = omega (arith, query-fits (c .before) .0)
 
 part-read-start : tie.Need-part-read-start
-part-read-start c = omega (arith, query-fits (c .before))
+part-read-start c = omega (arith, query-fits (c .before) .0)
 
 part-read-end : tie.Need-part-read-end
 part-read-end c = search needs
@@ -79,7 +88,7 @@ part-read-end c = search needs
 read-requires : tie.Need-read-requires
 read-requires c κs =
     let s = query-fits (c .before .before .before .before) in
-    (simp (length-take, length-drop) (omega (arith, s)), omega (arith, c .before .before .before .before .before .before .before .before .before .pre .2, c .before .before .before .before .before .before .before .before .before .pre .3), c .before .before .before .before .before .before .before .before .before .pre .4)
+    (simp (length-take, length-drop) (omega (arith, s .0)), omega (arith, c .before .before .before .before .before .before .before .before .before .pre .1, c .before .before .before .before .before .before .before .before .before .pre .2), c .before .before .before .before .before .before .before .before .before .pre .3)
 
 same-length : tie.Need-same-length
 same-length c = search needs
@@ -157,11 +166,11 @@ returns-6 c =
     let v = c .before .before .before .before .before .before .before .command2 .given in
     let q = v .0 .0 in
     let out = r .last .1 .1 .1 .1 .0 in
-    let e : rules.readFrame f ≡ rules.READ (queryOf q f) = c .before .before .before .before .before .before .before .before .before .before .before .before .pre .0 ∙ ap (λ (k : Command). commandOf k f) (v .1) in
-    let n : length f - 10 ≡ 149 = omega (arith, query-fits (c .before .before .before .before .before .before .before)) in
+    let y = query-fits (c .before .before .before .before .before .before .before) in
+    let n : length f - 10 ≡ 149 = omega (arith, y .0) in
     let b : take (length f - 10) (drop 10 f) ≡ part 10 149 f = ap (λ (n : ℕ). take n (drop 10 f)) n in
     subst (λ (k : Command). Obeys (a .agent) (onEntries (commandOf k f)) s d (unchanged (a .agent) (r .result)) s out) (sym (v .1))
-    (subst (λ (x : rules.Query). Obeys (a .agent) (rules.READ x) s d (unchanged (a .agent) (r .result)) s out) (query-there q f _ b) (r .ensures (query-named q f _ e b)))
+    (subst (λ (x : rules.Query). Obeys (a .agent) (rules.READ x) s d (unchanged (a .agent) (r .result)) s out) (query-there q f _ b) (r .ensures (query-named q f _ (y .0) (y .1) (y .2) b)))
 
 pub obey-spec : {M : Type 1} → statement M
 obey-spec =

@@ -1,4 +1,5 @@
--- Right because each update does what the rules say to what the updates before it left. Assumes nothing.
+-- Right because each update, judged by the row of its table, does what the rules say to what the updates before it left.
+-- Assumes nothing.
 use Prim.Native.Nat.{ℕ, _+_, _*_, _-_, _≤_, _<_}
 use native.Mathlib.Omega.{arith}
 use mathlib.Core.Path.{_≡_, refl, _∙_}
@@ -19,12 +20,12 @@ use Rattle.entries.specs.Store.{tablesIn}
 use Rattle.rules.proofs.Lists.{parts-from}
 use Rattle.buffers.proofs.Splice.{length-window, part-copied}
 use Rattle.entry_store.specs.Update.{Tidy, updatesIn}
-use Rattle.entry_store.proofs.Batches.{Batching, batch-start, batch-next, batch-end, flag-set, flag-kept}
+use Rattle.entry_store.proofs.Batches.{Batching, batch-start, batch-next, batch-end, flag-set, flag-kept, row-found}
 use Rattle.entry_store.proofs.batch.Statement.{statement}
 use Rattle.entry_store.proofs.batch.Tie as tie
 
 abbrev Inv-loop : tie.InvT-loop
-Inv-loop rows role store₀ count updates n answer₀ held₀ failed₀ i₀ store answer held failed i =
+Inv-loop role store₀ count updates n answer₀ rows held₀ failed₀ i₀ store answer held failed i =
     (i ≤ n)
     × (length store ≡ length store₀)
     × (length answer ≡ length answer₀)
@@ -33,7 +34,7 @@ Inv-loop rows role store₀ count updates n answer₀ held₀ failed₀ i₀ sto
     (map updateOf (drop i (parts n 221 updates))) store answer held failed i)
 
 abbrev μ-loop : tie.MeasureT-loop
-μ-loop rows role store₀ count updates n answer₀ held₀ failed₀ i₀ store answer held failed i = n - i
+μ-loop role store₀ count updates n answer₀ rows held₀ failed₀ i₀ store answer held failed i = n - i
 
 loop-holds : tie.Need-loop-holds Inv-loop μ-loop
 loop-holds c = (omega arith, refl, refl, λ t. batch-start _ _ _ _ _ _ t)
@@ -43,6 +44,21 @@ mul-from c = search needs
 
 add-end : tie.Need-add-end Inv-loop μ-loop
 add-end c = search needs
+
+add-integer : tie.Need-add-integer Inv-loop μ-loop
+add-integer c = search needs
+
+integer-requires : tie.Need-integer-requires Inv-loop μ-loop
+integer-requires c κs = search needs
+
+position-requires : tie.Need-position-requires Inv-loop μ-loop
+position-requires c κs = search needs
+
+mul-row : tie.Need-mul-row Inv-loop μ-loop
+mul-row c = search needs
+
+element-copy-out-row : tie.Need-element-copy-out-row Inv-loop μ-loop
+element-copy-out-row c = search needs
 
 sub-update : tie.Need-sub-update Inv-loop μ-loop
 sub-update c = search needs
@@ -89,10 +105,12 @@ places c = omega arith
 
 loop-again : tie.Need-loop-again Inv-loop μ-loop
 loop-again c =
-    let g = c .before .before .before .before .before .before .before .before .before .before .before in
+    let d = c .before .before .before .before .before .before .before .before in
+    let u = d .update in
+    let p = d .before .before .before .before in
+    let g = p .before .before in
     let l = g .before in
     let a = l .before .before .before .before .args in
-    let u = c .before .before .before .before .before .before .before .before .update in
     let w = c .before .before .write-pair in
     let us : List ℕ = now (a .updates) in
     let x : List ℕ = l .loop .answer in
@@ -102,18 +120,19 @@ loop-again c =
     let k : 221 * i + 221 - 221 * i ≡ 221 = omega arith in
     let long : length (drop 1 (part (221 * i) 221 us)) ≡ 220 =
     omega (arith, length-drop 1 (part (221 * i) 221 us), length-window (221 * i) 221 us (at .1)) in
+    let found = row-found (a .t1) us i (p .position .result) (p .before .integer .ensures) (p .position .ensures .0) (p .position .ensures .1) in
+    let update = rw k at (u .ensures (rowsOf (a .t1))) in
     let written = part-copied x (w .last .1 .0) (pairOf r) (2 * i) (length x - 2 * i) (w .ensures)
     (omega (arith, at .3)) (omega (arith, at .3)) in
     let f : Bool = l .loop .failed in
     let flag = ⊎-elim (λ y. flag-set r f (y .0 .taken) (y .1)) (λ y. flag-kept r f (y .0 .left) (y .1))
     (c .before .before .before .before .if1 .came) in (
       omega (arith, at .0),
-      u .kept .1 .1 .0 ∙ l .loop .inv .1,
+      u .kept .1 .1 .1 .0 ∙ l .loop .inv .1,
       same-len-mid (2 * i) (length x - 2 * i) x (w .last .1 .0) (w .kept .1 .0) ∙ l .loop .inv .2,
       λ t.
           let b = rw (parts-from i (a .n) 221 us (at .0)) at (l .loop .inv .3 t) in
-          let done = rw k at (u .ensures (b .tidy)) in
-          batch-next _ _ b long (omega (arith, at .2)) done flag written,
+          batch-next _ _ b long (omega (arith, at .2)) (update found (b .tidy)) flag written,
     )
 
 same-length : tie.Need-same-length Inv-loop μ-loop
@@ -140,6 +159,11 @@ batch-spec =
     loop-holds
     mul-from
     add-end
+    add-integer
+    integer-requires
+    position-requires
+    mul-row
+    element-copy-out-row
     sub-update
     part-update-start
     part-update-end

@@ -3,25 +3,22 @@
 use Prim.Native.Nat.{ℕ}
 use native.Mathlib.Omega.{arith}
 use mathlib.Core.Path.{_≡_, refl, sym, _∙_}
-use mathlib.Core.Bool.{true}
 use mathlib.Core.List.{List}
-use lib.ListN.{getD}
 use denote.Ref.{now}
 use borrow.Author.Tests.{not-true, not-false, ne-eqb}
-use Rattle.rules.specs.Bytes.{int}
-use Rattle.rules.specs.Row.{Row, known, rowFor}
+use Rattle.rules.specs.Bytes.{byte}
+use Rattle.rules.specs.Frame.{updateOf}
+use Rattle.rules.specs.Row.{Row}
 use Rattle.rules.specs.Update.{Tables}
-use Rattle.rows.specs.Meaning.{rowOf, rowsOf}
+use Rattle.rows.specs.Meaning.{rowOf}
 use Rattle.entries.specs.Store.{tablesIn}
-use Rattle.entry_store.proofs.Judging.{Reached, type-zero, type-high, table-unknown, not-owned, owned, entry-lent, entry-refused, place-judged}
+use Rattle.entry_store.specs.Update.{FoundIn}
+use Rattle.entry_store.proofs.Judging.{Reached, type-zero, type-high, table-unknown, not-owned, owned, entry-lent, entry-refused, place-judged, place-meant}
 use borrow.Author.Needs.{needs}
 use Rattle.entry_store.proofs.judge.Statement.{statement}
 use Rattle.entry_store.proofs.judge.Tie as tie
 
--- the rows, the role, the tables and the update
-
-abbrev R : tie.Else1 → List Row
-R b = rowsOf (b .before .before .before .before .args .rows)
+-- the role, the tables and the update, and what was found of its table
 
 abbrev P : tie.Else1 → ℕ
 P b = b .before .before .before .before .args .role
@@ -32,28 +29,20 @@ T b = let a = b .before .before .before .before .args in tablesIn (a .count) (no
 abbrev U : tie.Else1 → List ℕ
 U b = now (b .before .before .before .before .args .update)
 
--- what is found of the update's table
+abbrev K : tie.Else1 → Row
+K b = rowOf (b .before .before .before .before .args .row)
 
-is-known : (d : tie.After-find)
-    → let b = d .before .before .before in known (int 1 4 (U b)) (R b) ≡ d .find .result .known
-is-known d = sym (rw (d .before .integer .ensures) at (d .find .ensures .0))
-
-row-found : (d : tie.After-find)
-    → let b = d .before .before .before in rowOf (d .find .result .row) ≡ rowFor (int 1 4 (U b)) (R b)
-row-found d = rw (d .before .integer .ensures) at (d .find .ensures .1)
-
-known-row : (e : tie.Else3) → let b = e .before .before .before .before .before in known (int 1 4 (U b)) (R b) ≡ true
-known-row e = is-known (e .before .before) ∙ not-false (e .before .before .find .result .known) (e .if3 .left)
+abbrev F : tie.Else1 → List Row → Type 0
+F b rows = let a = b .before .before .before .before .args in FoundIn (a .known) (K b) rows (updateOf (U b))
 
 -- the row may be written
-reached : (g : tie.Else4) → let d = g .before .before .before .before .before in
-    let b = d .before .before .before in Reached (R b) (P b) (T b) (U b) (rowOf (d .find .result .row))
-reached g =
+reached : (g : tie.Else4) (rows : List Row) → let b = g .before .before .before .before in F b rows
+    → Reached rows (P b) (T b) (U b) (K b)
+reached g rows f =
     let m = g .before in
-    let e = m .before .before in
-    let d = e .before .before in
-    let b = d .before .before .before in
-    owned (R b) (P b) (T b) (U b) (b .if1 .left) (d .before .before .if2 .left) (known-row e) (row-found d)
+    let e = m .before in
+    let b = e .before .before in
+    owned rows (P b) (T b) (U b) (b .if1 .left) (e .before .if2 .left) f (not-false _ (e .if3 .left))
     (sym (m .may-write .ensures) ∙ not-false (m .may-write .result) (g .if4 .left))
 
 shared-slice-read-kind : tie.Need-shared-slice-read-kind
@@ -62,25 +51,17 @@ shared-slice-read-kind c = search needs
 returns : tie.Need-returns
 returns c =
     let a = c .before .before .before .before .args in
-    (type-zero (rowsOf (a .rows)) (a .role) (tablesIn (a .count) (now (a .store))) (now (a .update)) (c .if1 .taken), omega arith)
+    (λ rows f. type-zero rows (a .role) (tablesIn (a .count) (now (a .store))) (now (a .update)) (c .if1 .taken), omega arith)
 
 returns-2 : tie.Need-returns-2
 returns-2 c =
-    let a = c .before .before .before .before .before .args in
-    (type-high (rowsOf (a .rows)) (a .role) (tablesIn (a .count) (now (a .store))) (now (a .update)) (c .if2 .taken), omega arith)
-
-integer-requires : tie.Need-integer-requires
-integer-requires c κs = search needs
-
-find-requires : tie.Need-find-requires
-find-requires c κs = search needs
+    let b = c .before in
+    (λ rows f. type-high rows (P b) (T b) (U b) (c .if2 .taken), omega arith)
 
 returns-3 : tie.Need-returns-3
 returns-3 c =
-    let d = c .before .before in
-    let b = d .before .before .before in
-    let k = is-known d ∙ not-true (d .find .result .known) (c .if3 .taken) in
-    (table-unknown (R b) (P b) (T b) (U b) (b .if1 .left) (d .before .before .if2 .left) k, omega arith)
+    let b = c .before .before in
+    (λ rows f. table-unknown rows (P b) (T b) (U b) (b .if1 .left) (c .before .if2 .left) f (not-true _ (c .if3 .taken)), omega arith)
 
 may-write-requires : tie.Need-may-write-requires
 may-write-requires c κs = search needs
@@ -88,11 +69,10 @@ may-write-requires c κs = search needs
 returns-4 : tie.Need-returns-4
 returns-4 c =
     let m = c .before in
-    let e = m .before .before in
-    let d = e .before .before in
-    let b = d .before .before .before in
+    let e = m .before in
+    let b = e .before .before in
     let w = sym (m .may-write .ensures) ∙ not-true (m .may-write .result) (c .if4 .taken) in
-    (not-owned (R b) (P b) (T b) (U b) (b .if1 .left) (d .before .before .if2 .left) (known-row e) (row-found d) w, omega arith)
+    (λ rows f. not-owned rows (P b) (T b) (U b) (b .if1 .left) (e .before .if2 .left) f (not-false _ (e .if3 .left)) w, omega arith)
 
 sub-entry-reason : tie.Need-sub-entry-reason
 sub-entry-reason c = search needs
@@ -109,10 +89,10 @@ entry-reason-requires c κs = search needs
 returns-5 : tie.Need-returns-5
 returns-5 c =
     let g = c .before .before .before in
-    let d = g .before .before .before .before .before in
-    let b = d .before .before .before in
-    let r = rowOf (d .find .result .row) in
-    (entry-refused (R b) (P b) (T b) (U b) r (reached g) (entry-lent (U b)) (c .before .entry-reason .ensures) (c .if5 .taken), (let n = c .if5 .taken in omega (arith, n)))
+    let b = g .before .before .before .before in (
+      λ rows f. entry-refused rows (P b) (T b) (U b) (K b) (reached g rows f) (entry-lent (U b)) (c .before .entry-reason .ensures) (c .if5 .taken),
+      (let n = c .if5 .taken in omega (arith, n)),
+    )
 
 sub-judge-insert : tie.Need-sub-judge-insert
 sub-judge-insert c = search needs
@@ -130,13 +110,14 @@ returns-6 : tie.Need-returns-6
 returns-6 c =
     let h = c .before .before .before in
     let g = h .before .before .before in
-    let d = g .before .before .before .before .before in
-    let b = d .before .before .before in
-    let r = rowOf (d .find .result .row) in
+    let b = g .before .before .before .before in
     let z = sym (h .if5 .left) ∙ h .before .entry-reason .ensures in
-    let k = sym (c .before .before .if6 .taken) in
-    place-judged (R b) (P b) (T b) (U b) r (reached g) (entry-lent (U b)) 1 (c .judge-insert .result) z k
-    (c .judge-insert .ensures .0) (c .judge-insert .ensures .1)
+    let k = sym (c .before .before .if6 .taken) in (
+      λ rows f.
+          place-judged rows (P b) (T b) (U b) (K b) (reached g rows f) (entry-lent (U b)) 1 (c .judge-insert .result) z k
+          (c .judge-insert .ensures .0),
+      place-meant (T b) (U b) (c .judge-insert .result) (entry-lent (U b)) k (c .judge-insert .ensures .1),
+    )
 
 sub-judge-change : tie.Need-sub-judge-change
 sub-judge-change c = search needs
@@ -154,12 +135,13 @@ returns-7 : tie.Need-returns-7
 returns-7 c =
     let h = c .before .before .before in
     let g = h .before .before .before in
-    let d = g .before .before .before .before .before in
-    let b = d .before .before .before in
-    let r = rowOf (d .find .result .row) in
-    let z = sym (h .if5 .left) ∙ h .before .entry-reason .ensures in
-    place-judged (R b) (P b) (T b) (U b) r (reached g) (entry-lent (U b)) (getD (U b) 0 0) (c .judge-change .result) z refl
-    (c .judge-change .ensures .0) (c .judge-change .ensures .1)
+    let b = g .before .before .before .before in
+    let z = sym (h .if5 .left) ∙ h .before .entry-reason .ensures in (
+      λ rows f.
+          place-judged rows (P b) (T b) (U b) (K b) (reached g rows f) (entry-lent (U b)) (byte 0 (U b)) (c .judge-change .result) z refl
+          (c .judge-change .ensures .0),
+      place-meant (T b) (U b) (c .judge-change .result) (entry-lent (U b)) refl (c .judge-change .ensures .1),
+    )
 
 pub judge-spec : {M : Type 1} → statement M
 judge-spec =
@@ -168,8 +150,6 @@ judge-spec =
     shared-slice-read-kind
     returns
     returns-2
-    integer-requires
-    find-requires
     returns-3
     may-write-requires
     returns-4

@@ -1,12 +1,13 @@
 -- Right because the tests are those of the form of CONFIGURE; a frame under 28 bytes has no length of that form. Assumes nothing.
 use native.Mathlib.Omega.{arith}
-use mathlib.Core.Path.{_≡_, sym, ap, _∙_}
+use mathlib.Core.Path.{_≡_, refl, sym, ap, _∙_}
 use Rattle.rules.specs.Frame as rules
 use Rattle.rules.specs.Bytes.{byte, parts}
 use Prim.Native.Nat.{_+_, _*_, _≤_}
 use lib.ListN.{length, drop}
 use mathlib.Core.Bool.{true}
-use borrow.Author.Tests.{not-true, not-false}
+use borrow.Author.Tests.{not-true, not-false, le-leb, eq-eqb}
+use Rattle.rules.proofs.Tests.{both-true}
 use Rattle.frames.proofs.Readings.{configure-length, configure-none, configure-many, configure-flag, configure-fits}
 use borrow.Author.Needs.{needs}
 use Rattle.frames.proofs.read_configure.Statement.{statement}
@@ -15,7 +16,7 @@ use Rattle.frames.proofs.read_configure.Tie as tie
 returns : tie.Need-returns
 returns c =
     let f = c .before .before .args .frame .now in
-    (configure-length f (byte 27 f) _ (λ (e : length f ≡ 28 + 53 * byte 27 f). omega arith), tt)
+    (configure-length f (byte 27 f) _ (λ (e : length f ≡ 28 + 53 * byte 27 f). omega arith), refl)
 
 shared-slice-read-t : tie.Need-shared-slice-read-t
 shared-slice-read-t c = search needs
@@ -26,12 +27,12 @@ cast-t c = record { fits = omega (arith, c .shared-slice-known2 .given 27) }
 returns-2 : tie.Need-returns-2
 returns-2 c =
     let f = c .before .before .before .before .args .frame .now in
-    (configure-none f (byte 27 f) _ (c .if2 .taken), tt)
+    (configure-none f (byte 27 f) _ (c .if2 .taken), refl)
 
 returns-3 : tie.Need-returns-3
 returns-3 c =
     let f = c .before .before .before .before .before .args .frame .now in
-    (configure-many f (byte 27 f) _ (c .if3 .taken), tt)
+    (configure-many f (byte 27 f) _ (c .if3 .taken), refl)
 
 mul-if4 : tie.Need-mul-if4
 mul-if4 c = search needs
@@ -42,7 +43,7 @@ add-if4 c = search needs
 returns-4 : tie.Need-returns-4
 returns-4 c =
     let f = c .before .before .before .before .before .before .args .frame .now in
-    (configure-length f (byte 27 f) _ (c .if4 .taken), tt)
+    (configure-length f (byte 27 f) _ (c .if4 .taken), refl)
 
 flag-fits-requires : tie.Need-flag-fits-requires
 flag-fits-requires c κs = search needs
@@ -50,7 +51,7 @@ flag-fits-requires c κs = search needs
 returns-5 : tie.Need-returns-5
 returns-5 c =
     let f = c .before .before .before .before .before .before .before .before .args .frame .now in
-    (configure-flag f (byte 27 f) _ (sym (c .before .flag-fits .ensures) ∙ not-true _ (c .if5 .taken)), tt)
+    (configure-flag f (byte 27 f) _ (sym (c .before .flag-fits .ensures) ∙ not-true _ (c .if5 .taken)), refl)
 
 head-at-requires : tie.Need-head-at-requires
 head-at-requires c κs = search needs
@@ -63,7 +64,7 @@ returns-6 c =
     let k : byte 27 f ≤ 8 = omega arith in
     let e : rules.flagFits 1 f ≡ true = sym (c .before .before .flag-fits .ensures) ∙ not-false _ (c .before .if5 .left) in
     let q = ap (λ (x : rules.Head). rules.CONFIGURE x (parts (byte 27 f) 53 (drop 28 f))) (c .head-at .ensures) in
-    (configure-fits f (byte 27 f) h (omega arith) k e q, (k, h))
+    (configure-fits f (byte 27 f) h (omega arith) k e q, both-true (le-leb (byte 27 f) 8 k) (eq-eqb (length f) (28 + 53 * byte 27 f) h))
 
 pub read-configure-spec : {M : Type 1} → statement M
 read-configure-spec =

@@ -1,6 +1,6 @@
 -- Right because the byte *only* picks the test that the form of READ has for it. Assumes nothing.
 use native.Mathlib.Omega.{arith}
-use mathlib.Core.Path.{_≡_, sym, ap, _∙_}
+use mathlib.Core.Path.{_≡_, refl, sym, ap, _∙_}
 use Rattle.rules.specs.Bytes.{int}
 use Prim.Native.Nat.{ℕ}
 use lib.ListN.{length}
@@ -9,12 +9,13 @@ use borrow.Author.Tests.{not-true, not-false}
 use mathlib.Core.Logic.{⊎-elim}
 use lib.Dec.{eqb}
 use Rattle.frames.proofs.Readings.{keyFits, key-all, key-only, key-over, read-length, read-key, read-fits}
+use Rattle.frames.proofs.Standing.{key-stands}
 use borrow.Author.Needs.{needs}
 use Rattle.frames.proofs.read_read.Statement.{statement}
 use Rattle.frames.proofs.read_read.Tie as tie
 
 returns : tie.Need-returns
-returns c = (read-length (c .before .before .args .frame .now) _ (c .if1 .taken), tt)
+returns c = (read-length (c .before .before .args .frame .now) _ (c .if1 .taken), refl)
 
 shared-slice-read-only : tie.Need-shared-slice-read-only
 shared-slice-read-only c = search needs
@@ -50,7 +51,7 @@ key-fits c =
 returns-2 : tie.Need-returns-2
 returns-2 c =
     let f = c .before .before .before .before .before .before .args .frame .now in
-    (read-key f _ (sym (key-fits (c .before)) ∙ not-true _ (c .if2 .taken)), tt)
+    (read-key f _ (sym (key-fits (c .before)) ∙ not-true _ (c .if2 .taken)), refl)
 
 integer-requires-2 : tie.Need-integer-requires-2
 integer-requires-2 c κs = search needs
@@ -66,7 +67,7 @@ returns-3 c =
     let device : c .before .integer2 .result ≡ int 1 8 f = c .before .integer2 .ensures in
     let i = c .before .before .before .before .integer in
     let table : i .result ≡ int 10 4 f = i .ensures in
-    (read-fits f h e (cc), h)
+    (read-fits f h e (cc), key-stands f (i .result) h e table)
 
 pub read-read-spec : {M : Type 1} → statement M
 read-read-spec =

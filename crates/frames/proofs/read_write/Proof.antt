@@ -1,13 +1,14 @@
 -- Right because the tests are those of the form of WRITE; a frame under 29 bytes has no length of that form. Assumes nothing.
 use native.Mathlib.Omega.{arith}
-use mathlib.Core.Path.{_≡_, sym, ap, _∙_}
+use mathlib.Core.Path.{_≡_, refl, sym, ap, _∙_}
 use Rattle.rules.specs.Frame as rules
 use Rattle.rules.specs.Bytes.{byte, parts}
 use Prim.Native.Nat.{_+_, _*_, _≤_}
 use lib.ListN.{length, drop}
 use mathlib.Core.List.{map}
 use mathlib.Core.Bool.{true}
-use borrow.Author.Tests.{not-true, not-false}
+use borrow.Author.Tests.{not-true, not-false, le-leb, eq-eqb}
+use Rattle.rules.proofs.Tests.{both-true}
 use Rattle.frames.proofs.Readings.{write-length, write-many, write-flag, write-atomicity, write-fits}
 use borrow.Author.Needs.{needs}
 use Rattle.frames.proofs.read_write.Statement.{statement}
@@ -16,7 +17,7 @@ use Rattle.frames.proofs.read_write.Tie as tie
 returns : tie.Need-returns
 returns c =
     let f = c .before .before .args .frame .now in
-    (write-length f (byte 28 f) _ (λ (e : length f ≡ 29 + 221 * byte 28 f). omega arith), tt)
+    (write-length f (byte 28 f) _ (λ (e : length f ≡ 29 + 221 * byte 28 f). omega arith), refl)
 
 shared-slice-read-n : tie.Need-shared-slice-read-n
 shared-slice-read-n c = search needs
@@ -27,7 +28,7 @@ cast-n c = record { fits = omega (arith, c .shared-slice-known2 .given 28) }
 returns-2 : tie.Need-returns-2
 returns-2 c =
     let f = c .before .before .before .before .args .frame .now in
-    (write-many f (byte 28 f) _ (c .if2 .taken), tt)
+    (write-many f (byte 28 f) _ (c .if2 .taken), refl)
 
 mul-if3 : tie.Need-mul-if3
 mul-if3 c = search needs
@@ -38,7 +39,7 @@ add-if3 c = search needs
 returns-3 : tie.Need-returns-3
 returns-3 c =
     let f = c .before .before .before .before .before .args .frame .now in
-    (write-length f (byte 28 f) _ (c .if3 .taken), tt)
+    (write-length f (byte 28 f) _ (c .if3 .taken), refl)
 
 shared-slice-read-atomicity : tie.Need-shared-slice-read-atomicity
 shared-slice-read-atomicity c = search needs
@@ -46,7 +47,7 @@ shared-slice-read-atomicity c = search needs
 returns-4 : tie.Need-returns-4
 returns-4 c =
     let f = c .before .before .before .before .before .before .before .args .frame .now in
-    (write-atomicity f (byte 28 f) _ (c .if4 .taken), tt)
+    (write-atomicity f (byte 28 f) _ (c .if4 .taken), refl)
 
 flag-fits-requires : tie.Need-flag-fits-requires
 flag-fits-requires c κs = search needs
@@ -54,7 +55,7 @@ flag-fits-requires c κs = search needs
 returns-5 : tie.Need-returns-5
 returns-5 c =
     let f = c .before .before .before .before .before .before .before .before .before .args .frame .now in
-    (write-flag f (byte 28 f) _ (sym (c .before .flag-fits .ensures) ∙ not-true _ (c .if5 .taken)), tt)
+    (write-flag f (byte 28 f) _ (sym (c .before .flag-fits .ensures) ∙ not-true _ (c .if5 .taken)), refl)
 
 head-at-requires : tie.Need-head-at-requires
 head-at-requires c κs = search needs
@@ -68,7 +69,7 @@ returns-6 c =
     let e : rules.flagFits 1 f ≡ true = sym (c .before .before .flag-fits .ensures) ∙ not-false _ (c .before .if5 .left) in
     let us = map rules.updateOf (parts (byte 28 f) 221 (drop 29 f)) in
     let q = ap (λ (x : rules.Head). rules.WRITE x (byte 27 f) us) (c .head-at .ensures) in
-    (write-fits f (byte 28 f) h k e (omega arith) q, (k, h))
+    (write-fits f (byte 28 f) h k e (omega arith) q, both-true (le-leb (byte 28 f) 64 k) (eq-eqb (length f) (29 + 221 * byte 28 f) h))
 
 pub read-write-spec : {M : Type 1} → statement M
 read-write-spec =

@@ -7,7 +7,7 @@ use lib.ListN.{getD}
 use borrow.Author.Needs.{needs}
 use borrow.Author.Tests.{not-true, not-false, eq-eqb, ne-eqb, le-leb, lt-leb}
 use Rattle.rows.specs.Meaning.{actionPasses}
-use Rattle.rows.proofs.Allowed.{left-refused, left-passed, left-none, widthPasses, width-at, widthsLeft, action-asked}
+use Rattle.rows.proofs.OneRow.{left-refused, left-passed, left-none, widthPasses, width-at, widthsLeft, action-asked}
 use Rattle.rows.proofs.action_allowed.Statement.{statement}
 use Rattle.rows.proofs.action_allowed.Tie as tie
 

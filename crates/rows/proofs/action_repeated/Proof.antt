@@ -8,7 +8,7 @@ use borrow.Author.Needs.{needs}
 use borrow.Author.Tests.{eq-eqb, ne-eqb}
 use Rattle.rules.specs.Bytes.{some-of, int}
 use Rattle.rows.specs.Meaning.{actionIds}
-use Rattle.rows.proofs.Allowed.{ids-next, ids-none}
+use Rattle.rows.proofs.OneRow.{ids-next, ids-none}
 use Rattle.rows.proofs.action_repeated.Statement.{statement}
 use Rattle.rows.proofs.action_repeated.Tie as tie
 

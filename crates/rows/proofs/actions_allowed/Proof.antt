@@ -7,7 +7,7 @@ use lib.ListN.{getD}
 use borrow.Author.Needs.{needs}
 use borrow.Author.Tests.{not-true, not-false}
 use Rattle.rows.specs.Meaning.{actionPasses, actionsPass}
-use Rattle.rows.proofs.Allowed.{part-lent, count-none, count-over, count-fits, actions-refused, actions-asked, actionsLeft, action-refused, action-repeated, action-passed, actions-passed}
+use Rattle.rows.proofs.OneRow.{part-lent, count-none, count-over, count-fits, actions-refused, actions-asked, actionsLeft, action-refused, action-repeated, action-passed, actions-passed}
 use Rattle.rows.proofs.actions_allowed.Statement.{statement}
 use Rattle.rows.proofs.actions_allowed.Tie as tie
 

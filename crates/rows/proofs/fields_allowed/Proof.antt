@@ -8,7 +8,7 @@ use borrow.Author.Needs.{needs}
 use borrow.Author.Tests.{not-true, not-false}
 use Rattle.rules.specs.Row as rules
 use Rattle.rows.specs.Meaning.{fieldsPass}
-use Rattle.rows.proofs.Allowed.{left-refused, left-passed, left-none, count-none, count-over, count-fits, fieldPasses, fieldsLeft, fields-refused, fields-asked}
+use Rattle.rows.proofs.OneRow.{left-refused, left-passed, left-none, count-none, count-over, count-fits, fieldPasses, fieldsLeft, fields-refused, fields-asked}
 use Rattle.rows.proofs.fields_allowed.Statement.{statement}
 use Rattle.rows.proofs.fields_allowed.Tie as tie
 

@@ -6,7 +6,7 @@ use mathlib.Core.List.{List}
 use lib.ListN.{getD}
 use borrow.Author.Tests.{not-true, not-false, eq-eqb, ne-eqb, le-leb, lt-leb}
 use Rattle.rules.specs.Bytes.{int}
-use Rattle.rows.proofs.Allowed.{row-asked}
+use Rattle.rows.proofs.OneRow.{row-asked}
 use borrow.Author.Needs.{needs}
 use Rattle.rows.proofs.row_allowed.Statement.{statement}
 use Rattle.rows.proofs.row_allowed.Tie as tie

@@ -2,15 +2,14 @@
 use Prim.Native.Nat.{ℕ, _+_, _-_, _≤_}
 use native.Mathlib.Omega.{arith}
 use mathlib.Core.Path.{_≡_, ap, ap₂, _∙_}
-use mathlib.Core.Bool.{Bool, true, false, _&&_, _||_}
+use mathlib.Core.Bool.{Bool, _&&_, _||_}
 use lib.ListN.{length}
 use borrow.Author.Needs.{needs}
-use Rattle.rules.specs.Bytes.{if_then_else_}
 use Rattle.rules.specs.Streams.{heldElsewhere}
 use Rattle.arbitration.specs.Meaning.{idOf, streamsOf}
 use Rattle.rules.proofs.Lists.{length-mapped}
 use Rattle.arbitration.proofs.Records.{sized, sized-marks, read-at}
-use Rattle.arbitration.proofs.Surveys.{mark-read, Walked, walked-none, walked-next, walked-count, walked-clash, walked-first}
+use Rattle.arbitration.proofs.Surveys.{mark-read, at-most-one, Walked, walked-none, walked-next, walked-count, walked-clash, walked-first}
 use Rattle.arbitration.proofs.Streams.survey.Statement.{statement}
 use Rattle.arbitration.proofs.Streams.survey.Tie as tie
 
@@ -26,10 +25,6 @@ size c = search (needs, length-mapped)
 
 marks : (c : tie.At-loop Inv-loop μ-loop) → length (c .before .before .before .before .before .args .t1 .marks) ≡ 8
 marks c = search (needs, length-mapped)
-
-at-most-one : (b : Bool) → (if b then 1 else 0) ≤ 1
-at-most-one true = omega arith
-at-most-one false = omega arith
 
 cast-place : tie.Need-cast-place Inv-loop μ-loop
 cast-place c = search needs

@@ -16,7 +16,7 @@ use Rattle.arbitration.proofs.Streams.write_notifications.Tie as tie
 -- out holds one record, that of stream s of role r
 one-record : (e : Streams) (r s : ℕ) (d out : List ℕ) (p : Option ℕ) (m : ℕ) → p ≡ primary e r → m ≡ markOf e r
     → out ≡ splice d 0 (noticeOf p m r s) → out ≡ splice d 0 (concat (notification e r s ∷ []))
-one-record e r s d out p m f g w = w ∙ ap (splice d 0) (notice-is e r s f g ∙ sym (append-nil (notification e r s)))
+one-record e r s d out p m f g w = w ∙ ap (splice d 0) (notice-is e r f g s ∙ sym (append-nil (notification e r s)))
 
 enum-told : tie.Need-enum-told
 enum-told c = search needs

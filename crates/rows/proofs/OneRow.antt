@@ -2,20 +2,21 @@
 -- and the order of the tests changes nothing. Assumes nothing.
 use Prim.Native.Nat.{ℕ, _+_, _*_, _-_, _≤_, _<_}
 use native.Mathlib.Omega.{arith}
-use mathlib.Core.Path.{_≡_, refl}
-use mathlib.Core.Bool.{Bool, true, false, _&&_, and-assoc, and-comm, and-true, and-false}
+use mathlib.Core.Path.{_≡_, refl, sym, ap, _∙_}
+use mathlib.Core.Bool.{Bool, true, false, _&&_, and-assoc, and-comm, and-false}
 use mathlib.Core.List.{List, [], _∷_, map, map-map}
 use lib.Dec.{eqb, leb, lit≤}
 use lib.ListN.{length, take, drop, drop-of-length-le, length-map}
-use lib.Seq.{take-take, drop-drop}
+use lib.Seq.{drop-drop}
 use borrow.Author.Tests.{le-leb, lt-leb}
 use Rattle.rules.specs.Bytes.{between, every, some-of, distinct, byte, part, parts, int, allZero}
 use Rattle.rules.specs.Row as rules
 use Rattle.rules.proofs.Formed.{parts-count}
-use Rattle.rules.proofs.Lists.{every-map, drop-map, parts-from, part-part, byte-part, drop-take}
+use Rattle.rules.proofs.Lists.{every-map, parts-from, part-part, byte-part, drop-take}
 use Rattle.buffers.proofs.Words.{Bytes}
 use Rattle.numbers.proofs.Bytes.{int-none, int-next}
 use Rattle.rows.specs.Meaning.{fieldsPass, actionPasses, actionIds, actionsPass}
+use Rattle.rows.proofs.Bytes.{int-first, column-next, column-none, passOnce, once-refused, once-repeated, once-passed, once-ended}
 
 -- ---- parts of parts
 
@@ -33,7 +34,7 @@ and-left-comm true b c = refl
 and-left-comm false true c = refl
 and-left-comm false false c = refl
 
-every-both : {A : Type 0} (p q : A → Bool) (l : List A) → every (λ (x : A). p x && q x) l ≡ (every p l && every q l)
+pub every-both : {A : Type 0} (p q : A → Bool) (l : List A) → every (λ (x : A). p x && q x) l ≡ (every p l && every q l)
 every-both p q [] = refl
 every-both p q (x ∷ l) = rw (every-both p q l) (simp (and-assoc, and-left-comm))
 
@@ -128,62 +129,58 @@ action-asked a h k =
 
 -- ---- the actions
 
+abbrev actionId : List ℕ → ℕ
+actionId a = rules.actionOf a .id
+
+id-at : (i : ℕ) (b : List ℕ) → 9 * i + 9 ≤ 36 → int (17 + 9 * i) 4 b ≡ actionId (part (9 * i) 9 (rules.actionBytes b))
+unfolding rules.actionOf
+id-at i b h = rw (part-part 17 36 (9 * i) 9 b h, int-first (17 + 9 * i) 9 4 b (lit≤ tt))
+
 -- their ids, past the first i
 module _ (n i : ℕ) (b : List ℕ) where
   pub ids-next : i < n → n ≤ 4 → drop i (actionIds n b) ≡ int (17 + 9 * i) 4 b ∷ drop (i + 1) (actionIds n b)
-  unfolding actionIds rules.actionOf
-  ids-next h g =
-      let ps : List (List ℕ) = parts n 9 (rules.actionBytes b) in
-      let id : List ℕ → ℕ = λ a. rules.actionOf a .id in
-      rw (
-        drop-map id i ps,
-        drop-map id (i + 1) ps,
-        parts-from i n 9 (rules.actionBytes b) h,
-        part-part 17 36 (9 * i) 9 b (omega arith),
-        take-take 4 9 (drop (17 + 9 * i) b) (lit≤ tt),
-      )
+  unfolding actionIds
+  ids-next h g = rw (id-at i b (omega arith)) (column-next actionId n 9 i (rules.actionBytes b) h)
 
   pub ids-none : n ≤ i → drop i (actionIds n b) ≡ []
   unfolding actionIds
-  ids-none h =
-      let ps : List (List ℕ) = parts n 9 (rules.actionBytes b) in
-      let e : length (actionIds n b) ≡ length ps = length-map ps (λ (a : List ℕ). rules.actionOf a .id) in
-      drop-of-length-le (actionIds n b) {i = i} (omega (arith, parts-count n 9 (rules.actionBytes b)))
+  ids-none h = column-none actionId n 9 i (rules.actionBytes b) h
 
 -- of n actions, past the first i
 abbrev pub actionsLeft : ℕ → List ℕ → ℕ → Bool
-actionsLeft n b i = left actionPasses 9 17 36 n (9 * n) b i && distinct (drop i (actionIds n b))
+actionsLeft n b i = passOnce actionPasses actionId n 9 (rules.actionBytes b) i && allZero (drop (9 * n) (rules.actionBytes b))
 
 pub actions-refused : (b : List ℕ) → between 1 4 (rules.actionCount b) ≡ false → actionsPass b ≡ false
 unfolding actionsPass
 actions-refused b h = rw h
 
 pub actions-asked : (b : List ℕ) → between 1 4 (rules.actionCount b) ≡ true → actionsPass b ≡ actionsLeft (rules.actionCount b) b 0
-unfolding actionsPass
-actions-asked b h =
-    let n : ℕ = rules.actionCount b in
-    let l : List ℕ = rules.actionBytes b in
-    rw h (swap (every actionPasses (parts n 9 l)) (distinct (actionIds n b)) (allZero (drop (9 * n) l)))
-  where
-    swap : (x y z : Bool) → x && y && z ≡ x && z && y
-    swap x y z = simp (and-assoc, and-comm)
+unfolding actionsPass actionIds
+actions-asked b h = rw h
 
 -- once i actions have passed, the next one, whose test and whose id's search came out so
 module _ (n i : ℕ) (b : List ℕ) (h : i < n) (g : n ≤ 4) {t : Bool} (e : t ≡ actionPasses (part (17 + 9 * i) 9 b)) where
+  at-place : t ≡ actionPasses (part (9 * i) 9 (rules.actionBytes b))
+  at-place = e ∙ ap actionPasses (sym (part-part 17 36 (9 * i) 9 b (omega arith)))
+
   pub action-refused : t ≡ false → actionsLeft n b i ≡ false
-  action-refused q = rw (left-refused actionPasses 9 17 36 n (9 * n) b i h (omega arith) e q)
+  action-refused q = rw (once-refused actionPasses actionId n 9 (rules.actionBytes b) i h at-place q)
 
   module _ {id : ℕ} {r : Bool} (f : id ≡ int (17 + 9 * i) 4 b) (d : r ≡ some-of (eqb id) (drop (i + 1) (actionIds n b))) where
     pub action-repeated : r ≡ true → actionsLeft n b i ≡ false
-    action-repeated q = rw (ids-next n i b h g, ← f, ← d, q) (and-false (left actionPasses 9 17 36 n (9 * n) b i))
+    unfolding actionIds
+    action-repeated q =
+        rw (once-repeated actionPasses actionId n 9 (rules.actionBytes b) i h at-place (f ∙ id-at i b (omega arith)) d q)
 
     pub action-passed : t ≡ true → r ≡ false → actionsLeft n b i ≡ actionsLeft n b (i + 1)
-    action-passed p q = rw (left-passed actionPasses 9 17 36 n (9 * n) b i h (omega arith) e p, ids-next n i b h g, ← f, ← d, q)
+    unfolding actionIds
+    action-passed p q =
+        rw (once-passed actionPasses actionId n 9 (rules.actionBytes b) i h at-place (f ∙ id-at i b (omega arith)) d p q)
 
 pub actions-passed : (n i : ℕ) (b : List ℕ) → n ≤ i → actionsLeft n b i ≡ allZero (part (17 + 9 * n) (53 - (17 + 9 * n)) b)
 actions-passed n i b h =
-    let e = left-none actionPasses 9 17 36 n (9 * n) b i 53 h refl in
-    rw (e, ids-none n i b h) (and-true (allZero (part (17 + 9 * n) (53 - (17 + 9 * n)) b)))
+    let r : 36 - 9 * n ≡ 53 - (17 + 9 * n) = omega arith in
+    rw (once-ended actionPasses actionId n 9 (rules.actionBytes b) i h, drop-part (9 * n) 17 36 b, r)
 
 -- ---- a row
 

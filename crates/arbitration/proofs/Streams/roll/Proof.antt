@@ -1,0 +1,159 @@
+-- Right because what the walk has listed and found, with what is left of the streams, is what the whole record shows. Assumes nothing.
+use Prim.Native.Nat.{ℕ, _+_, _-_, _≤_}
+use native.Mathlib.Omega.{arith}
+use mathlib.Core.Path.{_≡_, sym, ap, _∙_}
+use lib.ListN.{length, length-set}
+use lib.Seq.{length-take-le}
+use borrow.Author.Needs.{needs}
+use Rattle.rules.specs.Streams.{inRole, holds, primary}
+use Rattle.arbitration.specs.Meaning.{idOf, streamsOf}
+use Rattle.rules.proofs.Lists.{length-mapped}
+use Rattle.arbitration.proofs.Listing.{Listed, listed-none, listed-next, listed-all}
+use Rattle.arbitration.proofs.Surveys.{mark-read, at-most-one, First, first-none, first-next, first-all}
+use Rattle.arbitration.proofs.Streams.roll.Statement.{statement}
+use Rattle.arbitration.proofs.Streams.roll.Tie as tie
+
+abbrev Inv-loop : tie.InvT-loop
+Inv-loop role members₀ self place mark count₀ holder₀ k₀ members count holder k =
+    (k ≤ 32)
+    × (count ≤ k)
+    × (length members ≡ 32)
+    × Listed (inRole role) (streamsOf self) members count k
+    × First (holds role (idOf mark)) (streamsOf self) holder k
+
+abbrev μ-loop : tie.MeasureT-loop
+μ-loop role members₀ self place mark count₀ holder₀ k₀ members count holder k = 32 - k
+
+size : (c : tie.At-loop Inv-loop μ-loop) → length (c .before .before .before .before .args .t1 .streams) ≡ 32
+size c = search (needs, length-mapped)
+
+marks : (c : tie.At-loop Inv-loop μ-loop) → length (c .before .before .before .before .args .t1 .marks) ≡ 8
+marks c = search (needs, length-mapped)
+
+cast-place : tie.Need-cast-place Inv-loop μ-loop
+cast-place c = search needs
+
+mul-read : tie.Need-mul-read Inv-loop μ-loop
+mul-read c = search needs
+
+element-copy-out-read : tie.Need-element-copy-out-read Inv-loop μ-loop
+element-copy-out-read c = search needs
+
+mark-of-requires : tie.Need-mark-of-requires Inv-loop μ-loop
+mark-of-requires c κs = search needs
+
+loop-holds : tie.Need-loop-holds Inv-loop μ-loop
+loop-holds c =
+    let a = c .before .before .before .args in
+    let e = streamsOf (a .t1) in (
+      omega arith,
+      omega arith,
+      c .before .before .before .pre,
+      listed-none (inRole (a .role)) e (a .members .now),
+      first-none (holds (a .role) (idOf (c .mark-of .result))) e,
+    )
+
+mul-s : tie.Need-mul-s Inv-loop μ-loop
+mul-s c = search needs
+
+element-copy-out-s : tie.Need-element-copy-out-s Inv-loop μ-loop
+element-copy-out-s c = search needs
+
+binding-requires : tie.Need-binding-requires Inv-loop μ-loop
+binding-requires c κs = search needs
+
+cast-members : tie.Need-cast-members Inv-loop μ-loop
+cast-members c = search needs
+
+slice-write-members : tie.Need-slice-write-members Inv-loop μ-loop
+slice-write-members c = search needs
+
+in-role-requires : tie.Need-in-role-requires Inv-loop μ-loop
+in-role-requires c κs = search needs
+
+one-requires : tie.Need-one-requires Inv-loop μ-loop
+one-requires c κs = search needs
+
+add-count : tie.Need-add-count Inv-loop μ-loop
+add-count c = let h = at-most-one (c .before .in-role .result) in omega (arith, c .one .ensures, h)
+
+holds-requires : tie.Need-holds-requires Inv-loop μ-loop
+holds-requires c κs = search needs
+
+first-requires : tie.Need-first-requires Inv-loop μ-loop
+first-requires c κs = search needs
+
+add-k : tie.Need-add-k Inv-loop μ-loop
+add-k c = search needs
+
+loop-less : tie.Need-loop-less Inv-loop μ-loop
+loop-less c = search needs
+
+loop-again : tie.Need-loop-again Inv-loop μ-loop
+loop-again c =
+    let o = c .before .before in
+    let r = o .before in
+    let b = r .before in
+    let t = b .before .before in
+    let d = t .before in
+    let a = d .before .before .before .before .args in
+    let h = at-most-one (r .in-role .result) in
+    let l = d .loop .members in
+    let m = ap (λ (z : ℕ). d .loop .count + z) (o .one .ensures) in
+    let i = d .loop .inv in (
+      omega arith,
+      omega (arith, o .one .ensures, h),
+      length-set l (d .loop .count) (d .loop .k) ∙ i .2,
+      listed-next (a .t1) (size d) (i .3) (t .loop-test .taken) (omega arith) (b .binding .ensures) (r .in-role .ensures) m,
+      first-next (a .t1) (size d) (i .4) (t .loop-test .taken) (b .binding .ensures) (c .before .holds .ensures) (c .first .ensures),
+    )
+
+primary-at-requires : tie.Need-primary-at-requires Inv-loop μ-loop
+primary-at-requires c κs = search needs
+
+same-length : tie.Need-same-length Inv-loop μ-loop
+same-length c = search needs
+
+returns : tie.Need-returns Inv-loop μ-loop
+unfolding primary
+returns c =
+    let e = c .before in
+    let d = e .before in
+    let g = d .before in
+    let a = g .before .before .before .args in
+    let i = d .loop .inv in
+    let h = e .loop-test .left in
+    let m = g .mark-of .ensures ∙ mark-read (a .t1) (marks d) (a .role) in
+    let l = listed-all (a .t1) (size d) (i .3) h in
+    let f = first-all (a .t1) (size d) (i .4) h in (
+      sym (length-take-le (d .loop .count) (d .loop .members) (omega arith)) ∙ ap length l,
+      (l, (rw (← m, ← f) (c .primary-at .ensures), m)),
+    )
+
+pub roll-spec : {M : Type 1} → statement M
+roll-spec =
+    tie.close
+    (tie.spec
+    Inv-loop
+    μ-loop
+    cast-place
+    mul-read
+    element-copy-out-read
+    mark-of-requires
+    loop-holds
+    mul-s
+    element-copy-out-s
+    binding-requires
+    cast-members
+    slice-write-members
+    in-role-requires
+    one-requires
+    add-count
+    holds-requires
+    first-requires
+    add-k
+    loop-less
+    loop-again
+    primary-at-requires
+    same-length
+    returns)
