@@ -439,13 +439,7 @@ fn obey(agent: Agent, command: Command, frame: &[u8], store: &mut [u8], answer: 
 
 // A call that is a WRITE or a READ, or no frame at all: 2 is tested first, and nothing is written; then 1. `asked` is what the frame
 // was read as: it is read before the record is copied, so that a refusal copies no more of it than it looks at.
-pub fn serve(
-    agent: Agent,
-    asked: Frame,
-    frame: &[u8],
-    store: &mut [u8],
-    answer: &mut [u8],
-) -> Wrote
+pub fn serve(agent: Agent, asked: Frame, frame: &[u8], store: &mut [u8], answer: &mut [u8]) -> Wrote
     ensures { λ r. ⌜ Serves agent asked (now (frame .entry)) (now (store .entry)) (now (answer .entry)) r (now (store .exit)) (now (answer .exit)) ⌝ }
 {
     let count = agent.count;

@@ -7,7 +7,7 @@ use mathlib.Core.Bool.{Bool, true, false, _&&_, not}
 use mathlib.Core.List.{List, [], _∷_, map}
 use lib.Dec.{eqb, ltb}
 use lib.ListN.{length, drop, getD}
-use borrow.Author.Tests.{ne-eqb, ltb-true}
+use borrow.Author.Tests.{ne-eqb}
 use Rattle.rules.specs.Bytes.{if_then_else_, every, concat, part, number, int}
 use Rattle.rules.specs.Frame.{Update, updateOf}
 use Rattle.rules.specs.Row.{Row, known, rowFor}
@@ -17,12 +17,13 @@ use Rattle.rules.specs.Call.{pairOf}
 use Rattle.rules.proofs.Lists.{part-part}
 use Rattle.rows.specs.declared.Rows.{Rows}
 use Rattle.rows.specs.Meaning.{rowOf, rowsOf, rowAt}
-use Rattle.rows.proofs.Counted.{blank, row-at}
+use Rattle.rows.proofs.Counted.{blank}
 use Rattle.buffers.specs.Splice.{splice}
 use Rattle.buffers.proofs.Written.{Written as Pairs, written-none, written-next, written-all}
 use Rattle.entries.specs.Store.{tablesIn}
 use Rattle.entry_store.specs.Update.{Tidy, FoundIn, Applied, BatchApplied}
 use Rattle.entry_store.specs.declared.Updated.{Updated}
+use Rattle.entry_store.proofs.Judging.{row-there}
 use Rattle.entry_store.proofs.Updates.{applied-tidy}
 
 -- ---- the flag
@@ -54,9 +55,7 @@ pub row-found : (c : Rows) (us : List ℕ) (i at : ℕ) {table : ℕ} → table 
     → FoundIn (ltb at 8) (rowOf (getD (c .rows) (at % 8) blank)) (rowsOf c) (updateOf (part (221 * i) 221 us))
 row-found c us i at {table} t k r = (
   k ∙ ap (λ (n : ℕ). known n (rowsOf c)) its,
-  λ h.
-      let here : at % 8 ≡ at = omega (arith, ltb-true at 8 h) in
-      ap (λ (n : ℕ). rowOf (getD (c .rows) n blank)) here ∙ sym (row-at c at) ∙ r ∙ ap (λ (n : ℕ). rowFor n (rowsOf c)) its,
+  λ h. row-there c at h ∙ r ∙ ap (λ (n : ℕ). rowFor n (rowsOf c)) its,
 )
   where
     its : table ≡ tableOf (updateOf (part (221 * i) 221 us) .entry)

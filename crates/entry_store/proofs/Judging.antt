@@ -1,13 +1,13 @@
 -- Why an update is refused, read off in the order in which the tests are made: those of the entry stand between those of its
 -- table and those of its place. Assumes nothing.
-use Prim.Native.Nat.{ℕ, _-_, _≤_, _<_}
+use Prim.Native.Nat.{ℕ, _-_, _%_, _≤_, _<_}
 use native.Mathlib.Omega.{arith}
 use mathlib.Core.Path.{_≡_, refl, sym, ap, _∙_}
 use mathlib.Core.Bool.{Bool, true, false, _&&_, not}
 use mathlib.Core.List.{List, [], _∷_}
-use lib.Dec.{eqb}
-use lib.ListN.{length, take, drop}
-use borrow.Author.Tests.{le-leb, lt-leb, ne-eqb}
+use lib.Dec.{eqb, ltb}
+use lib.ListN.{length, take, drop, getD}
+use borrow.Author.Tests.{le-leb, lt-leb, ne-eqb, ltb-true}
 use Rattle.rules.specs.Bytes.{if_then_else_, between, byte, part, parts, int}
 use Rattle.rules.specs.Reason.{first}
 use Rattle.rules.specs.Frame.{updateOf}
@@ -16,9 +16,20 @@ use Rattle.rules.specs.Key.{slots, slotFormed, slotFits, slotRule, alongside, a
 use Rattle.rules.specs.Entry.{actionFormed, actionFits}
 use Rattle.rules.specs.Update.{Tables, judge}
 use Rattle.rules.proofs.Lists.{parts-lent}
+use Rattle.rows.specs.declared.Rows.{Rows}
+use Rattle.rows.specs.Meaning.{rowOf, rowAt}
+use Rattle.rows.proofs.Counted.{blank, row-at}
 use Rattle.values.proofs.Digits.{rest-all}
 use Rattle.entry_store.specs.declared.Verdict.{Verdict}
 use Rattle.entry_store.specs.Update.{entryReason, placeReason, reasonOf, Meant, FoundIn}
+
+-- ---- the row of a table
+
+-- what the code reads at a place that was found is the row there
+pub row-there : (c : Rows) (at : ℕ) → ltb at 8 ≡ true → rowOf (getD (c .rows) (at % 8) blank) ≡ rowAt c at
+row-there c at h =
+    let here : at % 8 ≡ at = omega (arith, ltb-true at 8 h) in
+    ap (λ (n : ℕ). rowOf (getD (c .rows) n blank)) here ∙ sym (row-at c at)
 
 -- ---- what is lent
 

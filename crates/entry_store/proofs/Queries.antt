@@ -1,13 +1,13 @@
 -- Why a READ is refused by the rows, and its key: what stands after `only` is the key behind its table. Assumes nothing.
-use Prim.Native.Nat.{ℕ, _+_, _*_, _≤_}
+use Prim.Native.Nat.{ℕ, _+_, _*_, _%_, _≤_}
 use native.Mathlib.Omega.{arith}
 use mathlib.Core.Path.{_≡_, refl, sym, ap, ap₂, _∙_}
 use mathlib.Core.Bool.{Bool, true, false, _&&_, not}
 use mathlib.Core.List.{List, [], _∷_}
-use lib.Dec.{eqb}
-use lib.ListN.{length, take, drop, length-append}
+use lib.Dec.{eqb, ltb}
+use lib.ListN.{length, take, drop, getD, length-append}
 use lib.Seq.{take-all, drop-append-add}
-use borrow.Author.Tests.{ne-eqb}
+use borrow.Author.Tests.{ne-eqb, ltb-false}
 use Rattle.rules.specs.Bytes.{if_then_else_, keep, concat, part, parts, int, number}
 use Rattle.rules.specs.Reason.{first}
 use Rattle.rules.specs.Row.{Row, known, rowFor, mayWrite}
@@ -17,11 +17,15 @@ use Rattle.rules.proofs.Lists.{part-part}
 use Rattle.rules.proofs.Formed.{parts-count}
 use Rattle.rules.proofs.Tables.{keep-fewer}
 use Rattle.rules.proofs.Shortest.{part-length}
+use Rattle.rows.specs.declared.Row.{Row as RowRead}
+use Rattle.rows.specs.declared.Rows.{Rows}
+use Rattle.rows.specs.Meaning.{rowOf, rowsOf, rowAt}
+use Rattle.rows.proofs.Counted.{blank, row-past}
 use Rattle.buffers.specs.Splice.{splice}
 use Rattle.entries.specs.Store.{entriesIn, tablesIn}
 use Rattle.entry_store.specs.Update.{Tidy}
 use Rattle.entry_store.specs.Read.{keyIn, keyReason, tableReason, queryReason, readIn, Reads}
-use Rattle.entry_store.proofs.Judging.{key-formed-lent, key-fits-lent, key-rules-lent}
+use Rattle.entry_store.proofs.Judging.{row-there, key-formed-lent, key-fits-lent, key-rules-lent}
 
 -- ---- the key
 
@@ -61,22 +65,69 @@ module _ (row : Row) (b : List ℕ) (l : length b ≡ 149) where
   unfolding keyReason
   key-judged f g h p q r = rw (p, q, r, ← formed, ← fits, ← ruled)
 
+-- 17 to 19 look at the row's fields alone
+key-by-fields : (row other : Row) (k : List ℕ) → row .fields ≡ other .fields → keyReason row k ≡ keyReason other k
+unfolding keyReason keyFormed keyFits keyRules
+key-by-fields row other k e = rw e
+
+-- ---- the row that a READ is judged by
+
+-- the table's, where it is known; and with the fields of the table's row, which has none where it is not
+abbrev pub Judges : Bool → Row → ℕ → List Row → Type 0
+Judges found row table rows =
+    (found ≡ known table rows) × (found ≡ true → row ≡ rowFor table rows) × (row .fields ≡ rowFor table rows .fields)
+
+-- the row that the code read, with that many fields
+abbrev pub counted : RowRead → ℕ → RowRead
+counted row n = record {
+  table = row .table;
+  size = row .size;
+  owner = row .owner;
+  «field_count» = n;
+  fields = row .fields;
+  actions = row .actions;
+  «action_count» = row .«action_count»;
+}
+
+-- the row read at the place that was found; it is left no fields where that is past the eighth
+pub row-judging : (c : Rows) (at table : ℕ) {n : ℕ} → length (c .rows) ≡ 8 → ltb at 8 ≡ known table (rowsOf c)
+    → rowAt c at ≡ rowFor table (rowsOf c) → n ≡ (if ltb at 8 then getD (c .rows) (at % 8) blank .«field_count» else 0)
+    → Judges (ltb at 8) (rowOf (counted (getD (c .rows) (at % 8) blank) n)) table (rowsOf c)
+unfolding rowOf
+row-judging c at table {n} l k r e = (k, its, fields (ltb at 8) refl)
+  where
+    row : RowRead
+    row = getD (c .rows) (at % 8) blank
+
+    its : ltb at 8 ≡ true → rowOf (counted row n) ≡ rowFor table (rowsOf c)
+    its h =
+        let all : n ≡ row .«field_count» = e ∙ (rw h) in
+        ap (λ (m : ℕ). rowOf (counted row m)) all ∙ row-there c at h ∙ r
+
+    fields : (b : Bool) → ltb at 8 ≡ b → rowOf (counted row n) .fields ≡ rowFor table (rowsOf c) .fields
+    fields true h = ap (λ (x : Row). x .fields) (its h)
+    fields false h =
+        let none : n ≡ 0 = e ∙ (rw h) in
+        ap (λ (m : ℕ). rowOf (counted row m) .fields) none
+        ∙ ap (λ (x : Row). x .fields) (sym (row-past c at l (ltb-false at 8 h)) ∙ r)
+
 -- ---- the order
 
-by-table : (z k w : Bool) → (if z then 0 else if k then if w then 0 else 16 else 15)
-    ≡ first ((not z && not k, 15) ∷ (not z && not w, 16) ∷ [])
+by-table : (z k w v : Bool) → (k ≡ true → w ≡ v) → (if z then 0 else if k then if w then 0 else 16 else 15)
+    ≡ first ((not z && not k, 15) ∷ (not z && not v, 16) ∷ [])
 unfolding first
-by-table true k w = refl
-by-table false false w = refl
-by-table false true false = refl
-by-table false true true = refl
+by-table true k w v e = refl
+by-table false false w v e = refl
+by-table false true w false e = rw (e refl)
+by-table false true w true e = rw (e refl)
 
--- where the table was found so, and this refuses it
-module _ (rows : List Row) (role table only : ℕ) (k : List ℕ) {found : Bool} {row : Row} {r : ℕ}
-    (f : found ≡ known table rows) (w : row ≡ rowFor table rows)
+-- where this was found of the table and of whether it bars the READ
+module _ (rows : List Row) (role table only : ℕ) (k : List ℕ) {found : Bool} {row : Row} {r : ℕ} (j : Judges found row table rows)
     (b : r ≡ (if eqb table 0 then 0 else if found then if mayWrite role row then 0 else 16 else 15)) where
   barred : r ≡ tableReason rows role table
-  barred = b ∙ (rw (f, w) (by-table (eqb table 0) (known table rows) (mayWrite role (rowFor table rows))))
+  barred =
+      b ∙ (rw (← j .0)
+      (by-table (eqb table 0) found (mayWrite role row) (mayWrite role (rowFor table rows)) (λ h. ap (mayWrite role) (j .1 h))))
 
   pub by-rows : (r ≡ 0 → ⊥) → r ≡ queryReason rows role table only k
   unfolding queryReason
@@ -92,7 +143,7 @@ module _ (rows : List Row) (role table only : ℕ) (k : List ℕ) {found : Bool}
 
     pub by-key : {x : ℕ} → only ≡ 1 → x ≡ keyReason row k → x ≡ queryReason rows role table only k
     unfolding queryReason
-    by-key o e = e ∙ (rw (passed, o, w))
+    by-key o e = e ∙ (rw (passed, o) (key-by-fields row (rowFor table rows) k (j .2)))
 
 -- ---- the records
 

@@ -382,38 +382,51 @@ fn key_reason(row: Row, query: &[u8]) -> u8
     in_order(formed, fits, ruled)
 }
 
-// 15 and 16 of a READ, where its table was found so; table 0 names none.
-fn table_reason(found: rows::Found, role: u8, table: u64) -> u8
-    ensures { λ r. ⌜ r ≡ (if eqb table 0 then 0 else if found .known then if mayWrite role (rowOf (found .row)) then 0 else 16 else 15) ⌝ }
+// 15 and 16 of a READ, by whether its table is known and by its row; table 0 names none.
+fn table_reason(known: bool, row: Row, role: u8, table: u64) -> u8
+    ensures { λ r. ⌜ r ≡ (if eqb table 0 then 0 else if «known» then if mayWrite role (rowOf row) then 0 else 16 else 15) ⌝ }
 {
     if table == 0 {
         return 0;
     }
-    if !found.known {
+    if !known {
         return 15;
     }
-    let row = found.row;
     if row.may_write(role) {
         return 0;
     }
     16
 }
 
+// How many fields a key is checked by: a table that is not known has none.
+fn fields_known(known: bool, count: u8) -> u8
+    ensures { λ r. ⌜ r ≡ (if «known» then count else 0) ⌝ }
+{
+    if known {
+        return count;
+    }
+    0
+}
+
 // Why a READ is refused by the rows: 15 and 16 of a named table and, with only 1, 17 to 19 of its key. The query stands in 149
-// bytes from its table on.
+// bytes from its table on. The row is copied once, and loses its fields where it is not the table's.
 pub fn query_reason(rows: Rows, role: u8, table: u64, only: u8, query: &[u8]) -> u8
     requires { ⌜ length (now query) ≡ 149 ⌝ }
     ensures { λ r. ⌜ r ≡ queryReason (rowsOf rows) role table only (keyIn (now (query .entry))) ⌝ }
 {
-    let found = rows.find(table);
-    let barred = table_reason(found, role, table);
+    let place = rows.position(table);
+    let at = place % 8;
+    let mut row = rows.rows[at];
+    let count = row.field_count;
+    row.field_count = fields_known(place < 8, count);
+    let barred = table_reason(place < 8, row, role, table);
     if barred != 0 {
         return barred;
     }
     if only != 1 {
         return 0;
     }
-    key_reason(found.row, query)
+    key_reason(row, query)
 }
 
 // Copies the key of a READ to the start of key: its table, and what follows `only`.

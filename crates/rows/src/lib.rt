@@ -45,12 +45,6 @@ pub struct Rows {
     pub count: u8,
 }
 
-// A table's row, if it is known; an empty row where it is not.
-pub struct Found {
-    pub known: bool,
-    pub row: Row,
-}
-
 impl Field {
     const NONE: Field = Field { kind: 0, width: 0 };
 
@@ -382,21 +376,5 @@ impl Rows {
             i += 1;
         }
         8
-    }
-
-    // The row of a table, if it is known.
-    pub fn find(self, table: u64) -> Found
-        ensures known { λ r. ⌜ r .known ≡ rules.known table (rowsOf self) ⌝ }
-        ensures row { λ r. ⌜ rowOf (r .row) ≡ rules.rowFor table (rowsOf self) ⌝ }
-    {
-        let i = self.position(table);
-        if i < 8 {
-            let row = self.rows[i];
-            return Found { known: true, row };
-        }
-        Found {
-            known: false,
-            row: Row::NONE,
-        }
     }
 }
