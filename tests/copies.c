@@ -182,7 +182,7 @@ static void events(void) {
     row("OPEN of an open stream", 3, event(1, 1), 9, 10904);
     row("CLOSE of an unbound stream", 0, event(2, 1), 9, 10904);
     row("CLOSE of a closed stream", 4, event(2, 1), 9, 10904);
-    row("ARBITRATE of a closed stream", 4, arbitrate(1, 1, 0, 5), 9, 10904);
+    row("ARBITRATE of a closed stream", 4, arbitrate(1, 1, 0, 5), 10, 9992);
     call(event(1, 1));
     row("ARBITRATE, the first", 0, arbitrate(1, 1, 0, 5), 12, 11784);
     row("ARBITRATE, repeated id", 0, arbitrate(1, 1, 0, 5), 11, 10888);
@@ -211,8 +211,8 @@ static void refused_events(void) {
     }
     call(event(1, 9));
     row("ARBITRATE, unbound, the ninth", 9, arbitrate(9, 1, 0, 4), 10, 9992);
-    row("ARBITRATE of a backup, other role", 7, arbitrate(8, 1, 1, 4), 10, 9992);
-    row("ARBITRATE of a backup, id in use", 8, arbitrate(7, 1, 0, 7), 10, 9992);
+    row("ARBITRATE of a backup, other role", 7, arbitrate(8, 1, 1, 4), 11, 10888);
+    row("ARBITRATE of a backup, id in use", 8, arbitrate(7, 1, 0, 7), 11, 10888);
     for (uint8_t s = 3; s <= 6; s++) {
         call(event(2, s));
     }
@@ -241,27 +241,27 @@ static void commands(void) {
     bind(1, 9);
     call(event(1, 3));
     call(arbitrate(3, 1, 1, 1));
-    row("WRITE, not configured", 12, write(1, 0, 9, 0, 1, 1), 10, 9608);
+    row("WRITE, not configured", 12, write(1, 0, 9, 0, 1, 1), 11, 10504);
     row("READ, not configured", 12, read(1, 0, 0), 6, 8712);
-    row("CONFIGURE, other device", 5, configure(9, 0, 9), 10, 9620);
+    row("CONFIGURE, other device", 5, configure(9, 0, 9), 11, 10516);
     row("CONFIGURE, role 8", 6, configure(1, 8, 9), 10, 9620);
-    row("CONFIGURE by role 1", 11, configure(1, 1, 1), 10, 9620);
+    row("CONFIGURE by role 1", 11, configure(1, 1, 1), 11, 10516);
     row("CONFIGURE, not the mark", 10, configure(1, 0, 4), 10, 9620);
     row("CONFIGURE, rows not allowed", 14, but(configure(1, 0, 9), 28, 3), 10, 9620);
     row("CONFIGURE of one row", 0, configure(1, 0, 9), 12, 10708);
-    row("WRITE, other device", 5, write(9, 0, 9, 0, 1, 1), 10, 9608);
+    row("WRITE, other device", 5, write(9, 0, 9, 0, 1, 1), 11, 10504);
     row("WRITE, role 8", 6, write(1, 8, 9, 0, 1, 1), 10, 9608);
     row("WRITE, not the mark", 10, write(1, 0, 4, 0, 1, 1), 10, 9608);
-    row("WRITE, atomicity 1", 13, write(1, 0, 9, 1, 1, 1), 10, 9608);
+    row("WRITE, atomicity 1", 13, write(1, 0, 9, 1, 1, 1), 11, 10504);
     row("WRITE of no update", 0, write(1, 0, 9, 0, 1, 0), 10, 9608);
     row("WRITE of 1 INSERT", 0, write(1, 0, 9, 0, 1, 1), 10, 9608);
     row("WRITE of 64 INSERTs, one refused", 23, write(1, 0, 9, 0, 1, 64), 10, 9608);
     row("READ, other device", 5, read(9, 0, 0), 6, 8712);
     row("READ, role 8", 6, read(1, 8, 0), 6, 8712);
-    row("READ, unknown table", 15, read(1, 0, 2), 7, 8360);
-    row("READ, table of another role", 16, read(1, 2, 1), 7, 8360);
-    row("READ, key not of the kind", 17, but(read(1, 0, 1), 19, 2), 7, 8360);
-    row("READ, key with a priority", 19, but(read(1, 0, 1), 18, 1), 7, 8360);
+    row("READ, unknown table", 15, read(1, 0, 2), 6, 7816);
+    row("READ, table of another role", 16, read(1, 2, 1), 6, 7816);
+    row("READ, key not of the kind", 17, but(read(1, 0, 1), 19, 2), 6, 7816);
+    row("READ, key with a priority", 19, but(read(1, 0, 1), 18, 1), 6, 7816);
     row("READ of all", 0, read(1, 0, 0), 7, 8360);
     row("READ of one key", 0, read(1, 0, 1), 7, 7960);
 }

@@ -98,12 +98,11 @@ loop-again c =
     let d = t .before in
     let a = d .before .before .before .before .args in
     let h = at-most-one (r .in-role .result) in
-    let l = d .loop .members in
     let m = ap (λ (z : ℕ). d .loop .count + z) (o .one .ensures) in
     let i = d .loop .inv in (
       omega arith,
       omega (arith, o .one .ensures, h),
-      length-set l (d .loop .count) (d .loop .k) ∙ i .2,
+      simp length-set (i .2),
       listed-next (a .t1) (size d) (i .3) (t .loop-test .taken) (omega arith) (b .binding .ensures) (r .in-role .ensures) m,
       first-next (a .t1) (size d) (i .4) (t .loop-test .taken) (b .binding .ensures) (c .before .holds .ensures) (c .first .ensures),
     )
