@@ -30,16 +30,16 @@ use Rattle.agent.specs.Handlers.{queryIn, Named, Obeys}
 
 -- ---- 2 is tested first
 
-module _ (room space : ℕ) (x : Command) where
-  pub too-short : (space < 57_344) ⊎ (room < 56_320) → (if roomy room space then x else cramped) ≡ cramped
+module _ {A : Type 0} (room space : ℕ) (x y : A) where
+  pub too-short : (space < 57_344) ⊎ (room < 56_320) → (if roomy room space then x else y) ≡ y
   too-short (inl h) = rw (lt-leb 57_344 space h)
   too-short (inr h) = rw (lt-leb 56_320 room h) (none (leb 57_344 space))
     where
-      none : (b : Bool) → (if b && false then x else cramped) ≡ cramped
+      none : (b : Bool) → (if b && false then x else y) ≡ y
       none true = refl
       none false = refl
 
-  pub long-enough : 57_344 ≤ space → 56_320 ≤ room → (if roomy room space then x else cramped) ≡ x
+  pub long-enough : 57_344 ≤ space → 56_320 ≤ room → (if roomy room space then x else y) ≡ x
   long-enough h k = rw (le-leb 57_344 space h, le-leb 56_320 room k)
 
 -- no list of calls leaves a count over 256
@@ -58,7 +58,7 @@ module _ (a : Agent) (frame store d : List ℕ) where
 
   pub is-cramped : (length d < 57_344) ⊎ (length store < 56_320) → asked frame store d ≡ cramped
   unfolding commandOf
-  is-cramped = too-short (length store) (length d) (readFrame frame)
+  is-cramped = too-short (length store) (length d) (readFrame frame) cramped
 
   pub nothing-done : Obeyed a cramped store d (record { agent = a; reason = 2 }) store d
   unfolding next nextControl nextTables reply replyOf answer
@@ -69,7 +69,7 @@ module _ (a : Agent) (frame store d : List ℕ) where
   module _ (wide : 57_344 ≤ length d) (enough : 56_320 ≤ length store) where
     pub is-read : asked frame store d ≡ readFrame frame
     unfolding commandOf
-    is-read = long-enough (length store) (length d) (readFrame frame) wide enough
+    is-read = long-enough (length store) (length d) (readFrame frame) cramped wide enough
 
     pub met : (c : Command) (r : Called) (store′ out : List ℕ) → readFrame frame ≡ c → Obeys a c store d r store′ out
         → Meets a frame store d r store′ out

@@ -1,67 +1,64 @@
--- From what each part of a call leaves to what the call leaves: by its command byte a frame reads as a command of that part, or is
--- malformed. Assumes nothing.
-use Prim.Native.Nat.{ℕ, zero, suc, _<_, _≤_}
+-- From what each part of a call leaves to what the call leaves: a frame that reads as a command of that part asks for what the part
+-- obeys. Assumes nothing.
+use Prim.Native.Nat.{ℕ, _<_, _≤_}
 use native.Mathlib.Omega.{arith}
 use mathlib.Core.Path.{_≡_, refl, sym, ap, _∙_, subst}
-use mathlib.Core.Bool.{Bool, true, false, _&&_, true≢false}
+use mathlib.Core.Bool.{Bool, true, false, false≢true}
 use mathlib.Core.Logic.{_⊎_, inl, inr}
-use mathlib.Core.List.{List, [], _∷_}
+use mathlib.Core.List.{List, []}
 use lib.Dec.{eqb, leb, ltb}
 use lib.ListN.{length}
-use borrow.Author.Tests.{leb-true, leb-false, le-ltb, eqb-true, ne-eqb}
-use Rattle.rules.specs.Bytes.{if_then_else_, byte}
-use Rattle.rules.specs.Frame.{Command, cramped, malformed, OPEN, CLOSE, ARBITRATE, CONFIGURE, WRITE, READ, headAt, streamFormed, arbitrateFormed, configureFormed, writeFormed, readFormed, formed, byCommand, queryOf, configureOf, writeOf, readFrame}
+use borrow.Author.Tests.{leb-true, leb-false, le-ltb}
+use Rattle.rules.specs.Bytes.{if_then_else_}
+use Rattle.rules.specs.Frame.{Command, cramped, malformed, OPEN, CLOSE, ARBITRATE, CONFIGURE, WRITE, READ, readFrame}
 use Rattle.rules.specs.Streams as streams
 use Rattle.rules.specs.Answer.{Answer, answerBytes, replyOf}
-use Rattle.rules.specs.Call.{State, configureReason, refusal, commandOf, roomy, withStreams, nextControl, nextTables, next, heard, plain, answer, reply}
-use Rattle.rules.proofs.Tests.{and-true}
+use Rattle.rules.specs.Call as rules
+use Rattle.rules.specs.Call.{State, configureReason, refusal, roomy, withStreams, nextControl, nextTables, next, heard, plain, answer, reply}
 use Rattle.rules.proofs.Replies.{written-whole}
 use Rattle.buffers.specs.Splice.{splice}
-use Rattle.arbitration.specs.declared.Outcome.{Outcome}
+use Rattle.arbitration.specs.declared.Outcome as arbitration
 use Rattle.arbitration.specs.Meaning.{outcomeOf, leftAs}
-use Rattle.frames.specs.declared.Command.the-variants.{Open, Close, Arbitrate, Configure, Write, Read}
-use Rattle.frames.specs.declared.Frame.{Frame}
-use Rattle.frames.specs.declared.Frame.the-variants.{Asks, Malformed}
-use Rattle.frames.specs.Meaning.{frameOf, frameStands, givenBy}
-use Rattle.frames.proofs.Standing.{given-read}
 use Rattle.rows.specs.declared.Rows.{Rows}
 use Rattle.rows.specs.Meaning.{rowsOf}
 use Rattle.rows.proofs.Configuration.{rows-allowed-read}
+use Rattle.frames.specs.declared.Command as frames
+use Rattle.frames.specs.declared.Command.the-variants.{Open, Close, Arbitrate, Configure, Write, Read}
+use Rattle.frames.specs.Meaning.{commandOf, stands, givenBy}
+use Rattle.frames.proofs.Standing.{given-there}
+use Rattle.entries.specs.Store.{tablesIn}
 use Rattle.agent.specs.declared.Agent.{Agent}
 use Rattle.agent.specs.declared.Called.{Called}
 use Rattle.agent.specs.declared.Wrote.{Wrote}
 use Rattle.agent.specs.Meaning.{controlOf, stateOf}
-use Rattle.agent.specs.Contract.{Kept, asked, Obeyed, Meets}
+use Rattle.agent.specs.Contract.{Kept, asked, Obeyed, Outcome, Meets}
 use Rattle.agent.specs.Handlers.{elected, configured, wrote, unchanged}
-use Rattle.agent.specs.Parts.{answered, isEvent, isConfigure, turn, Elects, given, verdict, rowsAsked, onEntries, Serves}
-use Rattle.entries.specs.Store.{tablesIn}
+use Rattle.agent.specs.Parts.{answered, unread, isEvent, isConfigure, turn, Elects, given, verdict, rowsAsked, onEntries, Serves}
 use Rattle.agent.proofs.Obeying.{OnStreams, turn-obeyed, turn-answered, malformed-obeyed, configure-refused, rows-allowed, was-configured}
-use Rattle.agent.proofs.Calls.{too-short, long-enough, kept-on, is-cramped, nothing-done, is-read, met}
+use Rattle.agent.proofs.Calls.{too-short, long-enough, kept-on, is-cramped, nothing-done, is-read}
 
--- ---- which command a frame reads as
+-- ---- what each part's commands are
 
-either-formed : (P : Command → Type 0) (test : Bool) (c : Command) → P c → P malformed → P (formed test c)
-either-formed P true c h m = h
-either-formed P false c h m = m
+on-streams : (c : frames.Command) (f : List ℕ) → isEvent c ≡ true → OnStreams (commandOf c f)
+on-streams (Open s) f h = tt
+on-streams (Close s) f h = tt
+on-streams (Arbitrate s i) f h = tt
+on-streams (Configure i t) f h = absurd (false≢true h)
+on-streams (Write i y n) f h = absurd (false≢true h)
+on-streams (Read q) f h = absurd (false≢true h)
 
-event-read : (f : List ℕ) → isEvent f ≡ true → OnStreams (readFrame f)
-unfolding readFrame
-event-read [] h = tt
-event-read (c ∷ f) h =
-    let s = and-true (leb 1 c) (leb c 3) h in
-    go c (leb-true 1 c (s .0)) (leb-true c 3 (s .1))
-  where
-    go : (b : ℕ) → 1 ≤ b → b ≤ 3 → OnStreams (byCommand b (c ∷ f))
-    go zero l u = absurd (omega arith)
-    go (suc zero) l u = either-formed OnStreams (streamFormed (c ∷ f)) (OPEN (byte 1 (c ∷ f))) tt tt
-    go (suc (suc zero)) l u = either-formed OnStreams (streamFormed (c ∷ f)) (CLOSE (byte 1 (c ∷ f))) tt tt
-    go (suc (suc (suc zero))) l u = either-formed OnStreams (arbitrateFormed (c ∷ f)) (ARBITRATE (byte 1 (c ∷ f)) (headAt 2 (c ∷ f))) tt tt
-    go (suc (suc (suc (suc b)))) l u = absurd (omega arith)
+-- an event needs nothing of the frame
+event-alone : (c : frames.Command) (f : List ℕ) → isEvent c ≡ true → commandOf c [] ≡ commandOf c f
+event-alone (Open s) f h = refl
+event-alone (Close s) f h = refl
+event-alone (Arbitrate s i) f h = refl
+event-alone (Configure i t) f h = absurd (false≢true h)
+event-alone (Write i y n) f h = absurd (false≢true h)
+event-alone (Read q) f h = absurd (false≢true h)
 
--- the command that changes the rows, and a malformed frame
 abbrev OnRows : Command → Type 0
 OnRows cramped = ⊥
-OnRows malformed = Unit {0}
+OnRows malformed = ⊥
 OnRows (OPEN n) = ⊥
 OnRows (CLOSE n) = ⊥
 OnRows (ARBITRATE n h) = ⊥
@@ -69,35 +66,21 @@ OnRows (CONFIGURE h rows) = Unit {0}
 OnRows (WRITE h atomicity us) = ⊥
 OnRows (READ q) = ⊥
 
-configure-read : (f : List ℕ) → isConfigure f ≡ true → OnRows (readFrame f)
-unfolding readFrame configureOf
-configure-read [] h = tt
-configure-read (c ∷ f) h = go c (eqb-true c 4 h)
-  where
-    go : (b : ℕ) → b ≡ 4 → OnRows (byCommand b (c ∷ f))
-    go b e = subst (λ (n : ℕ). OnRows (byCommand n (c ∷ f))) (sym e) (either-formed OnRows (configureFormed (byte 27 (c ∷ f)) (c ∷ f)) (configureOf (byte 27 (c ∷ f)) (c ∷ f)) tt tt)
+on-rows : (c : frames.Command) (f : List ℕ) → isConfigure c ≡ true → OnRows (commandOf c f)
+on-rows (Open s) f h = absurd (false≢true h)
+on-rows (Close s) f h = absurd (false≢true h)
+on-rows (Arbitrate s i) f h = absurd (false≢true h)
+on-rows (Configure i t) f h = tt
+on-rows (Write i y n) f h = absurd (false≢true h)
+on-rows (Read q) f h = absurd (false≢true h)
 
--- a WRITE, a READ, or malformed
-entries-read : (f : List ℕ) → isEvent f ≡ false → isConfigure f ≡ false → onEntries (readFrame f) ≡ readFrame f
-unfolding readFrame writeOf
-entries-read [] h k = refl
-entries-read (c ∷ f) h k = go c h k
-  where
-    go : (b : ℕ) → leb 1 b && leb b 3 ≡ false → eqb b 4 ≡ false → onEntries (byCommand b (c ∷ f)) ≡ byCommand b (c ∷ f)
-    go b e n =
-        rw (ne-eqb b 1 (out 1 refl), ne-eqb b 2 (out 2 refl), ne-eqb b 3 (out 3 refl), n)
-        (by-test (eqb b 5) (eqb b 6) _ _
-        (either-formed (λ (x : Command). onEntries x ≡ x) (writeFormed (byte 28 (c ∷ f)) (c ∷ f)) (writeOf (byte 28 (c ∷ f)) (c ∷ f)) refl refl)
-        (either-formed (λ (x : Command). onEntries x ≡ x) (readFormed (c ∷ f)) (READ (queryOf (c ∷ f))) refl refl))
-      where
-        out : (m : ℕ) → leb 1 m && leb m 3 ≡ true → b ≡ m → ⊥
-        out m t z = true≢false (sym t ∙ ap (λ (x : ℕ). leb 1 x && leb x 3) (sym z) ∙ e)
-
-        by-test : (p q : Bool) (x y : Command) → onEntries x ≡ x → onEntries y ≡ y
-            → onEntries (if p then x else if q then y else malformed) ≡ (if p then x else if q then y else malformed)
-        by-test true q x y h k = h
-        by-test false true x y h k = k
-        by-test false false x y h k = refl
+on-entries : (c : frames.Command) (f : List ℕ) → isEvent c ≡ false → isConfigure c ≡ false → onEntries (commandOf c f) ≡ commandOf c f
+on-entries (Open s) f h k = absurd (false≢true (sym h))
+on-entries (Close s) f h k = absurd (false≢true (sym h))
+on-entries (Arbitrate s i) f h k = absurd (false≢true (sym h))
+on-entries (Configure i t) f h k = absurd (false≢true (sym k))
+on-entries (Write i y n) f h k = refl
+on-entries (Read q) f h k = refl
 
 -- ---- a call
 
@@ -135,152 +118,148 @@ unwritten n x d e o = o ∙ (rw e (either (ltb (length d) n)))
     either true = refl
     either false = refl
 
--- ---- a frame x that was read as it is handed on
+-- ---- a malformed frame
 
-module _ (a : Agent) (x : Frame) (frame store d : List ℕ) where
+pub refuse-met : (a : Agent) (frame store d : List ℕ) (reason : ℕ) (out : List ℕ) → malformed ≡ readFrame frame
+    → reason ≡ unread (length store) (length d) → out ≡ answered 4 (plain reason) d → Meets a frame store d (unchanged a reason) store out
+refuse-met a frame store d reason out means v o k = left (by-room (length store) (length d) short long)
+  where
+    left : Obeyed a (asked frame store d) store d (unchanged a reason) store out → Outcome a frame store d (unchanged a reason) store out
+    left y = record { kept = kept-on a frame store d (unchanged a reason) store out k y; obeyed = y }
+
+    short : (length d < 57_344) ⊎ (length store < 56_320) → Obeyed a (asked frame store d) store d (unchanged a reason) store out
+    short z =
+        let e : reason ≡ 2 = v ∙ too-short (length store) (length d) 1 2 z in
+        rw (is-cramped a frame store d z, e, unwritten 4 (plain reason) d e o) (nothing-done a frame store d)
+
+    long : 57_344 ≤ length d → 56_320 ≤ length store → Obeyed a (asked frame store d) store d (unchanged a reason) store out
+    long p q =
+        let e : reason ≡ 1 = v ∙ long-enough (length store) (length d) 1 2 p q in
+        let w : out ≡ splice d 0 (answerBytes (plain reason)) = written 4 (plain reason) d (omega arith) (ap (λ (m : ℕ). eqb m 2) e) o in
+        rw (is-read a frame store d p q, ← means, e) (malformed-obeyed a store d out (rw e at w))
+
+-- ---- a command c that the frame was read as, and that is handed on beside it
+
+module _ (a : Agent) (c : frames.Command) (frame store d : List ℕ) where
+  abbrev asks : Command
+  asks = given c frame (length store) (length d)
+
   -- a WRITE or a READ is tested for 2 first
-  pub serve-short : (length d < 57_344) ⊎ (length store < 56_320)
-      → Obeyed a (onEntries (given x frame (length store) (length d))) store d (unchanged a 2) store d
+  pub serve-short : (length d < 57_344) ⊎ (length store < 56_320) → Obeyed a (onEntries asks) store d (unchanged a 2) store d
   serve-short z =
-      subst (λ (c : Command). Obeyed a (onEntries c) store d (unchanged a 2) store d)
-      (sym (too-short (length store) (length d) (givenBy x frame) z)) (nothing-done a frame store d)
+      subst (λ (k : Command). Obeyed a (onEntries k) store d (unchanged a 2) store d)
+      (sym (too-short (length store) (length d) (givenBy c frame) cramped z)) (nothing-done a frame store d)
 
   -- and then obeyed
-  pub serve-long : 57_344 ≤ length d → 56_320 ≤ length store → (c : Command) → givenBy x frame ≡ c → {r : Called} {store′ out : List ℕ}
-      → Obeyed a (onEntries c) store d r store′ out
-      → Obeyed a (onEntries (given x frame (length store) (length d))) store d r store′ out
-  serve-long p q c e {r} {store′} {out} h =
-      subst (λ (k : Command). Obeyed a (onEntries k) store d r store′ out)
-      (sym (long-enough (length store) (length d) (givenBy x frame) p q ∙ e)) h
+  pub serve-long : 57_344 ≤ length d → 56_320 ≤ length store → (k : Command) → givenBy c frame ≡ k → {r : Called} {store′ out : List ℕ}
+      → Obeyed a (onEntries k) store d r store′ out → Obeyed a (onEntries asks) store d r store′ out
+  serve-long p q k e {r} {store′} {out} h =
+      subst (λ (x : Command). Obeyed a (onEntries x) store d r store′ out)
+      (sym (long-enough (length store) (length d) (givenBy c frame) cramped p q ∙ e)) h
 
-  module _ (means : frameOf x frame ≡ readFrame frame) (there : frameStands x frame ≡ true) where
-    is-asked : given x frame (length store) (length d) ≡ asked frame store d
-    unfolding commandOf
-    is-asked = ap (λ (c : Command). if roomy (length store) (length d) then c else cramped) (given-read x frame there ∙ means)
+  module _ (means : commandOf c frame ≡ readFrame frame) (there : stands c frame ≡ true) where
+    is-asked : asks ≡ asked frame store d
+    unfolding rules.commandOf
+    is-asked = ap (λ (k : Command). if roomy (length store) (length d) then k else cramped) (given-there c frame there ∙ means)
 
-    is-frame : 57_344 ≤ length d → 56_320 ≤ length store → given x frame (length store) (length d) ≡ readFrame frame
-    is-frame p q = long-enough (length store) (length d) (givenBy x frame) p q ∙ given-read x frame there ∙ means
+    is-frame : 57_344 ≤ length d → 56_320 ≤ length store → asks ≡ commandOf c frame
+    is-frame p q = long-enough (length store) (length d) (givenBy c frame) cramped p q ∙ given-there c frame there
 
-    as-asked : (r : Called) {out : List ℕ} → Obeyed a (given x frame (length store) (length d)) store d r store out → Meets a frame store d r store out
-    as-asked r {out} y k =
-        let z = subst (λ (c : Command). Obeyed a c store d r store out) is-asked y in
-        record { kept = kept-on a frame store d r store out k z; obeyed = z }
+    as-asked : (r : Called) {store′ out : List ℕ} → Kept a store → Obeyed a asks store d r store′ out → Outcome a frame store d r store′ out
+    as-asked r {store′} {out} k y =
+        let z = subst (λ (x : Command). Obeyed a x store d r store′ out) is-asked y in
+        record { kept = kept-on a frame store d r store′ out k z; obeyed = z }
 
-    pub serve-met : (r : Wrote) (store′ out : List ℕ) → isEvent frame ≡ false → isConfigure frame ≡ false
-        → Serves a x frame store d r store′ out → Meets a frame store d (wrote a r) store′ out
-    unfolding commandOf
-    serve-met r store′ out e c h k =
-        let o = subst (λ (c : Command). Obeyed a c store d (wrote a r) store′ out) (ap onEntries is-asked ∙ same (roomy (length store) (length d))) (h k) in
-        record { kept = kept-on a frame store d (wrote a r) store′ out k o; obeyed = o }
+    pub serve-met : (r : Wrote) (store′ out : List ℕ) → isEvent c ≡ false → isConfigure c ≡ false
+        → Serves a c frame store d r store′ out → Meets a frame store d (wrote a r) store′ out
+    serve-met r store′ out e n h k =
+        as-asked (wrote a r) k (subst (λ (x : Command). Obeyed a x store d (wrote a r) store′ out) (same (roomy (length store) (length d))) (h k))
       where
-        same : (b : Bool) → onEntries (if b then readFrame frame else cramped) ≡ (if b then readFrame frame else cramped)
-        same true = entries-read frame e c
+        same : (b : Bool) → onEntries (if b then givenBy c frame else cramped) ≡ (if b then givenBy c frame else cramped)
+        same true = rw (given-there c frame there) (on-entries c frame e n)
         same false = refl
 
     -- ---- CONFIGURE: what is left where it is refused, and where it is not
 
-    module _ (reason : ℕ) (out : List ℕ) (test : isConfigure frame ≡ true)
-        (v : reason ≡ verdict (a .device) (controlOf a .streams) (given x frame (length store) (length d))) (o : out ≡ answered 4 (plain reason) d) where
-      -- the reason of a command on the rows is not 2
-      never-2 : (c : Command) → OnRows c → eqb (verdict (a .device) (controlOf a .streams) c) 2 ≡ false
-      unfolding answer refusal stateOf configureReason
-      never-2 malformed h = refl
-      never-2 (CONFIGURE h rows) k = not-2 (stateOf a store) (CONFIGURE h rows) (λ z. subst OnRows z k)
+    module _ (reason : ℕ) (out : List ℕ) (test : isConfigure c ≡ true)
+        (v : reason ≡ verdict (a .device) (controlOf a .streams) asks) (o : out ≡ answered 4 (plain reason) d) where
+      -- its reason, where the buffers are too short, and where they are not
+      short-2 : (length d < 57_344) ⊎ (length store < 56_320) → reason ≡ 2
+      short-2 z = v ∙ ap (verdict (a .device) (controlOf a .streams)) (too-short (length store) (length d) (givenBy c frame) cramped z)
 
-      refused-by : (reason ≡ 0 → ⊥) → (c : Command) → OnRows c → reason ≡ verdict (a .device) (controlOf a .streams) c
-          → 57_344 ≤ length d → Obeyed a c store d (unchanged a reason) store out
-      unfolding configureReason
-      refused-by n c k e p =
-          let w : out ≡ splice d 0 (answerBytes (plain reason)) =
-          written 4 (plain reason) d (omega arith) (ap (λ (m : ℕ). eqb m 2) e ∙ never-2 c k) o in
-          go c k e w
-        where
-          go : (c : Command) → OnRows c → reason ≡ verdict (a .device) (controlOf a .streams) c
-              → out ≡ splice d 0 (answerBytes (plain reason)) → Obeyed a c store d (unchanged a reason) store out
-          go malformed k e w = subst (λ (m : ℕ). Obeyed a malformed store d (unchanged a m) store out) (sym e) (malformed-obeyed a store d out (rw e at w))
-          go (CONFIGURE h rows) k e w = configure-refused a store d out reason n w h rows (sym e)
+      told : 57_344 ≤ length d → 56_320 ≤ length store → reason ≡ verdict (a .device) (controlOf a .streams) (commandOf c frame)
+      told p q = v ∙ ap (verdict (a .device) (controlOf a .streams)) (is-frame p q)
+
+      refused-by : (reason ≡ 0 → ⊥) → (k : Command) → OnRows k → reason ≡ verdict (a .device) (controlOf a .streams) k
+          → 57_344 ≤ length d → Obeyed a k store d (unchanged a reason) store out
+      unfolding answer refusal stateOf configureReason
+      refused-by n (CONFIGURE h rows) k e p =
+          let x : eqb reason 2 ≡ false = ap (λ (m : ℕ). eqb m 2) e ∙ not-2 (stateOf a store) (CONFIGURE h rows) (λ z. subst OnRows z k) in
+          configure-refused a store d out reason n (written 4 (plain reason) d (omega arith) x o) h rows (sym e)
 
       -- where nothing refuses it, and the rows are those that it asks for
-      configured-by : (rows : Rows) → reason ≡ 0 → (c : Command) → OnRows c → reason ≡ verdict (a .device) (controlOf a .streams) c
-          → rowsOf rows ≡ rowsAsked c → 57_344 ≤ length d → Obeyed a c store d (configured a rows) store out
+      configured-by : (rows : Rows) → reason ≡ 0 → (k : Command) → OnRows k → reason ≡ verdict (a .device) (controlOf a .streams) k
+          → rowsOf rows ≡ rowsAsked k → 57_344 ≤ length d → Obeyed a k store d (configured a rows) store out
       unfolding configureReason
-      configured-by rows z malformed k e l p = absurd (let w : _≡_ {A = ℕ} 0 1 = sym z ∙ e in omega arith)
       configured-by rows z (CONFIGURE h rs) k e l p =
           let n : configureReason (controlOf a) h rs ≡ 0 = sym e ∙ z in
           let w : out ≡ splice d 0 (answerBytes (plain reason)) = written 4 (plain reason) d (omega arith) (ap (λ (m : ℕ). eqb m 2) z) o in
           was-configured a h rs store d out rows n (l ∙ rows-allowed-read rs (rows-allowed (controlOf a) h rs n)) (rw z at w)
 
       pub configure-refused-met : (reason ≡ 0 → ⊥) → Meets a frame store d (unchanged a reason) store out
-      configure-refused-met n = as-asked (unchanged a reason) (by-room (length store) (length d) short long)
+      configure-refused-met n k = as-asked (unchanged a reason) k (by-room (length store) (length d) short long)
         where
-          short : (length d < 57_344) ⊎ (length store < 56_320) → Obeyed a (given x frame (length store) (length d)) store d (unchanged a reason) store out
+          short : (length d < 57_344) ⊎ (length store < 56_320) → Obeyed a asks store d (unchanged a reason) store out
           short z =
-              let g = too-short (length store) (length d) (givenBy x frame) z in
-              let e : reason ≡ 2 = v ∙ ap (verdict (a .device) (controlOf a .streams)) g in
-              rw (g, e, unwritten 4 (plain reason) d e o) (nothing-done a frame store d)
+              rw (too-short (length store) (length d) (givenBy c frame) cramped z, short-2 z, unwritten 4 (plain reason) d (short-2 z) o)
+              (nothing-done a frame store d)
 
-          long : 57_344 ≤ length d → 56_320 ≤ length store → Obeyed a (given x frame (length store) (length d)) store d (unchanged a reason) store out
-          long p q =
-              subst (λ (c : Command). Obeyed a c store d (unchanged a reason) store out) (sym (is-frame p q))
-              (refused-by n (readFrame frame) (configure-read frame test) (v ∙ ap (verdict (a .device) (controlOf a .streams)) (is-frame p q)) p)
+          long : 57_344 ≤ length d → 56_320 ≤ length store → Obeyed a asks store d (unchanged a reason) store out
+          long p q = rw (is-frame p q) (refused-by n (commandOf c frame) (on-rows c frame test) (told p q) p)
 
-      pub configured-met : reason ≡ 0 → (rows : Rows) → rowsOf rows ≡ rowsAsked (givenBy x frame) → Meets a frame store d (configured a rows) store out
-      configured-met z rows l = as-asked (configured a rows) (by-room (length store) (length d) short long)
+      pub configured-met : reason ≡ 0 → (rows : Rows) → rowsOf rows ≡ rowsAsked (givenBy c frame) → Meets a frame store d (configured a rows) store out
+      configured-met z rows l k = as-asked (configured a rows) k (by-room (length store) (length d) short long)
         where
-          short : (length d < 57_344) ⊎ (length store < 56_320) → Obeyed a (given x frame (length store) (length d)) store d (configured a rows) store out
-          short y =
-              let e : reason ≡ 2 = v ∙ ap (verdict (a .device) (controlOf a .streams)) (too-short (length store) (length d) (givenBy x frame) y) in
-              absurd (let w : _≡_ {A = ℕ} 0 2 = sym z ∙ e in omega arith)
+          short : (length d < 57_344) ⊎ (length store < 56_320) → Obeyed a asks store d (configured a rows) store out
+          short y = absurd (let w : _≡_ {A = ℕ} 0 2 = sym z ∙ short-2 y in omega arith)
 
-          long : 57_344 ≤ length d → 56_320 ≤ length store → Obeyed a (given x frame (length store) (length d)) store d (configured a rows) store out
+          long : 57_344 ≤ length d → 56_320 ≤ length store → Obeyed a asks store d (configured a rows) store out
           long p q =
-              subst (λ (c : Command). Obeyed a c store d (configured a rows) store out) (sym (is-frame p q))
-              (configured-by rows z (readFrame frame) (configure-read frame test) (v ∙ ap (verdict (a .device) (controlOf a .streams)) (is-frame p q))
-              (l ∙ ap rowsAsked (given-read x frame there ∙ means)) p)
+              rw (is-frame p q)
+              (configured-by rows z (commandOf c frame) (on-rows c frame test) (told p q) (l ∙ ap rowsAsked (given-there c frame there)) p)
 
-module _ (a : Agent) (frame store d : List ℕ) where
-  -- the events that a frame can ask for are those of the frame as it was read
-  events : (x : Frame) → OnStreams (frameOf x frame) → frameOf x [] ≡ frameOf x frame
-  events Malformed h = refl
-  events (Asks (Open s)) h = refl
-  events (Asks (Close s)) h = refl
-  events (Asks (Arbitrate s i)) h = refl
-  events (Asks (Configure i t)) h = absurd h
-  events (Asks (Write i y n)) h = absurd h
-  events (Asks (Read q)) h = absurd h
+    -- ---- OPEN, CLOSE, ARBITRATE
 
-  -- under 2 nothing is done
-  none-told : (out : List ℕ) (r : Outcome) → out ≡ answered 644 (heard (outcomeOf r)) d → outcomeOf r ≡ leftAs (controlOf a .streams) 2
-      → Obeyed a cramped store d (elected a r) store out
-  unfolding stateOf next nextControl nextTables reply replyOf answer
-  none-told out r o w = record {
-    state = ap (λ (q : streams.Outcome). record { control = withStreams (controlOf a) (q .after); tables = tablesIn (a .count) store }) w;
-    returned = ap (λ (q : streams.Outcome). q .reason) w;
-    filled = unwritten 644 (heard (outcomeOf r)) d (ap (λ (q : streams.Outcome). q .reason) w) o;
-    room = refl;
-    beyond = refl;
-    untouched = λ z. refl;
-  }
+    module _ (out : List ℕ) (r : arbitration.Outcome) (test : isEvent c ≡ true) (h : Elects (a .device) (a .streams) c (length store) (length d) r)
+        (o : out ≡ answered 644 (heard (outcomeOf r)) d) where
+      -- under 2 nothing is done
+      none-told : outcomeOf r ≡ leftAs (controlOf a .streams) 2 → Obeyed a cramped store d (elected a r) store out
+      unfolding stateOf next nextControl nextTables reply replyOf answer
+      none-told w = record {
+        state = ap (λ (q : streams.Outcome). record { control = withStreams (controlOf a) (q .after); tables = tablesIn (a .count) store }) w;
+        returned = ap (λ (q : streams.Outcome). q .reason) w;
+        filled = unwritten 644 (heard (outcomeOf r)) d (ap (λ (q : streams.Outcome). q .reason) w) o;
+        room = refl;
+        beyond = refl;
+        untouched = λ z. refl;
+      }
 
-  module _ (out : List ℕ) (x : Frame) (r : Outcome) (h : Elects (a .device) (a .streams) x (length store) (length d) r)
-      (o : out ≡ answered 644 (heard (outcomeOf r)) d) where
-    event-short : (length d < 57_344) ⊎ (length store < 56_320) → Meets a frame store d (elected a r) store out
-    unfolding commandOf
-    event-short z k =
-        let w = h ∙ ap (turn (a .device) (controlOf a .streams)) (too-short (length store) (length d) (frameOf x []) z) in
-        let y = subst (λ (b : Command). Obeyed a b store d (elected a r) store out) (sym (too-short (length store) (length d) (readFrame frame) z)) (none-told out r o w) in
-        record { kept = kept-on a frame store d (elected a r) store out k y; obeyed = y }
+      event-by : (k : Command) → OnStreams k → outcomeOf r ≡ turn (a .device) (controlOf a .streams) k → 57_344 ≤ length d
+          → Kept a store → Obeyed a k store d (elected a r) store out
+      event-by k on w p =
+          let n : eqb (outcomeOf r .reason) 2 ≡ false =
+          ap (λ (z : streams.Outcome). eqb (z .reason) 2) w ∙ ap (λ (z : Answer). eqb (z .reason) 2) (sym (turn-answered a store k on)) ∙ not-2 (stateOf a store) k (λ z. subst OnStreams z on) in
+          turn-obeyed a r d out (written 644 (heard (outcomeOf r)) d (omega arith) n o) k on w store
 
-    event-long : (c : Command) → OnStreams c → frameOf x frame ≡ c → readFrame frame ≡ c → 57_344 ≤ length d → 56_320 ≤ length store
-        → Meets a frame store d (elected a r) store out
-    event-long c on f g p q =
-        let v : frameOf x [] ≡ c = events x (subst OnStreams (sym f) on) ∙ f in
-        let w : outcomeOf r ≡ turn (a .device) (controlOf a .streams) c = h ∙ ap (turn (a .device) (controlOf a .streams)) (long-enough (length store) (length d) (frameOf x []) p q ∙ v) in
-        let n : eqb (outcomeOf r .reason) 2 ≡ false =
-        ap (λ (z : streams.Outcome). eqb (z .reason) 2) w ∙ ap (λ (z : Answer). eqb (z .reason) 2) (sym (turn-answered a store c on)) ∙ not-2 (stateOf a store) c (λ z. subst OnStreams z on) in
-        let y : out ≡ splice d 0 (answerBytes (heard (outcomeOf r))) = written 644 (heard (outcomeOf r)) d (omega arith) n o in
-        met a frame store d p q c (elected a r) store out g (turn-obeyed a r d out y c on w store)
+      pub event-met : Meets a frame store d (elected a r) store out
+      event-met k = as-asked (elected a r) k (by-room (length store) (length d) short long)
+        where
+          short : (length d < 57_344) ⊎ (length store < 56_320) → Obeyed a asks store d (elected a r) store out
+          short z =
+              rw (too-short (length store) (length d) (givenBy c frame) cramped z)
+              (none-told (h ∙ ap (turn (a .device) (controlOf a .streams)) (too-short (length store) (length d) (commandOf c []) cramped z)))
 
-  pub event-met : (out : List ℕ) (x : Frame) (r : Outcome) → isEvent frame ≡ true → frameOf x frame ≡ readFrame frame
-      → Elects (a .device) (a .streams) x (length store) (length d) r → out ≡ answered 644 (heard (outcomeOf r)) d → Meets a frame store d (elected a r) store out
-  event-met out x r e f h o = by-room (length store) (length d) (event-short out x r h o) (event-long out x r h o (readFrame frame) (event-read frame e) f refl)
+          long : 57_344 ≤ length d → 56_320 ≤ length store → Obeyed a asks store d (elected a r) store out
+          long p q =
+              let w = h ∙ ap (turn (a .device) (controlOf a .streams)) (long-enough (length store) (length d) (commandOf c []) cramped p q ∙ event-alone c frame test) in
+              rw (is-frame p q) (event-by (commandOf c frame) (on-streams c frame test) w p k)

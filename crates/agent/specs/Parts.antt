@@ -1,14 +1,14 @@
 -- A call in parts: OPEN, CLOSE and ARBITRATE change the stream record alone, CONFIGURE the rows and the number of entries, WRITE that
--- number, READ nothing. Each part of a call has functions that are given no more than their commands need, and hand back what they
--- change; any other command is refused there as a malformed frame is, under 1. A frame is read once, before the record is looked at,
--- and what it was read as is handed on beside it. Assumes nothing.
+-- number, READ nothing. A frame is read first; what it was read as, the command c, is handed on beside it. Each part of a call has
+-- functions that are given no more than their commands need, and hand back what they change; any other command is refused there as a
+-- malformed frame is, under 1. Assumes nothing.
 use mathlib.Core.Path.{_≡_}
-use mathlib.Core.Bool.{Bool}
+use mathlib.Core.Bool.{Bool, true, false}
 use mathlib.Core.List.{List, []}
 use Prim.Native.Nat.{ℕ}
 use lib.Dec.{eqb, ltb}
 use lib.ListN.{length}
-use Rattle.rules.specs.Bytes.{if_then_else_, between, byte}
+use Rattle.rules.specs.Bytes.{if_then_else_}
 use Rattle.rules.specs.Frame.{Command, cramped, malformed, OPEN, CLOSE, ARBITRATE, CONFIGURE, WRITE, READ}
 use Rattle.rules.specs.Streams as rules
 use Rattle.rules.specs.Row.{Row}
@@ -18,29 +18,43 @@ use Rattle.buffers.specs.Splice.{splice}
 use Rattle.arbitration.specs.declared.Streams.{Streams}
 use Rattle.arbitration.specs.declared.Outcome.{Outcome}
 use Rattle.arbitration.specs.Meaning.{streamsOf, outcomeOf, leftAs}
-use Rattle.frames.specs.declared.Frame.{Frame}
 use Rattle.rows.specs.Meaning.{rowsIn}
-use Rattle.frames.specs.Meaning.{frameOf, givenBy}
+use Rattle.frames.specs.declared.Command as frames
+use Rattle.frames.specs.declared.Command.the-variants.{Open, Close, Arbitrate, Configure, Write, Read}
+use Rattle.frames.specs.Meaning.{commandOf, givenBy}
 use Rattle.agent.specs.declared.Agent.{Agent}
 use Rattle.agent.specs.declared.Wrote.{Wrote}
 use Rattle.agent.specs.Contract.{Kept, Obeyed}
 use Rattle.agent.specs.Handlers.{wrote}
-
--- ---- which part a frame is for, by its command byte; an empty frame has none, and so is for neither of these two
-
--- OPEN 01, CLOSE 02, ARBITRATE 03
-abbrev pub isEvent : List ℕ → Bool
-isEvent f = between 1 3 (byte 0 f)
-
--- CONFIGURE 04
-abbrev pub isConfigure : List ℕ → Bool
-isConfigure f = eqb (byte 0 f) 4
 
 -- ---- what is written
 
 -- an answer in the buffer d: nothing is written under 2, or where d has no room for n bytes, which the answer at most has
 abbrev pub answered : ℕ → Answer → List ℕ → List ℕ
 answered n a d = if ltb (length d) n then d else if eqb (a .reason) 2 then d else splice d 0 (answerBytes a)
+
+-- ---- a malformed frame: its reason, where the store has this room and the answer buffer this space
+
+abbrev pub unread : ℕ → ℕ → ℕ
+unread room space = if roomy room space then 1 else 2
+
+-- ---- which part a command is for
+
+abbrev pub isEvent : frames.Command → Bool
+isEvent (Open s) = true
+isEvent (Close s) = true
+isEvent (Arbitrate s h) = true
+isEvent (Configure h t) = false
+isEvent (Write h atomicity n) = false
+isEvent (Read q) = false
+
+abbrev pub isConfigure : frames.Command → Bool
+isConfigure (Open s) = false
+isConfigure (Close s) = false
+isConfigure (Arbitrate s h) = false
+isConfigure (Configure h t) = true
+isConfigure (Write h atomicity n) = false
+isConfigure (Read q) = false
 
 -- ---- OPEN, CLOSE, ARBITRATE
 
@@ -55,17 +69,16 @@ turn device e (CONFIGURE h rows) = leftAs e 1
 turn device e (WRITE h atomicity us) = leftAs e 1
 turn device e (READ q) = leftAs e 1
 
--- what it leaves, where the frame was read as x, the store has this room and the answer buffer this space; of commands other than
--- events nothing but what they are matters
-abbrev pub Elects : ℕ → Streams → Frame → ℕ → ℕ → Outcome → Type 0
-Elects device streams x room space r =
-    outcomeOf r ≡ turn device (streamsOf streams) (if roomy room space then frameOf x [] else cramped)
+-- what it leaves; of commands other than events nothing but what they are matters
+abbrev pub Elects : ℕ → Streams → frames.Command → ℕ → ℕ → Outcome → Type 0
+Elects device streams c room space r =
+    outcomeOf r ≡ turn device (streamsOf streams) (if roomy room space then commandOf c [] else cramped)
 
 -- ---- CONFIGURE
 
--- what is asked for, where x is handed on beside the frame f: under 2 neither is looked at
-abbrev pub given : Frame → List ℕ → ℕ → ℕ → Command
-given x f room space = if roomy room space then givenBy x f else cramped
+-- what is asked for, where c is handed on beside the frame f: under 2 neither is looked at
+abbrev pub given : frames.Command → List ℕ → ℕ → ℕ → Command
+given c f room space = if roomy room space then givenBy c f else cramped
 
 -- why a CONFIGURE is refused, on this device and with the streams e; the rows in force do not matter
 abbrev pub verdict : ℕ → rules.Streams → Command → ℕ
@@ -101,7 +114,7 @@ onEntries (CONFIGURE h rows) = malformed
 onEntries (WRITE h atomicity us) = WRITE h atomicity us
 onEntries (READ q) = READ q
 
-abbrev pub Serves : Agent → Frame → List ℕ → List ℕ → List ℕ → Wrote → List ℕ → List ℕ → Type 0
-Serves a x frame store answer r store′ answer′ =
+abbrev pub Serves : Agent → frames.Command → List ℕ → List ℕ → List ℕ → Wrote → List ℕ → List ℕ → Type 0
+Serves a c frame store answer r store′ answer′ =
     Kept a store
-    → Obeyed a (onEntries (given x frame (length store) (length answer))) store answer (wrote a r) store′ answer′
+    → Obeyed a (onEntries (given c frame (length store) (length answer))) store answer (wrote a r) store′ answer′

@@ -17,7 +17,7 @@ ghost use Rattle.rows.specs.Meaning.{rowsOf};
 ghost use Rattle.frames.specs.Meaning.{commandOf, stands, givenBy};
 ghost use Rattle.agent.specs.Contract.{Fresh, Meets};
 ghost use Rattle.agent.specs.Handlers.{queryIn, Named, wrote, unchanged, Obeys, ObeysAny};
-ghost use Rattle.agent.specs.Parts.{answered, isEvent, isConfigure, turn, Elects, given, verdict, rowsAsked, onEntries, Serves};
+ghost use Rattle.agent.specs.Parts.{answered, unread, isEvent, isConfigure, turn, Elects, given, verdict, rowsAsked, onEntries, Serves};
 use arbitration::Head;
 use arbitration::Notify;
 use arbitration::Outcome;
@@ -88,27 +88,57 @@ pub fn answer_plain(reason: u8, answer: &mut [u8])
     write_head(reason, 0, answer);
 }
 
-// ---- which part of the record a frame is for
-
-// OPEN, CLOSE and ARBITRATE, by the command byte: the stream record.
-pub fn is_event(frame: &[u8]) -> bool
-    ensures { λ r. ⌜ r ≡ isEvent (now (frame .entry)) ⌝ }
+// The reason of a frame that is not read: 2 is tested first, then 1.
+fn unread_reason(room: usize, space: usize) -> u8
+    ensures { λ r. ⌜ r ≡ unread room space ⌝ }
 {
-    if frame.len() == 0 {
-        return false;
+    if space < 57344 {
+        return 2;
     }
-    let command = frame[0];
-    1 <= command && command <= 3
+    if room < 56320 {
+        return 2;
+    }
+    1
 }
 
-// CONFIGURE, by the command byte: the rows and the number of entries. Any other frame changes that number at most.
-pub fn is_configure(frame: &[u8]) -> bool
-    ensures { λ r. ⌜ r ≡ isConfigure (now (frame .entry)) ⌝ }
+// Refuses a malformed frame, under 2 where the buffers are too short; the reason.
+pub fn refuse(room: usize, answer: &mut [u8]) -> u8
+    ensures reason { λ r. ⌜ r ≡ unread room (length (now (answer .entry))) ⌝ }
+    ensures written { λ r. ⌜ now (answer .exit) ≡ answered 4 (plain r) (now (answer .entry)) ⌝ }
 {
-    if frame.len() == 0 {
-        return false;
+    let reason = unread_reason(room, answer.len());
+    answer_plain(reason, answer);
+    reason
+}
+
+// ---- which part of the record a command is for
+
+// OPEN, CLOSE and ARBITRATE: the stream record.
+pub fn is_event(command: Command) -> bool
+    ensures { λ r. ⌜ r ≡ isEvent command ⌝ }
+{
+    match command {
+        Command::Open(_) => true,
+        Command::Close(_) => true,
+        Command::Arbitrate(_, _) => true,
+        Command::Configure(_, _) => false,
+        Command::Write(_, _, _) => false,
+        Command::Read(_) => false,
     }
-    frame[0] == 4
+}
+
+// CONFIGURE: the rows and the number of entries. A WRITE changes that number at most, a READ nothing.
+pub fn is_configure(command: Command) -> bool
+    ensures { λ r. ⌜ r ≡ isConfigure command ⌝ }
+{
+    match command {
+        Command::Open(_) => false,
+        Command::Close(_) => false,
+        Command::Arbitrate(_, _) => false,
+        Command::Configure(_, _) => true,
+        Command::Write(_, _, _) => false,
+        Command::Read(_) => false,
+    }
 }
 
 // ---- OPEN, CLOSE, ARBITRATE
@@ -149,10 +179,16 @@ fn event(device: u64, streams: Streams, command: Command) -> Outcome
     }
 }
 
-// What an event leaves: 2 is tested first, then 1. Nothing is written: `notify` does that, when the record has been stored, so that
-// nobody needs the old one any more.
-pub fn elect(device: u64, streams: Streams, asked: Frame, room: usize, space: usize) -> Outcome
-    ensures { λ r. ⌜ Elects device streams asked room space r ⌝ }
+// What an event leaves; 2 is tested first. Nothing is written: `notify` does that, when the record has been stored, so that nobody
+// needs the old one any more.
+pub fn elect(
+    device: u64,
+    streams: Streams,
+    command: Command,
+    room: usize,
+    space: usize,
+) -> Outcome
+    ensures { λ r. ⌜ Elects device streams command room space r ⌝ }
 {
     if space < 57344 {
         return unheard(streams, 2);
@@ -160,9 +196,6 @@ pub fn elect(device: u64, streams: Streams, asked: Frame, room: usize, space: us
     if room < 56320 {
         return unheard(streams, 2);
     }
-    let Frame::Asks(command) = asked else {
-        return unheard(streams, 1);
-    };
     event(device, streams, command)
 }
 
@@ -231,16 +264,16 @@ fn verify_command(device: u64, streams: Streams, command: Command, frame: &[u8])
     }
 }
 
-// Why a CONFIGURE is refused, 0 where it is accepted: 2 is tested first, then 1. It needs the stream record alone, and reads no row.
+// Why a CONFIGURE is refused, 0 where it is accepted; 2 is tested first. It needs the stream record alone, and reads no row.
 pub fn verify(
     device: u64,
     streams: Streams,
-    asked: Frame,
+    command: Command,
     frame: &[u8],
     room: usize,
     space: usize,
 ) -> u8
-    ensures { λ r. ⌜ r ≡ verdict device (streamsOf streams) (given asked (now (frame .entry)) room space) ⌝ }
+    ensures { λ r. ⌜ r ≡ verdict device (streamsOf streams) (given command (now (frame .entry)) room space) ⌝ }
 {
     if space < 57344 {
         return 2;
@@ -248,16 +281,13 @@ pub fn verify(
     if room < 56320 {
         return 2;
     }
-    let Frame::Asks(command) = asked else {
-        return 1;
-    };
     if !command.stands(frame) {
         return 1;
     }
     verify_command(device, streams, command, frame)
 }
 
-// The rows that a command asks to be in force: those of a CONFIGURE, and none of any other.
+// The rows that a command asks to be in force, where what it leaves in the frame stands there.
 fn rows_in(command: Command, frame: &[u8]) -> Rows
     requires { ⌜ stands command (now frame) ≡ true ⌝ }
     ensures { λ r. ⌜ rowsOf r ≡ rowsAsked (commandOf command (now (frame .entry))) ⌝ }
@@ -272,13 +302,10 @@ fn rows_in(command: Command, frame: &[u8]) -> Rows
     }
 }
 
-// The same of a frame as it was read.
-pub fn rows_asked(asked: Frame, frame: &[u8]) -> Rows
-    ensures { λ r. ⌜ rowsOf r ≡ rowsAsked (givenBy asked (now (frame .entry))) ⌝ }
+// The rows that a command asks to be in force: those of a CONFIGURE, and none of any other.
+pub fn rows_asked(command: Command, frame: &[u8]) -> Rows
+    ensures { λ r. ⌜ rowsOf r ≡ rowsAsked (givenBy command (now (frame .entry))) ⌝ }
 {
-    let Frame::Asks(command) = asked else {
-        return Rows::fresh();
-    };
     if !command.stands(frame) {
         return Rows::fresh();
     }
@@ -404,7 +431,7 @@ fn read(agent: Agent, query: Query, bytes: &[u8], store: &[u8], answer: &mut [u8
     0
 }
 
-// 1: the frame is malformed, or neither a WRITE nor a READ.
+// 1: neither a WRITE nor a READ.
 fn refuse_entries(agent: Agent, answer: &mut [u8]) -> Wrote
     requires { ⌜ 4 ≤ length (now answer) ⌝ }
     ensures { λ r. ⌜ ObeysAny agent rules.malformed (wrote agent r) (now (answer .entry)) (now (answer .exit)) ⌝ }
@@ -437,10 +464,15 @@ fn obey(agent: Agent, command: Command, frame: &[u8], store: &mut [u8], answer: 
     }
 }
 
-// A call that is a WRITE or a READ, or no frame at all: 2 is tested first, and nothing is written; then 1. `asked` is what the frame
-// was read as: it is read before the record is copied, so that a refusal copies no more of it than it looks at.
-pub fn serve(agent: Agent, asked: Frame, frame: &[u8], store: &mut [u8], answer: &mut [u8]) -> Wrote
-    ensures { λ r. ⌜ Serves agent asked (now (frame .entry)) (now (store .entry)) (now (answer .entry)) r (now (store .exit)) (now (answer .exit)) ⌝ }
+// A call that is a WRITE or a READ: 2 is tested first, and nothing is written.
+pub fn serve(
+    agent: Agent,
+    command: Command,
+    frame: &[u8],
+    store: &mut [u8],
+    answer: &mut [u8],
+) -> Wrote
+    ensures { λ r. ⌜ Serves agent command (now (frame .entry)) (now (store .entry)) (now (answer .entry)) r (now (store .exit)) (now (answer .exit)) ⌝ }
 {
     let count = agent.count;
     if answer.len() < 57344 {
@@ -453,9 +485,6 @@ pub fn serve(agent: Agent, asked: Frame, frame: &[u8], store: &mut [u8], answer:
         // no list of calls leaves such a record; the store is too short for it
         return Wrote { count, reason: 2 };
     }
-    let Frame::Asks(command) = asked else {
-        return refuse_entries(agent, answer);
-    };
     if !command.stands(frame) {
         return refuse_entries(agent, answer);
     }
@@ -464,14 +493,18 @@ pub fn serve(agent: Agent, asked: Frame, frame: &[u8], store: &mut [u8], answer:
 
 // ---- a call
 
-// One call, by the parts of the record that it may change.
+// One call: its frame is read first, so that a refusal copies no more of the record than it looks at; then by the parts of the
+// record that the command may change.
 pub fn call(mut agent: Agent, frame: &[u8], store: &mut [u8], answer: &mut [u8]) -> Called
     ensures { λ r. ⌜ Meets agent (now (frame .entry)) (now (store .entry)) (now (answer .entry)) r (now (store .exit)) (now (answer .exit)) ⌝ }
 {
-    let asked = frames::read_frame(frame);
-    if is_event(frame) {
+    let Frame::Asks(command) = frames::read_frame(frame) else {
+        let reason = refuse(store.len(), answer);
+        return Called { agent, reason };
+    };
+    if is_event(command) {
         let streams = agent.streams;
-        let outcome = elect(agent.device, streams, asked, store.len(), answer.len());
+        let outcome = elect(agent.device, streams, command, store.len(), answer.len());
         notify(outcome, answer);
         let left = outcome.streams;
         agent.streams = left;
@@ -480,12 +513,12 @@ pub fn call(mut agent: Agent, frame: &[u8], store: &mut [u8], answer: &mut [u8])
             reason: outcome.reason,
         };
     }
-    if is_configure(frame) {
+    if is_configure(command) {
         let streams = agent.streams;
         let reason = verify(
             agent.device,
             streams,
-            asked,
+            command,
             frame,
             store.len(),
             answer.len(),
@@ -494,12 +527,12 @@ pub fn call(mut agent: Agent, frame: &[u8], store: &mut [u8], answer: &mut [u8])
         if reason != 0 {
             return Called { agent, reason };
         }
-        let rows = rows_asked(asked, frame);
+        let rows = rows_asked(command, frame);
         agent.rows = rows;
         agent.count = 0;
         return Called { agent, reason: 0 };
     }
-    let served = serve(agent, asked, frame, store, answer);
+    let served = serve(agent, command, frame, store, answer);
     agent.count = served.count;
     Called {
         agent,

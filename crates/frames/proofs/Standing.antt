@@ -10,15 +10,15 @@ use Rattle.rules.specs.Bytes.{byte, int}
 use Rattle.rules.proofs.Tests.{clash, and-true, both-true}
 use Rattle.arbitration.specs.declared.Head.{Head}
 use Rattle.frames.specs.declared.Query.{Query}
+use Rattle.frames.specs.declared.Command.{Command}
 use Rattle.frames.specs.declared.Command.the-variants.{Configure, Write, Read}
-use Rattle.frames.specs.declared.Frame.{Frame}
-use Rattle.frames.specs.Meaning.{frameOf, stands, frameStands, givenBy}
+use Rattle.frames.specs.Meaning.{commandOf, stands, givenBy}
 use Rattle.frames.proofs.Readings.{keyFits, key-only}
 
 -- ---- what a frame has, beside which a command stands
 
-pub given-read : (x : Frame) (f : List ℕ) → frameStands x f ≡ true → givenBy x f ≡ frameOf x f
-given-read x f e = rw e
+pub given-there : (c : Command) (f : List ℕ) → stands c f ≡ true → givenBy c f ≡ commandOf c f
+given-there c f e = rw e
 
 pub configure-stands : (h : Head) (t : ℕ) (f : List ℕ) → stands (Configure h t) f ≡ true → (t ≤ 8) × (length f ≡ 28 + 53 * t)
 configure-stands h t f e =

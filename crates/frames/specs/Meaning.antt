@@ -45,6 +45,6 @@ abbrev pub frameStands : Frame → List ℕ → Bool
 frameStands (Asks c) f = stands c f
 frameStands Malformed f = true
 
--- what is asked for, where x is handed on beside the frame f: the command, if what it leaves in the frame stands there
-abbrev pub givenBy : Frame → List ℕ → rules.Command
-givenBy x f = if frameStands x f then frameOf x f else rules.malformed
+-- what is asked for, where the command c is handed on beside the frame f: c, if what it leaves in the frame stands there
+abbrev pub givenBy : Command → List ℕ → rules.Command
+givenBy c f = if stands c f then commandOf c f else rules.malformed

@@ -2,6 +2,7 @@
 ghost use Rattle.agent.specs.Contract.{Fresh, Meets};
 ghost use Rattle.savorylatch.specs.Host.{called};
 use agent::Agent;
+use frames::Frame;
 
 // Makes the record that the host holds fresh, for a device id.
 #[no_mangle]
@@ -22,12 +23,14 @@ pub extern "C" fn savorylatch_call(
 ) -> u8
     ensures { λ r. ⌜ Meets (now (agent .entry)) (now (frame .entry)) (now (store .entry)) (now (answer .entry)) (called (now (agent .exit)) r) (now (store .exit)) (now (answer .exit)) ⌝ }
 {
-    let asked = frames::read_frame(frame);
-    if agent::is_event(frame) {
+    let Frame::Asks(command) = frames::read_frame(frame) else {
+        return agent::refuse(store.len(), answer);
+    };
+    if agent::is_event(command) {
         let left = agent::elect(
             agent.device,
             agent.streams,
-            asked,
+            command,
             store.len(),
             answer.len(),
         );
@@ -35,11 +38,11 @@ pub extern "C" fn savorylatch_call(
         agent::notify(left, answer);
         return left.reason;
     }
-    if agent::is_configure(frame) {
+    if agent::is_configure(command) {
         let reason = agent::verify(
             agent.device,
             agent.streams,
-            asked,
+            command,
             frame,
             store.len(),
             answer.len(),
@@ -48,11 +51,11 @@ pub extern "C" fn savorylatch_call(
         if reason != 0 {
             return reason;
         }
-        agent.rows = agent::rows_asked(asked, frame);
+        agent.rows = agent::rows_asked(command, frame);
         agent.count = 0;
         return 0;
     }
-    let left = agent::serve(*agent, asked, frame, store, answer);
+    let left = agent::serve(*agent, command, frame, store, answer);
     agent.count = left.count;
     left.reason
 }

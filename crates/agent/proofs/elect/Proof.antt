@@ -1,10 +1,10 @@
--- Right because 2 is tested first, then 1, and what is left is an event or refused. Assumes nothing.
+-- Right because 2 is tested first, and what is left is an event or refused. Assumes nothing.
 use mathlib.Core.Path.{sym, ap, _∙_}
 use mathlib.Core.Logic.{inl, inr}
 use mathlib.Core.List.{[]}
+use Rattle.rules.specs.Frame.{cramped}
 use Rattle.arbitration.specs.Meaning.{streamsOf}
-use Rattle.frames.specs.declared.Frame.{Frame}
-use Rattle.frames.specs.Meaning.{frameOf}
+use Rattle.frames.specs.Meaning.{commandOf}
 use Rattle.agent.specs.Parts.{turn}
 use Rattle.agent.proofs.Calls.{too-short, long-enough}
 use borrow.Author.Needs.{needs}
@@ -17,7 +17,7 @@ unheard-requires c κs = search needs
 returns : tie.Need-returns
 returns c =
     let a = c .before .before .args in
-    c .unheard .ensures ∙ ap (turn (a .device) (streamsOf (a .streams))) (sym (too-short (a .room) (a .space) (frameOf (a .asked) []) (inl (c .before .if1 .taken))))
+    c .unheard .ensures ∙ ap (turn (a .device) (streamsOf (a .streams))) (sym (too-short (a .room) (a .space) (commandOf (a .command) []) cramped (inl (c .before .if1 .taken))))
 
 unheard-requires-2 : tie.Need-unheard-requires-2
 unheard-requires-2 c κs = search needs
@@ -25,45 +25,16 @@ unheard-requires-2 c κs = search needs
 returns-2 : tie.Need-returns-2
 returns-2 c =
     let a = c .before .before .before .args in
-    c .unheard2 .ensures ∙ ap (turn (a .device) (streamsOf (a .streams))) (sym (too-short (a .room) (a .space) (frameOf (a .asked) []) (inr (c .before .if2 .taken))))
-
-enum-known-asked : tie.Need-enum-known-asked
-enum-known-asked c = search needs
-
-enum-told : tie.Need-enum-told
-enum-told c = search needs
-
-unheard-requires-3 : tie.Need-unheard-requires-3
-unheard-requires-3 c κs = search needs
-
-returns-3 : tie.Need-returns-3
-returns-3 c =
-    let a = c .before .before .before .before .before .args in
-    c .unheard3 .ensures
-    ∙ ap (λ (x : Frame). turn (a .device) (streamsOf (a .streams)) (frameOf x [])) (sym (c .before .enum-told .given .1))
-    ∙ ap (turn (a .device) (streamsOf (a .streams))) (sym (long-enough (a .room) (a .space) (frameOf (a .asked) []) (c .before .before .before .before .if1 .left) (c .before .before .before .if2 .left)))
+    c .unheard2 .ensures ∙ ap (turn (a .device) (streamsOf (a .streams))) (sym (too-short (a .room) (a .space) (commandOf (a .command) []) cramped (inr (c .before .if2 .taken))))
 
 event-requires : tie.Need-event-requires
 event-requires c κs = search needs
 
-returns-4 : tie.Need-returns-4
-returns-4 c =
-    let a = c .before .before .before .before .before .before .args in
+returns-3 : tie.Need-returns-3
+returns-3 c =
+    let a = c .before .before .before .args in
     c .event .ensures
-    ∙ ap (λ (x : Frame). turn (a .device) (streamsOf (a .streams)) (frameOf x [])) (sym (c .before .before .asked .given .1))
-    ∙ ap (turn (a .device) (streamsOf (a .streams))) (sym (long-enough (a .room) (a .space) (frameOf (a .asked) []) (c .before .before .before .before .before .if1 .left) (c .before .before .before .before .if2 .left)))
+    ∙ ap (turn (a .device) (streamsOf (a .streams))) (sym (long-enough (a .room) (a .space) (commandOf (a .command) []) cramped (c .before .before .if1 .left) (c .before .if2 .left)))
 
 pub elect-spec : {M : Type 1} → statement M
-elect-spec =
-    tie.close
-    (tie.spec
-    unheard-requires
-    returns
-    unheard-requires-2
-    returns-2
-    enum-known-asked
-    enum-told
-    unheard-requires-3
-    returns-3
-    event-requires
-    returns-4)
+elect-spec = tie.close (tie.spec unheard-requires returns unheard-requires-2 returns-2 event-requires returns-3)
