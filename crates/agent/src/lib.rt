@@ -181,13 +181,7 @@ fn event(device: u64, streams: Streams, command: Command) -> Outcome
 
 // What an event leaves; 2 is tested first. Nothing is written: `notify` does that, when the record has been stored, so that nobody
 // needs the old one any more.
-pub fn elect(
-    device: u64,
-    streams: Streams,
-    command: Command,
-    room: usize,
-    space: usize,
-) -> Outcome
+pub fn elect(device: u64, streams: Streams, command: Command, room: usize, space: usize) -> Outcome
     ensures { λ r. ⌜ Elects device streams command room space r ⌝ }
 {
     if space < 57344 {
