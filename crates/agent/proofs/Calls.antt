@@ -4,12 +4,11 @@ use Prim.Native.Nat.{ℕ, _+_, _-_, _<_, _≤_}
 use native.Mathlib.Omega.{arith}
 use mathlib.Core.Path.{_≡_, refl, sym, ap, ap₂, _∙_, subst}
 use mathlib.Core.Bool.{Bool, true, false, _&&_}
-use mathlib.Core.Logic.{_⊎_, inl, inr}
 use mathlib.Core.List.{List, _++_}
 use lib.Dec.{leb}
 use lib.ListN.{length, take, drop, length-take, length-drop}
 use lib.Seq.{take-at, take-all}
-use borrow.Author.Tests.{le-leb, lt-leb}
+use borrow.Author.Tests.{leb-true}
 use Rattle.rules.specs.Bytes.{if_then_else_, number, part, int}
 use Rattle.rules.specs.Frame as rules
 use Rattle.rules.specs.Frame.{Command, cramped, readFrame}
@@ -19,6 +18,7 @@ use Rattle.rules.specs.Call.{roomy, commandOf, nextControl, nextTables, next, a
 use Rattle.rules.specs.Sound.{Sound}
 use Rattle.rules.proofs.Formed.{parts-count, call-formed}
 use Rattle.rules.proofs.Lists.{part-part}
+use Rattle.rules.proofs.Tests.{and-true}
 use Rattle.rules.proofs.Sound.{next-sound}
 use Rattle.frames.specs.declared.Query.{Query}
 use Rattle.frames.specs.Meaning.{queryOf}
@@ -30,17 +30,11 @@ use Rattle.agent.specs.Handlers.{queryIn, Named, Obeys}
 
 -- ---- 2 is tested first
 
-module _ {A : Type 0} (room space : ℕ) (x y : A) where
-  pub too-short : (space < 57_344) ⊎ (room < 56_320) → (if roomy room space then x else y) ≡ y
-  too-short (inl h) = rw (lt-leb 57_344 space h)
-  too-short (inr h) = rw (lt-leb 56_320 room h) (none (leb 57_344 space))
-    where
-      none : (b : Bool) → (if b && false then x else y) ≡ y
-      none true = refl
-      none false = refl
-
-  pub long-enough : 57_344 ≤ space → 56_320 ≤ room → (if roomy room space then x else y) ≡ x
-  long-enough h k = rw (le-leb 57_344 space h, le-leb 56_320 room k)
+-- what a test of the buffers says of their lengths
+pub long-enough : (room space : ℕ) → roomy room space ≡ true → (57_344 ≤ space) × (56_320 ≤ room)
+long-enough room space e =
+    let s = and-true (leb 57_344 space) (leb 56_320 room) e in
+    (leb-true 57_344 space (s .0), leb-true 56_320 room (s .1))
 
 -- no list of calls leaves a count over 256
 pub no-stray : (a : Agent) (store : List ℕ) → Kept a store → 256 < a .count → ⊥
@@ -56,9 +50,9 @@ module _ (a : Agent) (frame store d : List ℕ) where
 
   -- ---- 2
 
-  pub is-cramped : (length d < 57_344) ⊎ (length store < 56_320) → asked frame store d ≡ cramped
+  pub is-cramped : roomy (length store) (length d) ≡ false → asked frame store d ≡ cramped
   unfolding commandOf
-  is-cramped = too-short (length store) (length d) (readFrame frame) cramped
+  is-cramped e = rw e
 
   pub nothing-done : Obeyed a cramped store d (record { agent = a; reason = 2 }) store d
   unfolding next nextControl nextTables reply replyOf answer
@@ -66,16 +60,9 @@ module _ (a : Agent) (frame store d : List ℕ) where
 
   -- ---- every other call
 
-  module _ (wide : 57_344 ≤ length d) (enough : 56_320 ≤ length store) where
-    pub is-read : asked frame store d ≡ readFrame frame
-    unfolding commandOf
-    is-read = long-enough (length store) (length d) (readFrame frame) cramped wide enough
-
-    pub met : (c : Command) (r : Called) (store′ out : List ℕ) → readFrame frame ≡ c → Obeys a c store d r store′ out
-        → Meets a frame store d r store′ out
-    met c r store′ out e h k =
-        let o = subst (λ (c : Command). Obeyed a c store d r store′ out) (sym (is-read ∙ e)) (h k) in
-        record { kept = kept-on r store′ out k o; obeyed = o }
+  pub is-read : roomy (length store) (length d) ≡ true → asked frame store d ≡ readFrame frame
+  unfolding commandOf
+  is-read e = rw e
 
 -- ---- frames
 

@@ -1,14 +1,13 @@
 -- From what each part of a call leaves to what the call leaves: a frame that reads as a command of that part asks for what the part
 -- obeys. Assumes nothing.
-use Prim.Native.Nat.{ℕ, _<_, _≤_}
+use Prim.Native.Nat.{ℕ, _≤_}
 use native.Mathlib.Omega.{arith}
 use mathlib.Core.Path.{_≡_, refl, sym, ap, _∙_, subst}
 use mathlib.Core.Bool.{Bool, true, false, false≢true}
-use mathlib.Core.Logic.{_⊎_, inl, inr}
 use mathlib.Core.List.{List, []}
-use lib.Dec.{eqb, leb, ltb}
+use lib.Dec.{eqb, ltb}
 use lib.ListN.{length}
-use borrow.Author.Tests.{leb-true, leb-false, le-ltb}
+use borrow.Author.Tests.{le-ltb}
 use Rattle.rules.specs.Bytes.{if_then_else_}
 use Rattle.rules.specs.Frame.{Command, cramped, malformed, OPEN, CLOSE, ARBITRATE, CONFIGURE, WRITE, READ, readFrame}
 use Rattle.rules.specs.Streams as streams
@@ -35,7 +34,7 @@ use Rattle.agent.specs.Contract.{Kept, asked, Obeyed, Outcome, Meets}
 use Rattle.agent.specs.Handlers.{elected, configured, wrote, unchanged}
 use Rattle.agent.specs.Parts.{answered, unread, isEvent, isConfigure, turn, Elects, given, verdict, rowsAsked, onEntries, Serves}
 use Rattle.agent.proofs.Obeying.{OnStreams, turn-obeyed, turn-answered, malformed-obeyed, configure-refused, rows-allowed, was-configured}
-use Rattle.agent.proofs.Calls.{too-short, long-enough, kept-on, is-cramped, nothing-done, is-read}
+use Rattle.agent.proofs.Calls.{long-enough, kept-on, is-cramped, nothing-done, is-read}
 
 -- ---- what each part's commands are
 
@@ -97,13 +96,12 @@ not-2 s c n = go (eqb (answer s c .reason) 2) refl
         absurd (omega arith)
 
 -- the buffers are too short, or they are not
-by-room : {P : Type 0} (room space : ℕ) → ((space < 57_344) ⊎ (room < 56_320) → P) → (57_344 ≤ space → 56_320 ≤ room → P) → P
-by-room {P} room space short long = go (leb 57_344 space) refl (leb 56_320 room) refl
+by-room : {P : Type 0} (room space : ℕ) → (roomy room space ≡ false → P) → (roomy room space ≡ true → P) → P
+by-room {P} room space short long = go (roomy room space) refl
   where
-    go : (b : Bool) → leb 57_344 space ≡ b → (t : Bool) → leb 56_320 room ≡ t → P
-    go false p t q = short (inl (leb-false 57_344 space p))
-    go true p false q = short (inr (leb-false 56_320 room q))
-    go true p true q = long (leb-true 57_344 space p) (leb-true 56_320 room q)
+    go : (b : Bool) → roomy room space ≡ b → P
+    go false e = short e
+    go true e = long e
 
 -- an answer to a call whose buffers are long enough is written
 written : (n : ℕ) (x : Answer) (d : List ℕ) {out : List ℕ} → n ≤ length d → eqb (x .reason) 2 ≡ false → out ≡ answered n x d
@@ -127,16 +125,17 @@ refuse-met a frame store d reason out means v o k = left (by-room (length store)
     left : Obeyed a (asked frame store d) store d (unchanged a reason) store out → Outcome a frame store d (unchanged a reason) store out
     left y = record { kept = kept-on a frame store d (unchanged a reason) store out k y; obeyed = y }
 
-    short : (length d < 57_344) ⊎ (length store < 56_320) → Obeyed a (asked frame store d) store d (unchanged a reason) store out
+    short : roomy (length store) (length d) ≡ false → Obeyed a (asked frame store d) store d (unchanged a reason) store out
     short z =
-        let e : reason ≡ 2 = v ∙ too-short (length store) (length d) 1 2 z in
+        let e : reason ≡ 2 = v ∙ (rw z) in
         rw (is-cramped a frame store d z, e, unwritten 4 (plain reason) d e o) (nothing-done a frame store d)
 
-    long : 57_344 ≤ length d → 56_320 ≤ length store → Obeyed a (asked frame store d) store d (unchanged a reason) store out
-    long p q =
-        let e : reason ≡ 1 = v ∙ long-enough (length store) (length d) 1 2 p q in
-        let w : out ≡ splice d 0 (answerBytes (plain reason)) = written 4 (plain reason) d (omega arith) (ap (λ (m : ℕ). eqb m 2) e) o in
-        rw (is-read a frame store d p q, ← means, e) (malformed-obeyed a store d out (rw e at w))
+    long : roomy (length store) (length d) ≡ true → Obeyed a (asked frame store d) store d (unchanged a reason) store out
+    long z =
+        let e : reason ≡ 1 = v ∙ (rw z) in
+        let p = long-enough (length store) (length d) z in
+        let w : out ≡ splice d 0 (answerBytes (plain reason)) = written 4 (plain reason) d (omega (arith, p .0)) (ap (λ (m : ℕ). eqb m 2) e) o in
+        rw (is-read a frame store d z, ← means, e) (malformed-obeyed a store d out (rw e at w))
 
 -- ---- a command c that the frame was read as, and that is handed on beside it
 
@@ -145,25 +144,23 @@ module _ (a : Agent) (c : frames.Command) (frame store d : List ℕ) where
   asks = given c frame (length store) (length d)
 
   -- a WRITE or a READ is tested for 2 first
-  pub serve-short : (length d < 57_344) ⊎ (length store < 56_320) → Obeyed a (onEntries asks) store d (unchanged a 2) store d
-  serve-short z =
-      subst (λ (k : Command). Obeyed a (onEntries k) store d (unchanged a 2) store d)
-      (sym (too-short (length store) (length d) (givenBy c frame) cramped z)) (nothing-done a frame store d)
+  pub serve-short : roomy (length store) (length d) ≡ false → Obeyed a (onEntries asks) store d (unchanged a 2) store d
+  serve-short z = rw z (nothing-done a frame store d)
 
   -- and then obeyed
-  pub serve-long : 57_344 ≤ length d → 56_320 ≤ length store → (k : Command) → givenBy c frame ≡ k → {r : Called} {store′ out : List ℕ}
+  pub serve-long : roomy (length store) (length d) ≡ true → (k : Command) → givenBy c frame ≡ k → {r : Called} {store′ out : List ℕ}
       → Obeyed a (onEntries k) store d r store′ out → Obeyed a (onEntries asks) store d r store′ out
-  serve-long p q k e {r} {store′} {out} h =
-      subst (λ (x : Command). Obeyed a (onEntries x) store d r store′ out)
-      (sym (long-enough (length store) (length d) (givenBy c frame) cramped p q ∙ e)) h
+  serve-long z k e {r} {store′} {out} h =
+      let g : asks ≡ k = rw z e in
+      subst (λ (x : Command). Obeyed a (onEntries x) store d r store′ out) (sym g) h
 
   module _ (means : commandOf c frame ≡ readFrame frame) (there : stands c frame ≡ true) where
     is-asked : asks ≡ asked frame store d
     unfolding rules.commandOf
     is-asked = ap (λ (k : Command). if roomy (length store) (length d) then k else cramped) (given-there c frame there ∙ means)
 
-    is-frame : 57_344 ≤ length d → 56_320 ≤ length store → asks ≡ commandOf c frame
-    is-frame p q = long-enough (length store) (length d) (givenBy c frame) cramped p q ∙ given-there c frame there
+    is-frame : roomy (length store) (length d) ≡ true → asks ≡ commandOf c frame
+    is-frame z = rw z (given-there c frame there)
 
     as-asked : (r : Called) {store′ out : List ℕ} → Kept a store → Obeyed a asks store d r store′ out → Outcome a frame store d r store′ out
     as-asked r {store′} {out} k y =
@@ -184,11 +181,11 @@ module _ (a : Agent) (c : frames.Command) (frame store d : List ℕ) where
     module _ (reason : ℕ) (out : List ℕ) (test : isConfigure c ≡ true)
         (v : reason ≡ verdict (a .device) (controlOf a .streams) asks) (o : out ≡ answered 4 (plain reason) d) where
       -- its reason, where the buffers are too short, and where they are not
-      short-2 : (length d < 57_344) ⊎ (length store < 56_320) → reason ≡ 2
-      short-2 z = v ∙ ap (verdict (a .device) (controlOf a .streams)) (too-short (length store) (length d) (givenBy c frame) cramped z)
+      short-2 : roomy (length store) (length d) ≡ false → reason ≡ 2
+      short-2 z = v ∙ (rw z)
 
-      told : 57_344 ≤ length d → 56_320 ≤ length store → reason ≡ verdict (a .device) (controlOf a .streams) (commandOf c frame)
-      told p q = v ∙ ap (verdict (a .device) (controlOf a .streams)) (is-frame p q)
+      told : roomy (length store) (length d) ≡ true → reason ≡ verdict (a .device) (controlOf a .streams) (commandOf c frame)
+      told z = v ∙ ap (verdict (a .device) (controlOf a .streams)) (is-frame z)
 
       refused-by : (reason ≡ 0 → ⊥) → (k : Command) → OnRows k → reason ≡ verdict (a .device) (controlOf a .streams) k
           → 57_344 ≤ length d → Obeyed a k store d (unchanged a reason) store out
@@ -209,24 +206,24 @@ module _ (a : Agent) (c : frames.Command) (frame store d : List ℕ) where
       pub configure-refused-met : (reason ≡ 0 → ⊥) → Meets a frame store d (unchanged a reason) store out
       configure-refused-met n k = as-asked (unchanged a reason) k (by-room (length store) (length d) short long)
         where
-          short : (length d < 57_344) ⊎ (length store < 56_320) → Obeyed a asks store d (unchanged a reason) store out
+          short : roomy (length store) (length d) ≡ false → Obeyed a asks store d (unchanged a reason) store out
           short z =
-              rw (too-short (length store) (length d) (givenBy c frame) cramped z, short-2 z, unwritten 4 (plain reason) d (short-2 z) o)
-              (nothing-done a frame store d)
+              rw (z, short-2 z, unwritten 4 (plain reason) d (short-2 z) o) (nothing-done a frame store d)
 
-          long : 57_344 ≤ length d → 56_320 ≤ length store → Obeyed a asks store d (unchanged a reason) store out
-          long p q = rw (is-frame p q) (refused-by n (commandOf c frame) (on-rows c frame test) (told p q) p)
+          long : roomy (length store) (length d) ≡ true → Obeyed a asks store d (unchanged a reason) store out
+          long z = rw (is-frame z) (refused-by n (commandOf c frame) (on-rows c frame test) (told z) (long-enough (length store) (length d) z .0))
 
       pub configured-met : reason ≡ 0 → (rows : Rows) → rowsOf rows ≡ rowsAsked (givenBy c frame) → Meets a frame store d (configured a rows) store out
       configured-met z rows l k = as-asked (configured a rows) k (by-room (length store) (length d) short long)
         where
-          short : (length d < 57_344) ⊎ (length store < 56_320) → Obeyed a asks store d (configured a rows) store out
+          short : roomy (length store) (length d) ≡ false → Obeyed a asks store d (configured a rows) store out
           short y = absurd (let w : _≡_ {A = ℕ} 0 2 = sym z ∙ short-2 y in omega arith)
 
-          long : 57_344 ≤ length d → 56_320 ≤ length store → Obeyed a asks store d (configured a rows) store out
-          long p q =
-              rw (is-frame p q)
-              (configured-by rows z (commandOf c frame) (on-rows c frame test) (told p q) (l ∙ ap rowsAsked (given-there c frame there)) p)
+          long : roomy (length store) (length d) ≡ true → Obeyed a asks store d (configured a rows) store out
+          long y =
+              rw (is-frame y)
+              (configured-by rows z (commandOf c frame) (on-rows c frame test) (told y) (l ∙ ap rowsAsked (given-there c frame there))
+              (long-enough (length store) (length d) y .0))
 
     -- ---- OPEN, CLOSE, ARBITRATE
 
@@ -254,12 +251,11 @@ module _ (a : Agent) (c : frames.Command) (frame store d : List ℕ) where
       pub event-met : Meets a frame store d (elected a r) store out
       event-met k = as-asked (elected a r) k (by-room (length store) (length d) short long)
         where
-          short : (length d < 57_344) ⊎ (length store < 56_320) → Obeyed a asks store d (elected a r) store out
-          short z =
-              rw (too-short (length store) (length d) (givenBy c frame) cramped z)
-              (none-told (h ∙ ap (turn (a .device) (controlOf a .streams)) (too-short (length store) (length d) (commandOf c []) cramped z)))
+          short : roomy (length store) (length d) ≡ false → Obeyed a asks store d (elected a r) store out
+          short z = rw z (none-told (h ∙ (rw z)))
 
-          long : 57_344 ≤ length d → 56_320 ≤ length store → Obeyed a asks store d (elected a r) store out
-          long p q =
-              let w = h ∙ ap (turn (a .device) (controlOf a .streams)) (long-enough (length store) (length d) (commandOf c []) cramped p q ∙ event-alone c frame test) in
-              rw (is-frame p q) (event-by (commandOf c frame) (on-streams c frame test) w p k)
+          long : roomy (length store) (length d) ≡ true → Obeyed a asks store d (elected a r) store out
+          long z =
+              let e : outcomeOf r ≡ turn (a .device) (controlOf a .streams) (commandOf c []) = h ∙ (rw z) in
+              let w = e ∙ ap (turn (a .device) (controlOf a .streams)) (event-alone c frame test) in
+              rw (is-frame z) (event-by (commandOf c frame) (on-streams c frame test) w (long-enough (length store) (length d) z .0) k)

@@ -9,7 +9,7 @@ ghost use Rattle.rules.specs.Bytes.{parts, bytesOf, if_then_else_};
 ghost use Rattle.rules.specs.Reason.{first, codeOf};
 ghost use Rattle.rules.specs.Frame as rules;
 ghost use Rattle.rules.specs.Answer.{answerBytes};
-ghost use Rattle.rules.specs.Call.{heard, plain};
+ghost use Rattle.rules.specs.Call.{heard, plain, roomy};
 ghost use Rattle.buffers.specs.Splice.{splice};
 ghost use Rattle.arbitration.specs.Meaning.{headOf, streamsOf, outcomeOf, leftAs};
 ghost use Rattle.entry_store.specs.Update.{updatesIn};
@@ -88,14 +88,21 @@ pub fn answer_plain(reason: u8, answer: &mut [u8])
     write_head(reason, 0, answer);
 }
 
+// Whether the store, of this room, or the answer buffer, of this space, is too short: 2.
+fn cramped(room: usize, space: usize) -> bool
+    ensures { λ r. ⌜ r ≡ not (roomy room space) ⌝ }
+{
+    if 57344 <= space {
+        return room < 56320;
+    }
+    true
+}
+
 // The reason of a frame that is not read: 2 is tested first, then 1.
 fn unread_reason(room: usize, space: usize) -> u8
     ensures { λ r. ⌜ r ≡ unread room space ⌝ }
 {
-    if space < 57344 {
-        return 2;
-    }
-    if room < 56320 {
+    if cramped(room, space) {
         return 2;
     }
     1
@@ -184,10 +191,7 @@ fn event(device: u64, streams: Streams, command: Command) -> Outcome
 pub fn elect(device: u64, streams: Streams, command: Command, room: usize, space: usize) -> Outcome
     ensures { λ r. ⌜ Elects device streams command room space r ⌝ }
 {
-    if space < 57344 {
-        return unheard(streams, 2);
-    }
-    if room < 56320 {
+    if cramped(room, space) {
         return unheard(streams, 2);
     }
     event(device, streams, command)
@@ -269,10 +273,7 @@ pub fn verify(
 ) -> u8
     ensures { λ r. ⌜ r ≡ verdict device (streamsOf streams) (given command (now (frame .entry)) room space) ⌝ }
 {
-    if space < 57344 {
-        return 2;
-    }
-    if room < 56320 {
+    if cramped(room, space) {
         return 2;
     }
     if !command.stands(frame) {
@@ -469,10 +470,7 @@ pub fn serve(
     ensures { λ r. ⌜ Serves agent command (now (frame .entry)) (now (store .entry)) (now (answer .entry)) r (now (store .exit)) (now (answer .exit)) ⌝ }
 {
     let count = agent.count;
-    if answer.len() < 57344 {
-        return Wrote { count, reason: 2 };
-    }
-    if store.len() < 56320 {
+    if cramped(store.len(), answer.len()) {
         return Wrote { count, reason: 2 };
     }
     if 256 < count {
