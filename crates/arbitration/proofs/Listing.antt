@@ -65,5 +65,9 @@ module _ (s : Streams) (size : length (s .streams) ≡ 32) {p : rules.Stream →
         ∙ w .whole);
   }
 
+  -- a stream that does not pass is not listed
+  pub listed-same : k < 32 → {x : rules.Stream} → x ≡ streamOf (getD (s .streams) k noStream) → false ≡ p x → Listed p (streamsOf s) l n (k + 1)
+  listed-same h e f = record { whole = ap (λ (z : List ℕ). take n l ++ z) (sym (left-next s size p k h e f false refl)) ∙ w .whole }
+
   pub listed-all : 32 ≤ k → take n l ≡ numbers p 0 (streamsOf s .streams)
   listed-all h = sym (append-nil (take n l)) ∙ ap (λ (z : List ℕ). take n l ++ z) (sym (left-none s size p k h)) ∙ w .whole

@@ -11,7 +11,7 @@ use lib.ListN.{length, getD, List·getD-map}
 use borrow.Author.Tests.{ltb-true, ltb-false, lt-ltb}
 use Rattle.rules.specs.Bytes.{if_then_else_, some-of}
 use Rattle.rules.specs.Streams as rules
-use Rattle.rules.specs.Streams.{inRole, holds, numbers, members, head, markOf}
+use Rattle.rules.specs.Streams.{closed, unbound, bound, inRole, holds, numbers, members, head, markOf}
 use Rattle.arbitration.specs.Meaning.{idOf, streamOf, streamsOf, numbered}
 use Rattle.arbitration.specs.declared.Streams.{Streams}
 use Rattle.arbitration.proofs.Records.{noStream, unset, past-read}
@@ -86,8 +86,17 @@ module _ (self : Streams) (size : length (self .streams) ≡ 32) {p : rules.Stre
         ∙ ap (λ (z : ℕ). foundOr z (left p (streamsOf self) (k + 1))) (sym g);
   }
 
+  pub first-same : k < 32 → {x : rules.Stream} → x ≡ streamOf (getD (self .streams) k noStream) → false ≡ p x → First p (streamsOf self) found (k + 1)
+  first-same h e f = record { whole = w .whole ∙ ap (foundOr found) (left-next self size p k h e f false refl) }
+
   pub first-all : 32 ≤ k → numbered found ≡ head (numbers p 0 (streamsOf self .streams))
   first-all h = sym (w .whole ∙ ap (foundOr found) (left-none self size p k h))
+
+-- a stream that is not of the role does not hold an id in it
+pub none-held : (r i : ℕ) (x : rules.Stream) → inRole r x ≡ false → false ≡ holds r i x
+none-held r i closed h = refl
+none-held r i unbound h = refl
+none-held r i (bound q j) h = rw h refl
 
 -- ---- the walk of an ARBITRATE
 

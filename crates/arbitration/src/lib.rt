@@ -604,10 +604,11 @@ impl Streams {
         while k < 32 {
             let s = self.streams[k];
             let b = s.binding();
-            // counted only where the stream is of the role: otherwise the next one is written over it
-            members[count] = k as u8;
-            count += one(b.in_role(role));
-            holder = first(holder, b.holds(role, mark), k);
+            if b.in_role(role) {
+                members[count] = k as u8;
+                count += 1;
+                holder = first(holder, b.holds(role, mark), k);
+            }
             k += 1;
         }
         Roll {

@@ -1,15 +1,19 @@
 -- Right because what the walk has listed and found, with what is left of the streams, is what the whole record shows. Assumes nothing.
 use Prim.Native.Nat.{ℕ, _+_, _-_, _≤_}
 use native.Mathlib.Omega.{arith}
-use mathlib.Core.Path.{_≡_, sym, ap, _∙_}
+use mathlib.Core.Path.{_≡_, sym, ap, _∙_, subst}
+use mathlib.Core.Bool.{Bool}
+use mathlib.Core.Logic.{⊎-elim}
+use mathlib.Core.List.{List}
 use lib.ListN.{length, length-set}
 use lib.Seq.{length-take-le}
 use borrow.Author.Needs.{needs}
+use Rattle.rules.specs.Bytes.{if_then_else_}
 use Rattle.rules.specs.Streams.{inRole, holds, primary}
-use Rattle.arbitration.specs.Meaning.{idOf, streamsOf}
+use Rattle.arbitration.specs.Meaning.{idOf, bindingOf, streamsOf}
 use Rattle.rules.proofs.Lists.{length-mapped}
-use Rattle.arbitration.proofs.Listing.{Listed, listed-none, listed-next, listed-all}
-use Rattle.arbitration.proofs.Surveys.{mark-read, at-most-one, First, first-none, first-next, first-all}
+use Rattle.arbitration.proofs.Listing.{Listed, listed-none, listed-next, listed-same, listed-all}
+use Rattle.arbitration.proofs.Surveys.{mark-read, none-held, First, first-none, first-next, first-same, first-all}
 use Rattle.arbitration.proofs.Streams.roll.Statement.{statement}
 use Rattle.arbitration.proofs.Streams.roll.Tie as tie
 
@@ -71,11 +75,8 @@ slice-write-members c = search needs
 in-role-requires : tie.Need-in-role-requires Inv-loop μ-loop
 in-role-requires c κs = search needs
 
-one-requires : tie.Need-one-requires Inv-loop μ-loop
-one-requires c κs = search needs
-
 add-count : tie.Need-add-count Inv-loop μ-loop
-add-count c = let h = at-most-one (c .before .in-role .result) in omega (arith, c .one .ensures, h)
+add-count c = search needs
 
 holds-requires : tie.Need-holds-requires Inv-loop μ-loop
 holds-requires c κs = search needs
@@ -91,21 +92,34 @@ loop-less c = search needs
 
 loop-again : tie.Need-loop-again Inv-loop μ-loop
 loop-again c =
-    let o = c .before .before in
-    let r = o .before in
+    let r = c .before in
     let b = r .before in
     let t = b .before .before in
     let d = t .before in
     let a = d .before .before .before .before .args in
-    let h = at-most-one (r .in-role .result) in
-    let m = ap (λ (z : ℕ). d .loop .count + z) (o .one .ensures) in
-    let i = d .loop .inv in (
+    let m = idOf (d .before .mark-of .result) in
+    let i = d .loop .inv in
+    ⊎-elim
+    (λ w.
+    let n = w .4 ∙ ap (λ (z : Bool). d .loop .count + (if z then 1 else 0)) (sym (w .0 .taken)) in
+    let l = listed-next (a .t1) (size d) (i .3) (t .loop-test .taken) (omega arith) (b .binding .ensures) (r .in-role .ensures) n in (
       omega arith,
-      omega (arith, o .one .ensures, h),
-      simp length-set (i .2),
-      listed-next (a .t1) (size d) (i .3) (t .loop-test .taken) (omega arith) (b .binding .ensures) (r .in-role .ensures) m,
-      first-next (a .t1) (size d) (i .4) (t .loop-test .taken) (b .binding .ensures) (c .before .holds .ensures) (c .first .ensures),
-    )
+      omega (arith, w .4),
+      ap length (w .3) ∙ length-set (d .loop .members) (d .loop .count) (d .loop .k) ∙ i .2,
+      subst (λ (x : List ℕ). Listed (inRole (a .role)) (streamsOf (a .t1)) x (c .if1 .count) (d .loop .k + 1)) (sym (w .3)) l,
+      first-next (a .t1) (size d) (i .4) (t .loop-test .taken) (b .binding .ensures) (w .1 .ensures) (w .5 ∙ w .2 .ensures),
+    ))
+    (λ w.
+    let out = sym (r .in-role .ensures) ∙ w .0 .left in
+    let l = listed-same (a .t1) (size d) (i .3) (t .loop-test .taken) (b .binding .ensures) (sym out) in
+    let f = first-same (a .t1) (size d) (i .4) (t .loop-test .taken) (b .binding .ensures) (none-held (a .role) m (bindingOf (b .binding .result)) out) in (
+      omega arith,
+      omega (arith, w .2),
+      ap length (w .1) ∙ i .2,
+      rw (w .1, w .2) l,
+      rw (w .3) f,
+    ))
+    (c .if1 .came)
 
 primary-at-requires : tie.Need-primary-at-requires Inv-loop μ-loop
 primary-at-requires c κs = search needs
@@ -143,10 +157,9 @@ roll-spec =
     mul-s
     element-copy-out-s
     binding-requires
+    in-role-requires
     cast-members
     slice-write-members
-    in-role-requires
-    one-requires
     add-count
     holds-requires
     first-requires
