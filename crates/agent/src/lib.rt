@@ -490,13 +490,15 @@ pub fn serve(
 pub fn call(mut agent: Agent, frame: &[u8], store: &mut [u8], answer: &mut [u8]) -> Called
     ensures { λ r. ⌜ Meets agent (now (frame .entry)) (now (store .entry)) (now (answer .entry)) r (now (store .exit)) (now (answer .exit)) ⌝ }
 {
+    let room = store.len();
+    let space = answer.len();
     let Frame::Asks(command) = frames::read_frame(frame) else {
-        let reason = refuse(store.len(), answer);
+        let reason = refuse(room, answer);
         return Called { agent, reason };
     };
     if is_event(command) {
         let streams = agent.streams;
-        let outcome = elect(agent.device, streams, command, store.len(), answer.len());
+        let outcome = elect(agent.device, streams, command, room, space);
         notify(outcome, answer);
         let left = outcome.streams;
         agent.streams = left;
@@ -507,14 +509,7 @@ pub fn call(mut agent: Agent, frame: &[u8], store: &mut [u8], answer: &mut [u8])
     }
     if is_configure(command) {
         let streams = agent.streams;
-        let reason = verify(
-            agent.device,
-            streams,
-            command,
-            frame,
-            store.len(),
-            answer.len(),
-        );
+        let reason = verify(agent.device, streams, command, frame, room, space);
         answer_plain(reason, answer);
         if reason != 0 {
             return Called { agent, reason };
