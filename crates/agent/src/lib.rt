@@ -69,12 +69,6 @@ fn write_head(reason: u8, count: usize, answer: &mut [u8])
     answer[3] = (count % 256) as u8;
 }
 
-// What WRITE or READ leaves of the record.
-pub struct Wrote {
-    pub count: usize,
-    pub reason: u8,
-}
-
 // Writes an answer without records. Under 2, or where there is no room for a head, nothing is written.
 pub fn answer_plain(reason: u8, answer: &mut [u8])
     ensures { λ _. ⌜ now (answer .exit) ≡ answered 4 (plain reason) (now (answer .entry)) ⌝ }
@@ -308,6 +302,12 @@ pub fn rows_asked(command: Command, frame: &[u8]) -> Rows
 }
 
 // ---- WRITE
+
+// What a WRITE, or a READ, leaves of the record.
+pub struct Wrote {
+    pub count: usize,
+    pub reason: u8,
+}
 
 // 5, 6, 10, 12 and 13.
 fn write_reason(here: bool, role: u8, primary: bool, unconfigured: bool, atomicity: u8) -> u8

@@ -8,7 +8,7 @@ ghost use lib.Dec.{eqb, ltb};
 ghost use Rattle.rules.specs.Bytes.{some-of, part, parts, sum};
 ghost use Rattle.rules.specs.Call.{unconfigured};
 ghost use Rattle.rules.specs.Row as rules;
-ghost use Rattle.rows.specs.Meaning.{fieldOf, actionOf, rowOf, rowsOf, rowAt, rowsIn, countsFit, fieldsPass, actionPasses, actionIds, actionsPass, tableIds, rowsPass, tableSizes};
+ghost use Rattle.rows.specs.Meaning.{fieldOf, actionOf, rowOf, rowsOf, rowAt, placeFrom, rowsIn, countsFit, fieldsPass, actionPasses, actionIds, actionsPass, tableIds, rowsPass, tableSizes};
 use numbers::integer;
 
 // A match field: a kind and a width in bits.
@@ -362,6 +362,7 @@ impl Rows {
     pub fn position(self, table: u64) -> usize
         ensures known { λ r. ⌜ ltb r 8 ≡ rules.known table (rowsOf self) ⌝ }
         ensures row { λ r. ⌜ rowAt self r ≡ rules.rowFor table (rowsOf self) ⌝ }
+        ensures place { λ r. ⌜ r ≡ placeFrom 0 table (rowsOf self) ⌝ }
     {
         let n = self.count as usize;
         let mut i: usize = 0;

@@ -120,7 +120,7 @@ loop-again c =
     let k : 221 * i + 221 - 221 * i ≡ 221 = omega arith in
     let long : length (drop 1 (part (221 * i) 221 us)) ≡ 220 =
     omega (arith, length-drop 1 (part (221 * i) 221 us), length-window (221 * i) 221 us (at .1)) in
-    let found = row-found (a .t1) us i (p .position .result) (p .before .integer .ensures) (p .position .ensures .0) (p .position .ensures .1) in
+    let found = row-found (a .t1) us i (p .position .result) (p .before .integer .ensures) (p .position .ensures .0) (p .position .ensures .1 .0) in
     let update = rw k at (u .ensures (rowsOf (a .t1))) in
     let written = part-copied x (w .last .1 .0) (pairOf r) (2 * i) (length x - 2 * i) (w .ensures)
     (omega (arith, at .3)) (omega (arith, at .3)) in

@@ -39,7 +39,7 @@ judging c =
     let p = c .before .before in
     let a = p .before .before .args in
     let size : length (a .t1 .rows) ≡ 8 = search (needs, length-mapped) in
-    row-judging (a .t1) (p .position .result) (a .table) size (p .position .ensures .0) (p .position .ensures .1) (c .fields-known .ensures)
+    row-judging (a .t1) (p .position .result) (a .table) size (p .position .ensures .0) (p .position .ensures .1 .0) (c .fields-known .ensures)
 
 returns : tie.Need-returns
 returns c =
