@@ -1,8 +1,7 @@
--- What is proved of streams, marks and notifications.
+-- What is proved of streams, marks and events.
 pub mod Records
 pub mod Listing
 pub mod Surveys
 pub mod Pairs
-pub mod Notices
 pub mod Events
 pub mod Stores

@@ -12,7 +12,8 @@ use lib.Seq.{drop-cons, append-snoc, take-set-le, take-suc-set}
 use Rattle.rules.specs.Bytes.{if_then_else_}
 use Rattle.rules.specs.Streams as rules
 use Rattle.rules.specs.Streams.{closed, numbers, streamAt}
-use Rattle.arbitration.specs.Meaning.{streamOf, streamsOf}
+use Rattle.election.specs.Meaning.{streamOf}
+use Rattle.arbitration.specs.Meaning.{streamsOf}
 use Rattle.arbitration.specs.declared.Streams.{Streams}
 use Rattle.arbitration.proofs.Records.{noStream, sized}
 

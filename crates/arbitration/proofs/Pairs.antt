@@ -13,7 +13,7 @@ use Rattle.rules.specs.Bytes.{if_then_else_, some-of}
 use Rattle.rules.specs.Frame.{Head}
 use Rattle.rules.specs.Streams.{Stream, bound, Streams, holds, numbers, head, is, markOf, primary, heldElsewhere, binds, sameOption, samePair}
 use Rattle.rules.proofs.Tests.{and-false, both-true}
-use Rattle.arbitration.specs.Meaning.{numbered}
+use Rattle.election.specs.Meaning.{numbered}
 use Rattle.arbitration.proofs.Events.{pair-marks, pair-primaries}
 use Rattle.arbitration.proofs.Surveys.{other}
 

@@ -12,10 +12,11 @@ use lib.Seq.{set-out, set-getD}
 use borrow.Author.Tests.{ltb-true, ltb-false}
 use Rattle.rules.specs.Bytes.{if_then_else_}
 use Rattle.rules.specs.Streams as rules
-use Rattle.arbitration.specs.Meaning.{idOf, headOf, streamOf, streamsOf}
-use Rattle.arbitration.specs.declared.ElectionId.{ElectionId}
-use Rattle.arbitration.specs.declared.Head.{Head}
-use Rattle.arbitration.specs.declared.Stream.{Stream}
+use Rattle.election.specs.Meaning.{idOf, headOf, streamOf}
+use Rattle.arbitration.specs.Meaning.{streamsOf}
+use Rattle.election.specs.declared.ElectionId.{ElectionId}
+use Rattle.election.specs.declared.Head.{Head}
+use Rattle.election.specs.declared.Stream.{Stream}
 use Rattle.arbitration.specs.declared.Streams.{Streams}
 
 module _ {X Y : Type 0} (f : X → Y) where

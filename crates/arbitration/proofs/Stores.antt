@@ -11,11 +11,12 @@ use Rattle.rules.specs.Bytes.{if_then_else_}
 use Rattle.rules.specs.Streams as rules
 use Rattle.rules.specs.Streams.{closed, unbound, bound, isOpen, streamAt, become, openStream, closeStream, closeRecords, arbitrateReason, arbitrate}
 use Rattle.rules.proofs.Tests.{clash}
-use Rattle.arbitration.specs.Meaning.{idOf, headOf, streamOf, streamsOf, recordsOf, leftAs}
-use Rattle.arbitration.specs.declared.ElectionId.{ElectionId}
-use Rattle.arbitration.specs.declared.Head.{Head}
+use Rattle.election.specs.Meaning.{idOf, headOf, streamOf}
+use Rattle.arbitration.specs.Meaning.{recordsOf, leftAs, streamsOf}
+use Rattle.election.specs.declared.ElectionId.{ElectionId}
+use Rattle.election.specs.declared.Head.{Head}
 use Rattle.arbitration.specs.declared.Notify.{Notify}
-use Rattle.arbitration.specs.declared.Stream.{Stream}
+use Rattle.election.specs.declared.Stream.{Stream}
 use Rattle.arbitration.specs.declared.Streams.{Streams}
 use Rattle.arbitration.proofs.Records.{unset, noStream, kept-set, sized, raised-at, read, past-closed, past-stored, stored, bound-stored}
 use Rattle.arbitration.proofs.Events.{open-closed, open-twice, shut, close-closed, close-open, closes, within, heard-within, arbitrate-refused, arbitrate-closes, arbitrate-binds}

@@ -12,7 +12,8 @@ use borrow.Author.Tests.{ltb-true, ltb-false, lt-ltb}
 use Rattle.rules.specs.Bytes.{if_then_else_, some-of}
 use Rattle.rules.specs.Streams as rules
 use Rattle.rules.specs.Streams.{closed, unbound, bound, inRole, holds, numbers, members, head, markOf}
-use Rattle.arbitration.specs.Meaning.{idOf, streamOf, streamsOf, numbered}
+use Rattle.election.specs.Meaning.{idOf, streamOf, numbered}
+use Rattle.arbitration.specs.Meaning.{streamsOf}
 use Rattle.arbitration.specs.declared.Streams.{Streams}
 use Rattle.arbitration.proofs.Records.{noStream, unset, past-read}
 use Rattle.arbitration.proofs.Listing.{left, left-next, left-none}

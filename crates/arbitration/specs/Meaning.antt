@@ -1,55 +1,21 @@
--- What the values of this crate mean in the rules' terms. Assumes nothing.
+-- What the stream record, a walk over it and an outcome mean in the rules' terms. Assumes nothing.
 use mathlib.Core.Path.{_≡_}
 use mathlib.Core.Bool.{Bool, false}
 use mathlib.Core.List.{List, [], _∷_, map}
-use mathlib.Core.Option.{Option, none, some}
 use Prim.Native.Nat.{ℕ, _<_}
-use lib.Dec.{eqb, ltb}
 use lib.ListN.{length}
-use Rattle.rules.specs.Bytes.{if_then_else_}
 use Rattle.rules.specs.Frame as frame
 use Rattle.rules.specs.Streams as rules
-use Rattle.numbers.specs.Whole.{wholeOf}
-use Rattle.arbitration.specs.declared.ElectionId.{ElectionId}
-use Rattle.arbitration.specs.declared.Head.{Head}
-use Rattle.arbitration.specs.declared.Binding.{Binding}
-use Rattle.arbitration.specs.declared.Binding.the-variants.{Closed, Open, Bound}
-use Rattle.arbitration.specs.declared.Stream.{Stream}
+use Rattle.election.specs.declared.Head.{Head}
+use Rattle.election.specs.Meaning.{idOf, headOf, bindingOf, streamOf, numbered}
 use Rattle.arbitration.specs.declared.Streams.{Streams}
-use Rattle.arbitration.specs.declared.Primary.{Primary}
-use Rattle.arbitration.specs.declared.Primary.the-variants.{Nobody, Is}
 use Rattle.arbitration.specs.declared.Survey.{Survey}
 use Rattle.arbitration.specs.declared.Notify.{Notify}
 use Rattle.arbitration.specs.declared.Notify.the-variants.{None, Only, All}
 use Rattle.arbitration.specs.declared.Outcome.{Outcome}
 
--- an election id as a number, 0 where it is unset
-abbrev pub idOf : ElectionId → ℕ
-idOf e = wholeOf (e .number)
-
-abbrev pub headOf : Head → frame.Head
-headOf h = record { device = h .device; role = h .role; id = idOf (h .id) }
-
--- what a stream is
-abbrev pub bindingOf : Binding → rules.Stream
-bindingOf Closed = rules.closed
-bindingOf Open = rules.unbound
-bindingOf (Bound r i) = rules.bound r (idOf i)
-
--- a stream of the record: phase 1 is open, 2 bound, and any other closed
-abbrev pub streamOf : Stream → rules.Stream
-streamOf s =
-    if eqb (s .phase) 1 then rules.unbound else
-    if eqb (s .phase) 2 then rules.bound (s .role) (idOf (s .id)) else
-    rules.closed
-
 unfoldable pub streamsOf : Streams → rules.Streams
 streamsOf e = record { streams = map streamOf (e .streams); marks = map idOf (e .marks) }
-
--- the primary of a role, or none
-abbrev pub primaryOf : Primary → Option ℕ
-primaryOf Nobody = none
-primaryOf (Is s) = some s
 
 -- the records of who is to be notified: nobody, one stream of a role, or all streams of a role
 unfoldable pub recordsOf : Notify → rules.Streams → List (List ℕ)
@@ -72,10 +38,6 @@ leftAs e reason = record { after = e; reason = reason; records = [] }
 -- stream s closed under a reason, with the notifications of a CLOSE
 abbrev pub closedUnder : rules.Streams → ℕ → ℕ → rules.Outcome
 closedUnder e s reason = record { after = rules.become e s rules.closed; reason = reason; records = rules.closeRecords e s }
-
--- a stream's number, or none from 32 on
-abbrev pub numbered : ℕ → Option ℕ
-numbered k = if ltb k 32 then some k else none
 
 -- what a walk over the record e shows of role r to stream s with id i
 pub record Shows (seen : Survey) (e : rules.Streams) (s r i : ℕ) : Type 0 where

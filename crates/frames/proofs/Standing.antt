@@ -8,7 +8,7 @@ use lib.ListN.{length}
 use borrow.Author.Tests.{eqb-true, leb-true, eq-eqb, ne-eqb, not-true}
 use Rattle.rules.specs.Bytes.{byte, int}
 use Rattle.rules.proofs.Tests.{clash, and-true, both-true}
-use Rattle.arbitration.specs.declared.Head.{Head}
+use Rattle.election.specs.declared.Head.{Head}
 use Rattle.frames.specs.declared.Query.{Query}
 use Rattle.frames.specs.declared.Command.{Command}
 use Rattle.frames.specs.declared.Command.the-variants.{Configure, Write, Read}

@@ -6,7 +6,7 @@ use lib.Dec.{eqb, leb}
 use lib.ListN.{length, drop}
 use Rattle.rules.specs.Bytes.{if_then_else_, part, parts, int}
 use Rattle.rules.specs.Frame as rules
-use Rattle.arbitration.specs.Meaning.{headOf}
+use Rattle.election.specs.Meaning.{headOf}
 use Rattle.frames.specs.declared.Query.{Query}
 use Rattle.frames.specs.declared.Command.{Command}
 use Rattle.frames.specs.declared.Command.the-variants.{Open, Close, Arbitrate, Configure, Write, Read}

@@ -5,10 +5,10 @@ ghost use Prim.Native.Nat.{_+_, _≤_};
 ghost use lib.ListN.{length};
 ghost use Rattle.rules.specs.Bytes.{byte};
 ghost use Rattle.rules.specs.Frame as rules;
-ghost use Rattle.arbitration.specs.Meaning.{headOf};
+ghost use Rattle.election.specs.Meaning.{headOf};
 ghost use Rattle.frames.specs.Meaning.{frameOf, frameStands, stands};
-use arbitration::ElectionId;
-use arbitration::Head;
+use election::ElectionId;
+use election::Head;
 use numbers::integer;
 
 // What a READ asks for; its key stands in the frame: the table at 10, the rest from byte 15 on.

@@ -4,8 +4,9 @@ use mathlib.Core.Path.{_≡_, refl, sym, ap, _∙_}
 use mathlib.Core.Bool.{not}
 use borrow.Author.Tests.{eq-eqb, ne-eqb, lt-ltb, le-ltb, le-leb, lt-leb}
 use Rattle.rules.specs.Streams as rules
-use Rattle.arbitration.specs.declared.Binding.{Binding}
-use Rattle.arbitration.specs.Meaning.{idOf, headOf, bindingOf, Shows}
+use Rattle.election.specs.declared.Binding.{Binding}
+use Rattle.election.specs.Meaning.{idOf, headOf, bindingOf}
+use Rattle.arbitration.specs.Meaning.{Shows}
 use Rattle.arbitration.proofs.Events.{Gives, nothing, here, past, reason-is}
 use borrow.Author.Needs.{needs}
 use Rattle.arbitration.proofs.reason.Statement.{statement}

@@ -8,7 +8,7 @@ use lib.ListN.{length}
 use borrow.Author.Tests.{eqb-true, ltb-true, ltb-false, not-true, not-false}
 use borrow.Author.Needs.{needs}
 use Rattle.rules.specs.Streams as rules
-use Rattle.arbitration.specs.Meaning.{idOf, headOf}
+use Rattle.election.specs.Meaning.{idOf, headOf}
 use Rattle.arbitration.proofs.Pairs.{pair-unset, pair-raised, pair-holder, pair-other, is-numbered}
 use Rattle.arbitration.proofs.same_pair.Statement.{statement}
 use Rattle.arbitration.proofs.same_pair.Tie as tie

@@ -3,7 +3,7 @@ use native.Mathlib.Omega.{arith}
 use mathlib.Core.Path.{_≡_, ap, _∙_}
 use Rattle.rules.specs.Bytes.{part, int, number}
 use Prim.Native.Nat.{ℕ, _+_, _-_}
-use Rattle.arbitration.specs.Meaning.{idOf}
+use Rattle.election.specs.Meaning.{idOf}
 use borrow.Author.Needs.{needs}
 use Rattle.frames.proofs.head_at.Statement.{statement}
 use Rattle.frames.proofs.head_at.Tie as tie

@@ -2,7 +2,8 @@
 use mathlib.Core.Path.{_≡_}
 use lib.ListN.{length}
 use borrow.Author.Needs.{needs}
-use Rattle.arbitration.specs.Meaning.{headOf, streamsOf}
+use Rattle.election.specs.Meaning.{headOf}
+use Rattle.arbitration.specs.Meaning.{streamsOf}
 use Rattle.rules.proofs.Lists.{length-mapped}
 use Rattle.arbitration.proofs.Events.{arbitrate-leaves}
 use Rattle.arbitration.proofs.Stores.{arbitrates}

@@ -10,7 +10,8 @@ use borrow.Author.Tests.{eq-eqb, ne-eqb, ltb-true, ltb-false, not-true, not-fals
 use lib.ListN.{length}
 use borrow.Author.Needs.{needs}
 use Rattle.rules.specs.Streams.{Streams, holds, numbers, head, markOf, primary, isSome, byPrimary}
-use Rattle.arbitration.specs.Meaning.{idOf, streamsOf}
+use Rattle.election.specs.Meaning.{idOf}
+use Rattle.arbitration.specs.Meaning.{streamsOf}
 use Rattle.rules.proofs.Lists.{length-mapped}
 use Rattle.arbitration.proofs.Listing.{left, left-next, left-none}
 use Rattle.arbitration.proofs.Surveys.{mark-read}

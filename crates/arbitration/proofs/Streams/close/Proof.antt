@@ -3,7 +3,8 @@ use mathlib.Core.Path.{_≡_}
 use lib.ListN.{length}
 use borrow.Author.Needs.{needs}
 use Rattle.rules.specs.Streams as rules
-use Rattle.arbitration.specs.Meaning.{bindingOf, streamsOf}
+use Rattle.election.specs.Meaning.{bindingOf}
+use Rattle.arbitration.specs.Meaning.{streamsOf}
 use Rattle.rules.proofs.Lists.{length-mapped}
 use Rattle.arbitration.proofs.Records.{read-at}
 use Rattle.arbitration.proofs.Stores.{shuts}

@@ -2,7 +2,8 @@
 use mathlib.Core.Path.{refl, sym, ap, _∙_}
 use borrow.Author.Needs.{needs}
 use Rattle.rules.specs.Streams as rules
-use Rattle.arbitration.specs.Meaning.{headOf, streamsOf, recordsOf}
+use Rattle.election.specs.Meaning.{headOf}
+use Rattle.arbitration.specs.Meaning.{recordsOf, streamsOf}
 use Rattle.arbitration.proofs.Events.{heard-within, accepted-alone, arbitrate-refused, arbitrate-closes, arbitrate-binds, told-as}
 use Rattle.arbitration.proofs.Streams.heard.Statement.{statement}
 use Rattle.arbitration.proofs.Streams.heard.Tie as tie

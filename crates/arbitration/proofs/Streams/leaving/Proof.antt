@@ -2,7 +2,8 @@
 use mathlib.Core.Path.{refl, sym, ap, _∙_}
 use borrow.Author.Tests.{eq-eqb, ne-eqb}
 use borrow.Author.Needs.{needs}
-use Rattle.arbitration.specs.Meaning.{bindingOf, primaryOf, streamsOf, recordsOf}
+use Rattle.election.specs.Meaning.{bindingOf, primaryOf}
+use Rattle.arbitration.specs.Meaning.{recordsOf, streamsOf}
 use Rattle.arbitration.proofs.Events.{leaves-quiet, backup-leaves, primary-leaves}
 use Rattle.arbitration.proofs.Streams.leaving.Statement.{statement}
 use Rattle.arbitration.proofs.Streams.leaving.Tie as tie

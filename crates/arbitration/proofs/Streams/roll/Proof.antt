@@ -10,7 +10,8 @@ use lib.Seq.{length-take-le}
 use borrow.Author.Needs.{needs}
 use Rattle.rules.specs.Bytes.{if_then_else_}
 use Rattle.rules.specs.Streams.{inRole, holds, primary}
-use Rattle.arbitration.specs.Meaning.{idOf, bindingOf, streamsOf}
+use Rattle.election.specs.Meaning.{idOf, bindingOf}
+use Rattle.arbitration.specs.Meaning.{streamsOf}
 use Rattle.rules.proofs.Lists.{length-mapped}
 use Rattle.arbitration.proofs.Listing.{Listed, listed-none, listed-next, listed-same, listed-all}
 use Rattle.arbitration.proofs.Surveys.{mark-read, none-held, First, first-none, first-next, first-same, first-all}

@@ -8,7 +8,8 @@ use lib.ListN.{length, getD, List·getD-map}
 use borrow.Author.Tests.{not-true, not-false}
 use borrow.Author.Needs.{needs}
 use Rattle.rules.specs.Streams.{holds, numbers, head, markOf, primary}
-use Rattle.arbitration.specs.Meaning.{idOf, streamsOf}
+use Rattle.election.specs.Meaning.{idOf}
+use Rattle.arbitration.specs.Meaning.{streamsOf}
 use Rattle.rules.proofs.Lists.{length-mapped}
 use Rattle.arbitration.proofs.Records.{past-read, unset}
 use Rattle.arbitration.proofs.Listing.{left, left-next, left-none}

@@ -6,7 +6,8 @@ use mathlib.Core.Bool.{Bool, _&&_, _||_}
 use lib.ListN.{length}
 use borrow.Author.Needs.{needs}
 use Rattle.rules.specs.Streams.{heldElsewhere}
-use Rattle.arbitration.specs.Meaning.{idOf, streamsOf}
+use Rattle.election.specs.Meaning.{idOf}
+use Rattle.arbitration.specs.Meaning.{streamsOf}
 use Rattle.rules.proofs.Lists.{length-mapped}
 use Rattle.arbitration.proofs.Records.{sized, sized-marks, read-at}
 use Rattle.arbitration.proofs.Surveys.{mark-read, at-most-one, Walked, walked-none, walked-next, walked-count, walked-clash, walked-first}

@@ -8,8 +8,9 @@ use Rattle.rules.specs.Bytes.{concat}
 use Rattle.rules.specs.Streams.{Streams, markOf, primary, noticeOf, notification}
 use Rattle.buffers.specs.Splice.{splice}
 use Rattle.buffers.proofs.Splice.{splice-none}
-use Rattle.arbitration.specs.Meaning.{idOf, primaryOf, streamsOf, recordsOf}
-use Rattle.arbitration.proofs.Notices.{notice-is}
+use Rattle.election.specs.Meaning.{idOf, primaryOf}
+use Rattle.arbitration.specs.Meaning.{recordsOf, streamsOf}
+use Rattle.election.proofs.Notices.{notice-is}
 use Rattle.arbitration.proofs.Streams.write_notifications.Statement.{statement}
 use Rattle.arbitration.proofs.Streams.write_notifications.Tie as tie
 

@@ -7,7 +7,7 @@ use lib.ListN.{length, take, length-take, length-map}
 use borrow.Author.Needs.{needs}
 use Rattle.rules.specs.Streams.{members, notification, notifyAll}
 use Rattle.arbitration.specs.Meaning.{streamsOf}
-use Rattle.arbitration.proofs.Notices.{notices-are}
+use Rattle.election.proofs.Notices.{notices-are}
 use Rattle.arbitration.proofs.Streams.write_role.Statement.{statement}
 use Rattle.arbitration.proofs.Streams.write_role.Tie as tie
 

@@ -1,0 +1,2 @@
+-- What is proved of notification records.
+pub mod Notices
