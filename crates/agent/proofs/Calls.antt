@@ -64,12 +64,6 @@ module _ (a : Agent) (frame store d : List ℕ) where
   unfolding commandOf
   is-read e = rw e
 
--- ---- frames
-
--- all of a frame from a place on
-pub from : (f : List ℕ) (n : ℕ) → take (length f - n) (drop n f) ≡ drop n f
-from f n = take-all (length f - n) (drop n f) (omega (arith, length-drop n f))
-
 -- ---- READ
 
 -- the query, in the bytes from its table on

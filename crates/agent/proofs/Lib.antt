@@ -1,5 +1,4 @@
--- Laws of the agent: answers as bytes, what each command leaves, the parts of a call, and lists of calls.
-pub mod Answers
+-- Laws of the agent: what each command leaves, the parts of a call, and lists of calls.
 pub mod Obeying
 pub mod Calls
 pub mod Parts

@@ -32,8 +32,8 @@ use Rattle.agent.specs.declared.Wrote.{Wrote}
 use Rattle.agent.specs.Meaning.{controlOf, stateOf}
 use Rattle.agent.specs.Contract.{Kept, Obeyed}
 use Rattle.agent.specs.Handlers.{elected, configured, wrote, unchanged, ObeysAny}
-use Rattle.agent.specs.Parts.{turn}
-use Rattle.agent.proofs.Answers.{replies, fills}
+use Rattle.control.specs.Events.{turn}
+use Rattle.answers.proofs.Answers.{replies, fills}
 
 -- a command that leaves the store as it is
 module _ (a : Agent) (c : Command) (store d : List ℕ) (r : Called) (out : List ℕ) (roomy : c ≡ cramped → ⊥) where
@@ -136,29 +136,6 @@ module _ (a : Agent) (store d out : List ℕ) where
         refusal-obeyed a (READ q) store d (unchanged a reason) out (λ z. let w : _≡_ {A = ℕ} 0 1 = cc in omega arith) reason refl (rw (z, e)) refl f
 
 -- ---- CONFIGURE
-
-last : (b : Bool) → first ((not b, 14) ∷ []) ≡ (if b then 0 else 14)
-unfolding first
-last true = refl
-last false = refl
-
-module _ (c : Control) (h : Head) (rows : List (List ℕ)) where
-  -- the order in two parts: 5, 6, 11, 10; then 14
-  pub configure-order : {here primary : Bool} {r : ℕ} → here ≡ eqb (h .device) (c .device)
-      → primary ≡ streams.byPrimary (c .streams) (h .role) (h .id)
-      → r ≡ first ((not here, 5) ∷ (ltb 7 (h .role), 6) ∷ (ltb 0 (h .role), 11) ∷ (not primary, 10) ∷ [])
-      → configureReason c h rows ≡ (if eqb r 0 then if row.configurationAllowed rows then 0 else 14 else r)
-  unfolding configureReason
-  configure-order {here} {primary} {r} e p q =
-      rw (q, e, p) (first-more
-      ((not (eqb (h .device) (c .device)), 5) ∷ (ltb 7 (h .role), 6) ∷ (ltb 0 (h .role), 11)
-      ∷ (not (streams.byPrimary (c .streams) (h .role) (h .id)), 10) ∷ [])
-      ((not (row.configurationAllowed rows), 14) ∷ []) refl ∙ (rw (last (row.configurationAllowed rows))))
-
-  -- where nothing refuses a CONFIGURE, 14 does not
-  pub rows-allowed : configureReason c h rows ≡ 0 → row.configurationAllowed rows ≡ true
-  unfolding configureReason
-  rows-allowed e = not-false (row.configurationAllowed rows) (first-clear _ refl e .1 .1 .1 .1 .0)
 
 module _ (a : Agent) (h : Head) (rows : List (List ℕ)) where
   pub was-configured : (store d out : List ℕ) (read : Rows) → configureReason (controlOf a) h rows ≡ 0

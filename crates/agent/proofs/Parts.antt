@@ -32,8 +32,12 @@ use Rattle.agent.specs.declared.Wrote.{Wrote}
 use Rattle.agent.specs.Meaning.{controlOf, stateOf}
 use Rattle.agent.specs.Contract.{Kept, asked, Obeyed, Outcome, Meets}
 use Rattle.agent.specs.Handlers.{elected, configured, wrote, unchanged}
-use Rattle.agent.specs.Parts.{answered, unread, isEvent, isConfigure, turn, Elects, given, verdict, rowsAsked, onEntries, Serves}
-use Rattle.agent.proofs.Obeying.{OnStreams, turn-obeyed, turn-answered, malformed-obeyed, configure-refused, rows-allowed, was-configured}
+use Rattle.answers.specs.Answered.{answered, unread}
+use Rattle.control.specs.Events.{isEvent, turn, Elects}
+use Rattle.control.specs.Configuring.{isConfigure, given, verdict, rowsAsked}
+use Rattle.agent.specs.Parts.{onEntries, Serves}
+use Rattle.control.proofs.Configuring.{rows-allowed}
+use Rattle.agent.proofs.Obeying.{OnStreams, turn-obeyed, turn-answered, malformed-obeyed, configure-refused, was-configured}
 use Rattle.agent.proofs.Calls.{long-enough, kept-on, is-cramped, nothing-done, is-read}
 
 -- ---- what each part's commands are

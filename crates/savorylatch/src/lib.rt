@@ -24,10 +24,10 @@ pub extern "C" fn savorylatch_call(
     ensures { λ r. ⌜ Meets (now (agent .entry)) (now (frame .entry)) (now (store .entry)) (now (answer .entry)) (called (now (agent .exit)) r) (now (store .exit)) (now (answer .exit)) ⌝ }
 {
     let Frame::Asks(command) = frames::read_frame(frame) else {
-        return agent::refuse(store.len(), answer);
+        return answers::refuse(store.len(), answer);
     };
-    if agent::is_event(command) {
-        let left = agent::elect(
+    if control::is_event(command) {
+        let left = control::elect(
             agent.device,
             agent.streams,
             command,
@@ -35,11 +35,11 @@ pub extern "C" fn savorylatch_call(
             answer.len(),
         );
         agent.streams = left.streams;
-        agent::notify(left, answer);
+        control::notify(left, answer);
         return left.reason;
     }
-    if agent::is_configure(command) {
-        let reason = agent::verify(
+    if control::is_configure(command) {
+        let reason = control::verify(
             agent.device,
             agent.streams,
             command,
@@ -47,11 +47,11 @@ pub extern "C" fn savorylatch_call(
             store.len(),
             answer.len(),
         );
-        agent::answer_plain(reason, answer);
+        answers::answer_plain(reason, answer);
         if reason != 0 {
             return reason;
         }
-        agent.rows = agent::rows_asked(command, frame);
+        agent.rows = control::rows_asked(command, frame);
         agent.count = 0;
         return 0;
     }

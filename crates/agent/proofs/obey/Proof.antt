@@ -8,14 +8,14 @@ use lib.ListN.{length, take, drop, length-take, length-drop}
 use denote.Ref.{now}
 use Rattle.rules.specs.Bytes.{part, int}
 use Rattle.rules.specs.Frame as rules
-use Rattle.arbitration.specs.Meaning.{headOf}
+use Rattle.election.specs.Meaning.{headOf}
 use Rattle.frames.specs.declared.Command.{Command}
 use Rattle.frames.specs.Meaning.{commandOf, stands}
-use Rattle.frames.proofs.Standing.{write-stands, read-stands}
+use Rattle.frames.proofs.Standing.{write-stands, read-stands, from}
 use Rattle.entry_store.specs.Update.{updatesIn}
 use Rattle.agent.specs.Handlers.{wrote, unchanged, Obeys}
 use Rattle.agent.specs.Parts.{onEntries}
-use Rattle.agent.proofs.Calls.{from, query-there, query-named}
+use Rattle.agent.proofs.Calls.{query-there, query-named}
 use borrow.Author.Needs.{needs}
 use Rattle.agent.proofs.obey.Statement.{statement}
 use Rattle.agent.proofs.obey.Tie as tie

@@ -17,7 +17,7 @@ use Rattle.entry_store.specs.Read.{queryReason, Reads}
 use Rattle.entry_store.proofs.Queries.{key-length, reads-all}
 use Rattle.agent.specs.Meaning.{controlOf, stateOf}
 use Rattle.agent.specs.Handlers.{queryIn}
-use Rattle.agent.proofs.Answers.{records-then-head, head-alone}
+use Rattle.answers.proofs.Answers.{records-then-head, head-alone}
 use Rattle.agent.proofs.Obeying.{read-refused, read-order, was-read, taken, tidy}
 use borrow.Author.Needs.{needs}
 use Rattle.agent.proofs.read.Statement.{statement}

@@ -1,6 +1,6 @@
 -- Right because a head alone is written, and the rest is as it was. Assumes nothing.
 use denote.Ref.{now}
-use Rattle.agent.proofs.Answers.{head-alone}
+use Rattle.answers.proofs.Answers.{head-alone}
 use Rattle.agent.proofs.Obeying.{malformed-obeyed}
 use borrow.Author.Needs.{needs}
 use Rattle.agent.proofs.refuse_entries.Statement.{statement}

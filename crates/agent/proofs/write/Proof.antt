@@ -9,12 +9,12 @@ use Rattle.rules.specs.Frame.{updateOf}
 use Rattle.rules.specs.Call.{writeReason, batchOf, pairOf}
 use Rattle.rules.proofs.Formed.{parts-count}
 use Rattle.rules.proofs.Sizes.{reasons-count}
-use Rattle.arbitration.specs.Meaning.{headOf}
+use Rattle.election.specs.Meaning.{headOf}
 use Rattle.rows.specs.Meaning.{rowsOf}
 use Rattle.entries.specs.Store.{tablesIn}
 use Rattle.entry_store.specs.Update.{updatesIn}
 use Rattle.agent.specs.Meaning.{controlOf, stateOf}
-use Rattle.agent.proofs.Answers.{records-then-head, head-alone}
+use Rattle.answers.proofs.Answers.{records-then-head, head-alone}
 use Rattle.agent.proofs.Obeying.{write-refused, write-order, was-written, tidy}
 use borrow.Author.Needs.{needs}
 use Rattle.agent.proofs.write.Statement.{statement}

@@ -71,7 +71,10 @@ use Rattle.frames.proofs.Frame as F
 use Rattle.frames.proofs.Frame.Laws as F′
 use Rattle.agent.specs.Contract as agent
 use Rattle.agent.specs.Handlers.{elected, configured, wrote, unchanged}
-use Rattle.agent.specs.Parts.{answered, unread, isEvent, isConfigure, Elects, given, verdict, rowsAsked, Serves}
+use Rattle.answers.specs.Answered.{answered, unread}
+use Rattle.control.specs.Events.{isEvent, Elects}
+use Rattle.control.specs.Configuring.{isConfigure, given, verdict, rowsAsked}
+use Rattle.agent.specs.Parts.{Serves}
 use Rattle.agent.specs.declared.Agent.{Agent}
 use Rattle.agent.specs.declared.Called.{Called}
 use Rattle.agent.specs.declared.Wrote.{Wrote}
@@ -80,42 +83,42 @@ use Rattle.agent.proofs.Agent as T
 use Rattle.agent.proofs.Agent.Laws as T′
 use Rattle.agent.proofs.Wrote as U
 use Rattle.agent.proofs.Wrote.Laws as U′
-use Rattle.agent.proofs.refuse as re
-use Rattle.agent.proofs.refuse.Symbol as re-def
-use Rattle.agent.proofs.refuse.Symbol.{name as #refuse}
-use Rattle.agent.proofs.refuse.Met as re-thm
-use Rattle.agent.proofs.is_event as ev
-use Rattle.agent.proofs.is_event.Symbol as ev-def
-use Rattle.agent.proofs.is_event.Symbol.{name as #is-event}
-use Rattle.agent.proofs.is_event.Met as ev-thm
-use Rattle.agent.proofs.is_configure as cf
-use Rattle.agent.proofs.is_configure.Symbol as cf-def
-use Rattle.agent.proofs.is_configure.Symbol.{name as #is-configure}
-use Rattle.agent.proofs.is_configure.Met as cf-thm
+use Rattle.answers.proofs.refuse as re
+use Rattle.answers.proofs.refuse.Symbol as re-def
+use Rattle.answers.proofs.refuse.Symbol.{name as #refuse}
+use Rattle.answers.proofs.refuse.Met as re-thm
+use Rattle.control.proofs.is_event as ev
+use Rattle.control.proofs.is_event.Symbol as ev-def
+use Rattle.control.proofs.is_event.Symbol.{name as #is-event}
+use Rattle.control.proofs.is_event.Met as ev-thm
+use Rattle.control.proofs.is_configure as cf
+use Rattle.control.proofs.is_configure.Symbol as cf-def
+use Rattle.control.proofs.is_configure.Symbol.{name as #is-configure}
+use Rattle.control.proofs.is_configure.Met as cf-thm
 use Rattle.frames.proofs.read_frame as rd
 use Rattle.frames.proofs.read_frame.Symbol as rd-def
 use Rattle.frames.proofs.read_frame.Symbol.{name as #read-frame}
 use Rattle.frames.proofs.read_frame.Met as rd-thm
-use Rattle.agent.proofs.elect as el
-use Rattle.agent.proofs.elect.Symbol as el-def
-use Rattle.agent.proofs.elect.Symbol.{name as #elect}
-use Rattle.agent.proofs.elect.Met as el-thm
-use Rattle.agent.proofs.notify as nt
-use Rattle.agent.proofs.notify.Symbol as nt-def
-use Rattle.agent.proofs.notify.Symbol.{name as #notify}
-use Rattle.agent.proofs.notify.Met as nt-thm
-use Rattle.agent.proofs.verify as ve
-use Rattle.agent.proofs.verify.Symbol as ve-def
-use Rattle.agent.proofs.verify.Symbol.{name as #verify}
-use Rattle.agent.proofs.verify.Met as ve-thm
-use Rattle.agent.proofs.answer_plain as pl
-use Rattle.agent.proofs.answer_plain.Symbol as pl-def
-use Rattle.agent.proofs.answer_plain.Symbol.{name as #answer-plain}
-use Rattle.agent.proofs.answer_plain.Met as pl-thm
-use Rattle.agent.proofs.rows_asked as ro
-use Rattle.agent.proofs.rows_asked.Symbol as ro-def
-use Rattle.agent.proofs.rows_asked.Symbol.{name as #rows-asked}
-use Rattle.agent.proofs.rows_asked.Met as ro-thm
+use Rattle.control.proofs.elect as el
+use Rattle.control.proofs.elect.Symbol as el-def
+use Rattle.control.proofs.elect.Symbol.{name as #elect}
+use Rattle.control.proofs.elect.Met as el-thm
+use Rattle.control.proofs.notify as nt
+use Rattle.control.proofs.notify.Symbol as nt-def
+use Rattle.control.proofs.notify.Symbol.{name as #notify}
+use Rattle.control.proofs.notify.Met as nt-thm
+use Rattle.control.proofs.verify as ve
+use Rattle.control.proofs.verify.Symbol as ve-def
+use Rattle.control.proofs.verify.Symbol.{name as #verify}
+use Rattle.control.proofs.verify.Met as ve-thm
+use Rattle.answers.proofs.answer_plain as pl
+use Rattle.answers.proofs.answer_plain.Symbol as pl-def
+use Rattle.answers.proofs.answer_plain.Symbol.{name as #answer-plain}
+use Rattle.answers.proofs.answer_plain.Met as pl-thm
+use Rattle.control.proofs.rows_asked as ro
+use Rattle.control.proofs.rows_asked.Symbol as ro-def
+use Rattle.control.proofs.rows_asked.Symbol.{name as #rows-asked}
+use Rattle.control.proofs.rows_asked.Met as ro-thm
 use Rattle.agent.proofs.serve as sv
 use Rattle.agent.proofs.serve.Symbol as sv-def
 use Rattle.agent.proofs.serve.Symbol.{name as #serve}
@@ -675,12 +678,12 @@ savorylatch-call-spec 𝓤 H 𝓜 𝓖 𝓡 =
     (tables 𝓤 H 𝓜 𝓡 code.env .C) (tables 𝓤 H 𝓜 𝓡 code.env .Λ) #savorylatch·savorylatch-call code.function (code.unfolded 𝓤 H 𝓜 𝓡)
     (savorylatch-call-meets 𝓤 H (𝓖 .A) (givenOf 𝓤 H 𝓜 𝓖) (𝓜 .mem) (𝓡 .run) (tablesOf 𝓤 H 𝓜 (tables 𝓤 H 𝓜 𝓡 code.env))
     (cited 𝓤 H (ReadFrame 𝓤 H (𝓖 .A) (𝓜 .mem) (𝓡 .run)) 𝓜 𝓡 code.env #read-frame rd-def.routine code.calls-frames·read-frame (rd-thm.met 𝓤 H 𝓜 𝓖 𝓡))
-    (cited 𝓤 H (Refuse 𝓤 H (𝓖 .A) (𝓜 .mem) (𝓡 .run)) 𝓜 𝓡 code.env #refuse re-def.routine code.calls-agent·refuse (re-thm.met 𝓤 H 𝓜 𝓖 𝓡))
-    (cited 𝓤 H (IsEvent 𝓤 H (𝓖 .A) (𝓜 .mem) (𝓡 .run)) 𝓜 𝓡 code.env #is-event ev-def.routine code.calls-agent·is-event (ev-thm.met 𝓤 H 𝓜 𝓖 𝓡))
-    (cited 𝓤 H (IsConfigure 𝓤 H (𝓖 .A) (𝓜 .mem) (𝓡 .run)) 𝓜 𝓡 code.env #is-configure cf-def.routine code.calls-agent·is-configure (cf-thm.met 𝓤 H 𝓜 𝓖 𝓡))
-    (cited 𝓤 H (Elect 𝓤 H (𝓖 .A) (𝓜 .mem) (𝓡 .run)) 𝓜 𝓡 code.env #elect el-def.routine code.calls-agent·elect (el-thm.met 𝓤 H 𝓜 𝓖 𝓡))
-    (cited 𝓤 H (Notifies 𝓤 H (𝓖 .A) (𝓜 .mem) (𝓡 .run)) 𝓜 𝓡 code.env #notify nt-def.routine code.calls-agent·notify (nt-thm.met 𝓤 H 𝓜 𝓖 𝓡))
-    (cited 𝓤 H (Verify 𝓤 H (𝓖 .A) (𝓜 .mem) (𝓡 .run)) 𝓜 𝓡 code.env #verify ve-def.routine code.calls-agent·verify (ve-thm.met 𝓤 H 𝓜 𝓖 𝓡))
-    (cited 𝓤 H (Plain 𝓤 H (𝓖 .A) (𝓜 .mem) (𝓡 .run)) 𝓜 𝓡 code.env #answer-plain pl-def.routine code.calls-agent·answer-plain (pl-thm.met 𝓤 H 𝓜 𝓖 𝓡))
-    (cited 𝓤 H (RowsAsked 𝓤 H (𝓖 .A) (𝓜 .mem) (𝓡 .run)) 𝓜 𝓡 code.env #rows-asked ro-def.routine code.calls-agent·rows-asked (ro-thm.met 𝓤 H 𝓜 𝓖 𝓡))
+    (cited 𝓤 H (Refuse 𝓤 H (𝓖 .A) (𝓜 .mem) (𝓡 .run)) 𝓜 𝓡 code.env #refuse re-def.routine code.calls-answers·refuse (re-thm.met 𝓤 H 𝓜 𝓖 𝓡))
+    (cited 𝓤 H (IsEvent 𝓤 H (𝓖 .A) (𝓜 .mem) (𝓡 .run)) 𝓜 𝓡 code.env #is-event ev-def.routine code.calls-control·is-event (ev-thm.met 𝓤 H 𝓜 𝓖 𝓡))
+    (cited 𝓤 H (IsConfigure 𝓤 H (𝓖 .A) (𝓜 .mem) (𝓡 .run)) 𝓜 𝓡 code.env #is-configure cf-def.routine code.calls-control·is-configure (cf-thm.met 𝓤 H 𝓜 𝓖 𝓡))
+    (cited 𝓤 H (Elect 𝓤 H (𝓖 .A) (𝓜 .mem) (𝓡 .run)) 𝓜 𝓡 code.env #elect el-def.routine code.calls-control·elect (el-thm.met 𝓤 H 𝓜 𝓖 𝓡))
+    (cited 𝓤 H (Notifies 𝓤 H (𝓖 .A) (𝓜 .mem) (𝓡 .run)) 𝓜 𝓡 code.env #notify nt-def.routine code.calls-control·notify (nt-thm.met 𝓤 H 𝓜 𝓖 𝓡))
+    (cited 𝓤 H (Verify 𝓤 H (𝓖 .A) (𝓜 .mem) (𝓡 .run)) 𝓜 𝓡 code.env #verify ve-def.routine code.calls-control·verify (ve-thm.met 𝓤 H 𝓜 𝓖 𝓡))
+    (cited 𝓤 H (Plain 𝓤 H (𝓖 .A) (𝓜 .mem) (𝓡 .run)) 𝓜 𝓡 code.env #answer-plain pl-def.routine code.calls-answers·answer-plain (pl-thm.met 𝓤 H 𝓜 𝓖 𝓡))
+    (cited 𝓤 H (RowsAsked 𝓤 H (𝓖 .A) (𝓜 .mem) (𝓡 .run)) 𝓜 𝓡 code.env #rows-asked ro-def.routine code.calls-control·rows-asked (ro-thm.met 𝓤 H 𝓜 𝓖 𝓡))
     (cited 𝓤 H (Serve 𝓤 H (𝓖 .A) (𝓜 .mem) (𝓡 .run)) 𝓜 𝓡 code.env #serve sv-def.routine code.calls-agent·serve (sv-thm.met 𝓤 H 𝓜 𝓖 𝓡)))

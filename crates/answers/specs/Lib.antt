@@ -1,0 +1,2 @@
+-- What every answer has.
+pub mod Answered

@@ -1,0 +1,2 @@
+-- Laws of the commands that look at no entry.
+pub mod Configuring
