@@ -13,7 +13,7 @@ use Rattle.rules.specs.Bytes.{if_then_else_, some-of, same}
 use Rattle.rules.specs.Frame.{Update, Command, cramped, malformed, OPEN, CLOSE, ARBITRATE, CONFIGURE, WRITE, READ}
 use Rattle.rules.specs.Key.{keyOf, hasKey}
 use Rattle.rules.specs.Entry.{shortEntry}
-use Rattle.rules.specs.Update.{stored, judge}
+use Rattle.rules.specs.Update.{stored, judge, judgeBy}
 use Rattle.rules.specs.Call.{Call, accepted}
 use Rattle.rules.specs.LookBack.{Effect, inserted, modified, deleted, cleared, revise, present, Past, nothing, shows, effectOf, reasonAt, tookEffect, noteUpdate, noteUpdates, noted, note, lookBack}
 use Rattle.rules.specs.Agreement.{commandsOf, pastOf}
@@ -274,7 +274,7 @@ described-more E f d a = rw (present-snoc E f) (describes-step E (present E) f d
 -- an INSERT takes effect only where 20 does not hold
 allowed : (p : Past) (role : ℕ) (u : Update) → length (u .entry) ≡ 220 → reasonAt p role u ≡ 0
     → Allowed (present (p .effects)) (effectOf u)
-unfolding reasonAt judge stored shows
+unfolding reasonAt judge judgeBy stored shows
 allowed p role u k e = go (eqb (u .type) 1) (eqb (u .type) 2) refl
   where
     x : List ℕ

@@ -13,7 +13,7 @@ use Rattle.rules.specs.Frame.{Update}
 use Rattle.rules.specs.Row.{Row, known, rowFor}
 use Rattle.rules.specs.Key.{tableOf, keyOf, hasKey, shortKey}
 use Rattle.rules.specs.Entry.{shortEntry}
-use Rattle.rules.specs.Update.{Tables, noEntries, inTable, stored, held, isInsert, isModify, judge, perform, apply, batch}
+use Rattle.rules.specs.Update.{Tables, noEntries, inTable, stored, held, isInsert, isModify, judge, judgeBy, perform, apply, batch}
 use Rattle.rules.specs.Sound.{Stored, EveryStored, Distinct, Within, SoundTables}
 use Rattle.rules.proofs.Tests.{or-false, and-true, and-false, same-true, same-sym}
 use Rattle.rules.proofs.Orders.{first-clear}
@@ -241,7 +241,7 @@ module _ (rows : List Row) (apart : distinct (map (λ (r : Row). r .table) rows)
   -- an INSERT that is refused under no reason
   insert-sound : (role : ℕ) (t : Tables) (u : Update) → length (u .entry) ≡ 220 → judge rows role t u ≡ 0 → isInsert (u .type) ≡ true
       → SoundTables rows t → SoundTables rows (of (t .entries ++ (shortEntry (u .entry) ∷ [])))
-  unfolding judge stored
+  unfolding judge judgeBy stored
   insert-sound role t u l j i ok =
       let e : List ℕ = u .entry in
       let c = first-clear _ refl j in

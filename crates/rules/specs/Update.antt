@@ -40,13 +40,13 @@ isModify type = eqb type 2
 
 -- ---- one update: why it is refused (0: it takes effect), in the paper's order
 
-unfoldable pub judge : List Row → ℕ → Tables → Update → ℕ
-judge rows role t u =
+-- where its table is known or not, and this is the table's row
+unfoldable pub judgeBy : Bool → Row → ℕ → Tables → Update → ℕ
+judgeBy isKnown row role t u =
     let e = u .entry in
-    let row = rowFor (tableOf e) rows in
     first
     ((not (between 1 3 (u .type)), 17)
-    ∷ (not (known (tableOf e) rows), 15)
+    ∷ (not isKnown, 15)
     ∷ (not (mayWrite role row), 16)
     ∷ (not (keyFormed row e && actionFormed row e), 17)
     ∷ (not (keyFits row e && actionFits row e), 18)
@@ -56,6 +56,10 @@ judge rows role t u =
     ∷ (isInsert (u .type) && leb (row .size) (held (row .table) t), 22)
     ∷ (isInsert (u .type) && leb 256 (length (t .entries)), 24)
     ∷ [])
+
+-- by the rows in force
+unfoldable pub judge : List Row → ℕ → Tables → Update → ℕ
+judge rows role t u = judgeBy (known (tableOf (u .entry)) rows) (rowFor (tableOf (u .entry)) rows) role t u
 
 -- INSERT appends, MODIFY replaces action and parameters in its place, DELETE removes.
 unfoldable pub perform : ℕ → List ℕ → Tables → Tables
