@@ -23,8 +23,9 @@ use Rattle.arbitration.specs.Meaning.{outcomeOf}
 use Rattle.rows.specs.declared.Rows.{Rows}
 use Rattle.rows.specs.Meaning.{rowsOf}
 use Rattle.entries.specs.Store.{entriesIn, tablesIn}
+use Rattle.updates.specs.Update.{Tidy}
 use Rattle.entry_store.specs.declared.Written.{Written}
-use Rattle.entry_store.specs.Update.{Tidy, BatchApplied}
+use Rattle.entry_store.specs.Batch.{BatchApplied}
 use Rattle.entry_store.specs.Read.{keyReason, queryReason, readIn}
 use Rattle.agent.specs.declared.Agent.{Agent}
 use Rattle.agent.specs.declared.Called.{Called}

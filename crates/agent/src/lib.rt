@@ -9,7 +9,7 @@ ghost use Rattle.rules.specs.Bytes.{if_then_else_};
 ghost use Rattle.rules.specs.Reason.{first};
 ghost use Rattle.rules.specs.Frame as rules;
 ghost use Rattle.election.specs.Meaning.{headOf};
-ghost use Rattle.entry_store.specs.Update.{updatesIn};
+ghost use Rattle.entry_store.specs.Batch.{updatesIn};
 ghost use Rattle.frames.specs.Meaning.{commandOf, stands};
 ghost use Rattle.agent.specs.Contract.{Fresh, Meets};
 ghost use Rattle.agent.specs.Handlers.{queryIn, Named, wrote, unchanged, Obeys, ObeysAny};

@@ -21,10 +21,11 @@ use Rattle.rows.proofs.Counted.{blank}
 use Rattle.buffers.specs.Splice.{splice}
 use Rattle.buffers.proofs.Written.{Written as Pairs, written-none, written-next, written-all}
 use Rattle.entries.specs.Store.{tablesIn}
-use Rattle.entry_store.specs.Update.{Tidy, FoundIn, Applied, BatchApplied}
-use Rattle.entry_store.specs.declared.Updated.{Updated}
-use Rattle.entry_store.proofs.Judging.{row-there}
-use Rattle.entry_store.proofs.Updates.{applied-tidy}
+use Rattle.updates.specs.declared.Updated.{Updated}
+use Rattle.updates.specs.Update.{Tidy, FoundIn, Applied}
+use Rattle.updates.proofs.Updates.{applied-tidy}
+use Rattle.entry_store.specs.Batch.{BatchApplied}
+use Rattle.entry_store.proofs.Rows.{row-there}
 
 -- ---- the flag
 

@@ -1,7 +1,5 @@
 -- Laws of the entry store.
-pub mod Verdicts
-pub mod Judging
+pub mod Rows
 pub mod Queries
-pub mod Updates
 pub mod Batches
 pub mod Reading

@@ -23,9 +23,10 @@ use Rattle.rows.specs.Meaning.{rowOf, rowsOf, rowAt}
 use Rattle.rows.proofs.Counted.{blank, row-past}
 use Rattle.buffers.specs.Splice.{splice}
 use Rattle.entries.specs.Store.{entriesIn, tablesIn}
-use Rattle.entry_store.specs.Update.{Tidy}
+use Rattle.updates.specs.Update.{Tidy}
+use Rattle.updates.proofs.Judging.{key-formed-lent, key-fits-lent, key-rules-lent}
 use Rattle.entry_store.specs.Read.{keyIn, keyReason, tableReason, queryReason, readIn, Reads}
-use Rattle.entry_store.proofs.Judging.{row-there, key-formed-lent, key-fits-lent, key-rules-lent}
+use Rattle.entry_store.proofs.Rows.{row-there}
 
 -- ---- the key
 

@@ -26,7 +26,7 @@ use Rattle.rows.proofs.Counted.{blank, rows-next, rows-none}
 use Rattle.entries.specs.Store.{entriesIn, tablesIn, place}
 use Rattle.entries.proofs.Parts.{parts-at}
 use Rattle.entries.proofs.Places.{place-stored, keep-place, keep-absent}
-use Rattle.entry_store.specs.Update.{Tidy}
+use Rattle.updates.specs.Update.{Tidy}
 use Rattle.entry_store.specs.Read.{Reads}
 
 -- ---- the entry of a key

@@ -12,7 +12,7 @@ use Rattle.election.specs.Meaning.{headOf}
 use Rattle.frames.specs.declared.Command.{Command}
 use Rattle.frames.specs.Meaning.{commandOf, stands}
 use Rattle.frames.proofs.Standing.{write-stands, read-stands, from}
-use Rattle.entry_store.specs.Update.{updatesIn}
+use Rattle.entry_store.specs.Batch.{updatesIn}
 use Rattle.agent.specs.Handlers.{wrote, unchanged, Obeys}
 use Rattle.agent.specs.Parts.{onEntries}
 use Rattle.agent.proofs.Calls.{query-there, query-named}

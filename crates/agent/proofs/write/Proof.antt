@@ -12,7 +12,7 @@ use Rattle.rules.proofs.Sizes.{reasons-count}
 use Rattle.election.specs.Meaning.{headOf}
 use Rattle.rows.specs.Meaning.{rowsOf}
 use Rattle.entries.specs.Store.{tablesIn}
-use Rattle.entry_store.specs.Update.{updatesIn}
+use Rattle.entry_store.specs.Batch.{updatesIn}
 use Rattle.agent.specs.Meaning.{controlOf, stateOf}
 use Rattle.answers.proofs.Answers.{records-then-head, head-alone}
 use Rattle.agent.proofs.Obeying.{write-refused, write-order, was-written, tidy}

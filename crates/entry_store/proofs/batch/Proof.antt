@@ -19,7 +19,8 @@ use Rattle.rows.specs.Meaning.{rowsOf}
 use Rattle.entries.specs.Store.{tablesIn}
 use Rattle.rules.proofs.Lists.{parts-from}
 use Rattle.buffers.proofs.Splice.{length-window, part-copied}
-use Rattle.entry_store.specs.Update.{Tidy, updatesIn}
+use Rattle.updates.specs.Update.{Tidy}
+use Rattle.entry_store.specs.Batch.{updatesIn}
 use Rattle.entry_store.proofs.Batches.{Batching, batch-start, batch-next, batch-end, flag-set, flag-kept, row-found}
 use Rattle.entry_store.proofs.batch.Statement.{statement}
 use Rattle.entry_store.proofs.batch.Tie as tie

@@ -1,0 +1,21 @@
+-- What a batch of updates is held to, in the rules' terms. Assumes nothing.
+use mathlib.Core.Path.{_≡_}
+use mathlib.Core.Bool.{not}
+use mathlib.Core.List.{List, map}
+use Prim.Native.Nat.{ℕ}
+use lib.Dec.{eqb}
+use Rattle.rules.specs.Bytes.{every, parts}
+use Rattle.rules.specs.Frame.{Update, updateOf}
+use Rattle.rules.specs.Row.{Row}
+use Rattle.rules.specs.Update.{batch}
+use Rattle.entries.specs.Store.{tablesIn, Left}
+use Rattle.entry_store.specs.declared.Written.{Written}
+
+-- the updates of a batch, 221 bytes each
+abbrev pub updatesIn : ℕ → List ℕ → List Update
+updatesIn n us = map updateOf (parts n 221 us)
+
+-- a batch, judged and applied in order
+pub record BatchApplied (rows : List Row) (role count : ℕ) (before after : List ℕ) (us : List Update) (w : Written) : Type 0 where
+  pub failed : w .failed ≡ not (every (eqb 0) (batch rows role (tablesIn count before) us .reasons))
+  pub left : Left before after (w .count) (batch rows role (tablesIn count before) us .tables .entries)

@@ -1,0 +1,150 @@
+-- Why an update is refused, read off in the order in which the tests are made: those of the entry stand between those of its
+-- table and those of its place. Assumes nothing.
+use Prim.Native.Nat.{ℕ, _-_, _≤_, _<_}
+use native.Mathlib.Omega.{arith}
+use mathlib.Core.Path.{_≡_, refl, sym, ap, _∙_}
+use mathlib.Core.Bool.{Bool, true, false, _&&_, not}
+use mathlib.Core.List.{List, [], _∷_}
+use lib.Dec.{eqb}
+use lib.ListN.{length, take, drop}
+use borrow.Author.Tests.{le-leb, lt-leb, ne-eqb}
+use Rattle.rules.specs.Bytes.{if_then_else_, between, byte, part, parts, int}
+use Rattle.rules.specs.Reason.{first}
+use Rattle.rules.specs.Frame.{updateOf}
+use Rattle.rules.specs.Row.{Row, known, rowFor, mayWrite}
+use Rattle.rules.specs.Key.{slots, slotFormed, slotFits, slotRule, alongside, alongsideAll, priorityRule, keyFormed, keyFits, keyRules}
+use Rattle.rules.specs.Entry.{actionFormed, actionFits}
+use Rattle.rules.specs.Update.{Tables, judge}
+use Rattle.rules.proofs.Lists.{parts-lent}
+use Rattle.values.proofs.Digits.{rest-all}
+use Rattle.updates.specs.declared.Verdict.{Verdict}
+use Rattle.updates.specs.Update.{entryReason, placeReason, reasonOf, Meant, FoundIn}
+
+-- ---- what is lent
+
+-- the slots of an entry, as the 140 bytes that hold them give them
+abbrev pub lent : List ℕ → List (List ℕ)
+lent e = parts 4 35 (part 8 140 e)
+
+slots-lent : (e : List ℕ) → slots e ≡ lent e
+slots-lent e = sym (parts-lent 4 35 (drop 8 e))
+
+-- the entry of an update is all of it but the first byte
+pub entry-lent : (u : List ℕ) → take (length u - 1) (drop 1 u) ≡ drop 1 u
+entry-lent u = rest-all 1 u
+
+pub key-formed-lent : (row : Row) (e : List ℕ) → keyFormed row e ≡ alongsideAll slotFormed (row .fields) (lent e)
+unfolding keyFormed
+key-formed-lent row e = ap (alongsideAll slotFormed (row .fields)) (slots-lent e)
+
+pub key-fits-lent : (row : Row) (e : List ℕ) → keyFits row e ≡ alongside slotFits (row .fields) (lent e)
+unfolding keyFits
+key-fits-lent row e = ap (alongside slotFits (row .fields)) (slots-lent e)
+
+pub key-rules-lent : (row : Row) (e : List ℕ)
+    → keyRules row e ≡ (alongside slotRule (row .fields) (lent e) && priorityRule (row .fields) (int 4 4 e))
+unfolding keyRules
+key-rules-lent row e = ap (λ l. alongside slotRule (row .fields) l && priorityRule (row .fields) (int 4 4 e)) (slots-lent e)
+
+-- ---- 17 to 19, one after the other
+
+pub in-order : (a b c : Bool) → first ((not a, 17) ∷ (not b, 18) ∷ (not c, 19) ∷ [])
+    ≡ (if a then if b then if c then 0 else 19 else 18 else 17)
+unfolding first
+in-order false b c = refl
+in-order true false c = refl
+in-order true true false = refl
+in-order true true true = refl
+
+-- ---- the whole order: an entry's reasons stand as one test in it
+
+split : (a b c d e f : Bool) (cs : List (Bool × ℕ))
+    → first ((not a, 17) ∷ (not b, 15) ∷ (not c, 16) ∷ (d, 17) ∷ (e, 18) ∷ (f, 19) ∷ cs)
+    ≡ (if a then if b then if c then
+    if eqb (first ((d, 17) ∷ (e, 18) ∷ (f, 19) ∷ [])) 0 then first cs else first ((d, 17) ∷ (e, 18) ∷ (f, 19) ∷ [])
+    else 16 else 15 else 17)
+unfolding first
+split false b c d e f cs = refl
+split true false c d e f cs = refl
+split true true false d e f cs = refl
+split true true true true e f cs = refl
+split true true true false true f cs = refl
+split true true true false false true cs = refl
+split true true true false false false cs = refl
+
+module _ (rows : List Row) (role : ℕ) (t : Tables) (u : List ℕ) where
+  abbrev reason : ℕ
+  reason = judge rows role t (updateOf u)
+
+  -- what is asked once the table's row is found and may be written
+  abbrev rest : Row → ℕ
+  rest row =
+      if eqb (entryReason row (drop 1 u)) 0 then placeReason row (byte 0 u) (drop 1 u) t else entryReason row (drop 1 u)
+
+  -- only that is left
+  abbrev pub Reached : Row → Type 0
+  Reached row = reason ≡ rest row
+
+  judge-asked : reason
+      ≡ (if between 1 3 (byte 0 u) then if known (int 1 4 u) rows then
+      if mayWrite role (rowFor (int 1 4 u) rows) then rest (rowFor (int 1 4 u) rows) else 16 else 15 else 17)
+  unfolding judge entryReason placeReason
+  judge-asked =
+      let e : List ℕ = drop 1 u in
+      let row : Row = rowFor (int 1 4 u) rows in
+      split (between 1 3 (byte 0 u)) (known (int 1 4 u) rows) (mayWrite role row)
+      (not (keyFormed row e && actionFormed row e)) (not (keyFits row e && actionFits row e)) (not (keyRules row e)) _
+
+  -- ---- one law for each way out
+
+  pub type-zero : byte 0 u ≡ 0 → 17 ≡ reason
+  type-zero h = sym (judge-asked ∙ (rw (lt-leb 1 (byte 0 u) (omega arith))))
+
+  pub type-high : 3 < byte 0 u → 17 ≡ reason
+  type-high h = sym (judge-asked ∙ (rw (le-leb 1 (byte 0 u) (omega arith), lt-leb (byte 0 u) 3 h)))
+
+  -- the type is 1, 2 or 3
+  module _ (some : byte 0 u ≡ 0 → ⊥) (most : byte 0 u ≤ 3) where
+    typed : between 1 3 (byte 0 u) ≡ true
+    typed = rw (le-leb 1 (byte 0 u) (omega arith), le-leb (byte 0 u) 3 most)
+
+    -- and this was found of the table
+    module _ {isKnown : Bool} {row : Row} (found : FoundIn isKnown row rows (updateOf u)) where
+      pub table-unknown : isKnown ≡ false → 15 ≡ reason
+      table-unknown k =
+          let none : known (int 1 4 u) rows ≡ false = sym (found .0) ∙ k in
+          sym (judge-asked ∙ (rw (typed, none)))
+
+      -- the table has this row
+      module _ (k : isKnown ≡ true) where
+        has : known (int 1 4 u) rows ≡ true
+        has = sym (found .0) ∙ k
+
+        its : row ≡ rowFor (int 1 4 u) rows
+        its = found .1 k
+
+        pub not-owned : mayWrite role row ≡ false → 16 ≡ reason
+        not-owned w = sym (judge-asked ∙ (rw (typed, has, ← its, w)))
+
+        pub owned : mayWrite role row ≡ true → Reached row
+        owned w = judge-asked ∙ (rw (typed, has, ← its, w))
+
+  -- of the entry, as it is lent
+  module _ (row : Row) {e : List ℕ} (left : Reached row) (whole : e ≡ drop 1 u) where
+    pub entry-refused : {r : ℕ} → r ≡ entryReason row e → (r ≡ 0 → ⊥) → r ≡ reason
+    entry-refused {r} q n =
+        let a : entryReason row (drop 1 u) ≡ r = sym (q ∙ ap (entryReason row) whole) in
+        sym (left ∙ (rw (a, ne-eqb r 0 n)))
+
+    -- what is said of the place is the answer
+    pub place-judged : (kind : ℕ) (v : Verdict) → 0 ≡ entryReason row e → kind ≡ byte 0 u
+        → reasonOf v ≡ placeReason row kind e t → reasonOf v ≡ reason
+    place-judged kind v z k q =
+        let a : entryReason row (drop 1 u) ≡ 0 = sym (z ∙ ap (entryReason row) whole) in
+        let p : reason ≡ placeReason row (byte 0 u) (drop 1 u) t = left ∙ (rw a) in
+        rw (k, whole) at q ∙ sym p
+
+-- what is meant of the entry as it is lent is meant of the update's entry
+pub place-meant : (t : Tables) (u : List ℕ) {e : List ℕ} {kind : ℕ} (v : Verdict) → e ≡ drop 1 u → kind ≡ byte 0 u
+    → Meant v kind e t → Meant v (byte 0 u) (drop 1 u) t
+place-meant t u v whole k m = rw (k, whole) at m

@@ -1,0 +1,4 @@
+-- Laws of one update: why it is refused, and what it leaves.
+pub mod Verdicts
+pub mod Judging
+pub mod Updates

@@ -1,0 +1,65 @@
+-- Why an update is refused at its place, by where its key was found: one law per way through the order 20 to 24; and what a
+-- piece written up to the end leaves. Assumes nothing.
+use Prim.Native.Nat.{ℕ, _+_, _≤_, _<_}
+use native.Mathlib.Omega.{arith}
+use mathlib.Core.Path.{_≡_}
+use mathlib.Core.Bool.{true, false}
+use mathlib.Core.List.{List, _++_, append-nil}
+use mathlib.Core.Option.{none, some}
+use lib.Dec.{leb}
+use lib.ListN.{length, take, drop-of-length-le}
+use borrow.Author.Tests.{le-leb, lt-leb}
+use Rattle.rules.specs.Reason.{first}
+use Rattle.rules.specs.Row.{Row}
+use Rattle.rules.specs.Key.{shortKey}
+use Rattle.rules.specs.Update.{Tables, isInsert, stored, held}
+use Rattle.buffers.specs.Splice.{splice}
+use Rattle.entries.specs.Store.{place}
+use Rattle.entries.proofs.Places.{place-stored}
+use Rattle.updates.specs.Update.{placeReason}
+
+-- an update with entry e, of a table that the row describes, where the entries es are stored
+module _ (row : Row) (e : List ℕ) (es : List (List ℕ)) where
+  abbrev t : Tables
+  t = record { entries = es }
+
+  absent : place (shortKey e) es ≡ none → stored (shortKey e) t ≡ false
+  absent = place-stored (shortKey e) es .0
+
+  present : (i : ℕ) → place (shortKey e) es ≡ some i → stored (shortKey e) t ≡ true
+  present i p = place-stored (shortKey e) es .1 i p .1
+
+  -- ---- INSERT
+
+  pub insert-present : (i : ℕ) → place (shortKey e) es ≡ some i → placeReason row 1 e t ≡ 20
+  unfolding placeReason first
+  insert-present i p = rw (present i p)
+
+  pub insert-table-full : place (shortKey e) es ≡ none → leb (row .size) (held (row .table) t) ≡ true → placeReason row 1 e t ≡ 22
+  unfolding placeReason first
+  insert-table-full p h = rw (absent p, h)
+
+  pub insert-store-full : place (shortKey e) es ≡ none → leb (row .size) (held (row .table) t) ≡ false → 256 ≤ length es
+      → placeReason row 1 e t ≡ 24
+  unfolding placeReason first
+  insert-store-full p h f = rw (absent p, h, le-leb 256 (length es) f)
+
+  pub insert-absent : place (shortKey e) es ≡ none → leb (row .size) (held (row .table) t) ≡ false → length es < 256
+      → placeReason row 1 e t ≡ 0
+  unfolding placeReason first
+  insert-absent p h f = rw (absent p, h, lt-leb 256 (length es) f)
+
+  -- ---- MODIFY and DELETE
+
+  pub change-present : (type i : ℕ) → isInsert type ≡ false → place (shortKey e) es ≡ some i → placeReason row type e t ≡ 0
+  unfolding placeReason first
+  change-present type i n p = rw (n, present i p)
+
+  pub change-absent : (type : ℕ) → isInsert type ≡ false → place (shortKey e) es ≡ none → placeReason row type e t ≡ 21
+  unfolding placeReason first
+  change-absent type n p = rw (n, absent p)
+
+-- a piece written up to the end of d
+pub splice-end : (d : List ℕ) (at : ℕ) (ys : List ℕ) → length d ≡ at + length ys → splice d at ys ≡ take at d ++ ys
+unfolding splice
+splice-end d at ys h = rw (drop-of-length-le d {i = at + length ys} (omega arith), append-nil ys)

@@ -1,0 +1,79 @@
+-- What the functions of one update are held to, in the rules' terms. Assumes nothing.
+use mathlib.Core.Path.{_≡_}
+use mathlib.Core.Bool.{Bool, true, false, _&&_, not}
+use mathlib.Core.List.{List, [], _∷_, _++_}
+use mathlib.Core.Option.{some}
+use Prim.Native.Nat.{ℕ, _+_, _-_, _≤_, _<_}
+use lib.Dec.{leb}
+use lib.ListN.{length, take, drop, getD, set}
+use Rattle.rules.specs.Reason.{first}
+use Rattle.rules.specs.Frame.{Update}
+use Rattle.rules.specs.Row.{Row, known, rowFor}
+use Rattle.rules.specs.Key.{tableOf, keyFormed, keyFits, keyRules, shortKey}
+use Rattle.rules.specs.Entry.{actionFormed, actionFits, shortEntry}
+use Rattle.rules.specs.Update.{Tables, isInsert, isModify, stored, held, judge, apply}
+use Rattle.rules.specs.Sound.{Distinct}
+use Rattle.entries.specs.Store.{entriesIn, tablesIn, place, without, Left}
+use Rattle.updates.specs.declared.Verdict.{Verdict}
+use Rattle.updates.specs.declared.Verdict.the-variants.{Refused, Insert, Modify, Delete}
+use Rattle.updates.specs.declared.Updated.{Updated}
+
+-- 17 to 19 of a whole entry
+unfoldable pub entryReason : Row → List ℕ → ℕ
+entryReason row e =
+    first
+    ((not (keyFormed row e && actionFormed row e), 17)
+    ∷ (not (keyFits row e && actionFits row e), 18)
+    ∷ (not (keyRules row e), 19)
+    ∷ [])
+
+-- 20 to 24 of an update
+unfoldable pub placeReason : Row → ℕ → List ℕ → Tables → ℕ
+placeReason row type e t =
+    first
+    ((isInsert type && stored (shortKey e) t, 20)
+    ∷ (not (isInsert type) && not (stored (shortKey e) t), 21)
+    ∷ (isInsert type && leb (row .size) (held (row .table) t), 22)
+    ∷ (isInsert type && leb 256 (length (t .entries)), 24)
+    ∷ [])
+
+-- the reason of a verdict, 0 where the update takes effect
+abbrev pub reasonOf : Verdict → ℕ
+reasonOf (Refused r) = r
+reasonOf Insert = 0
+reasonOf (Modify i) = 0
+reasonOf (Delete i) = 0
+
+-- what a verdict has found; a refusal has a reason
+abbrev pub Meant : Verdict → ℕ → List ℕ → Tables → Type 0
+Meant (Refused r) type e t = 0 < r
+Meant Insert type e t = (isInsert type ≡ true) × (length (t .entries) < 256)
+Meant (Modify i) type e t = (isInsert type ≡ false) × (isModify type ≡ true) × (place (shortKey e) (t .entries) ≡ some i)
+Meant (Delete i) type e t = (isInsert type ≡ false) × (isModify type ≡ false) × (place (shortKey e) (t .entries) ≡ some i)
+
+-- what every list of calls leaves of a store, so far as the functions over it rely on that: at most 256 entries, keys distinct
+pub record Tidy (count : ℕ) (store : List ℕ) : Type 0 where
+  pub few : count ≤ 256
+  pub distinct : Distinct (entriesIn count store)
+
+-- an entry with the action and parameters of e, in shortest form
+abbrev pub changed : List ℕ → List ℕ → List ℕ
+changed old e = take 148 old ++ drop 148 (shortEntry e)
+
+-- what doing a verdict leaves, where what it found is there
+abbrev pub Performed : Verdict → ℕ → List ℕ → List ℕ → List ℕ → ℕ → Type 0
+Performed (Refused r) count before after e n = (n ≡ count) × (after ≡ before)
+Performed Insert count before after e n =
+    count < 256 → (n ≡ count + 1) × Left before after n (entriesIn count before ++ (shortEntry e ∷ []))
+Performed (Modify i) count before after e n =
+    i < count → (n ≡ count) × Left before after n (set (entriesIn count before) i (changed (getD (entriesIn count before) i []) e))
+Performed (Delete i) count before after e n = i < count → (n ≡ count - 1) × Left before after n (without i (entriesIn count before))
+
+-- what was found of an update's table in the rows: whether it is known and, where it is, its row
+abbrev pub FoundIn : Bool → Row → List Row → Update → Type 0
+FoundIn isKnown row rows u = (isKnown ≡ known (tableOf (u .entry)) rows) × (isKnown ≡ true → row ≡ rowFor (tableOf (u .entry)) rows)
+
+-- one update, judged and applied
+pub record Applied (rows : List Row) (role count : ℕ) (before after : List ℕ) (u : Update) (r : Updated) : Type 0 where
+  pub reason : r .reason ≡ judge rows role (tablesIn count before) u
+  pub left : Left before after (r .count) (apply (judge rows role (tablesIn count before) u) u (tablesIn count before) .entries)
