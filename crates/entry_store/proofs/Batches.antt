@@ -12,20 +12,20 @@ use Rattle.rules.specs.Bytes.{if_then_else_, every, concat, part, number, int}
 use Rattle.rules.specs.Frame.{Update, updateOf}
 use Rattle.rules.specs.Row.{Row, known, rowFor}
 use Rattle.rules.specs.Key.{tableOf}
-use Rattle.rules.specs.Update.{Tables, Batch, judge, apply, batch}
+use Rattle.rules.specs.Update.{Tables, Batch, judgeBy, judge, apply, batch}
 use Rattle.rules.specs.Call.{pairOf}
 use Rattle.rules.proofs.Lists.{part-part}
 use Rattle.rows.specs.declared.Rows.{Rows}
 use Rattle.rows.specs.Meaning.{rowOf, rowsOf, rowAt}
-use Rattle.rows.proofs.Counted.{blank}
+use Rattle.rows.proofs.Counted.{blank, row-there}
 use Rattle.buffers.specs.Splice.{splice}
 use Rattle.buffers.proofs.Written.{Written as Pairs, written-none, written-next, written-all}
 use Rattle.entries.specs.Store.{tablesIn}
 use Rattle.updates.specs.declared.Updated.{Updated}
-use Rattle.updates.specs.Update.{Tidy, FoundIn, Applied}
+use Rattle.updates.specs.Update.{Tidy, Applied}
+use Rattle.updates.proofs.Judging.{judged-by-rows}
 use Rattle.updates.proofs.Updates.{applied-tidy}
 use Rattle.entry_store.specs.Batch.{BatchApplied}
-use Rattle.entry_store.proofs.Rows.{row-there}
 
 -- ---- the flag
 
@@ -50,17 +50,17 @@ still reason failed rest = go (eqb 0 reason) failed
 
 -- ---- the row of an update's table
 
--- what stands at the place that was found for the table of update i
+-- by what stands at the place that was found for the table of update i, it is judged as by the rows
 pub row-found : (c : Rows) (us : List ℕ) (i at : ℕ) {table : ℕ} → table ≡ int (221 * i + 1) 4 us
-    → ltb at 8 ≡ known table (rowsOf c) → rowAt c at ≡ rowFor table (rowsOf c)
-    → FoundIn (ltb at 8) (rowOf (getD (c .rows) (at % 8) blank)) (rowsOf c) (updateOf (part (221 * i) 221 us))
-row-found c us i at {table} t k r = (
-  k ∙ ap (λ (n : ℕ). known n (rowsOf c)) its,
-  λ h. row-there c at h ∙ r ∙ ap (λ (n : ℕ). rowFor n (rowsOf c)) its,
-)
+    → ltb at 8 ≡ known table (rowsOf c) → rowAt c at ≡ rowFor table (rowsOf c) → (role : ℕ) (t : Tables)
+    → let u = updateOf (part (221 * i) 221 us) in
+    judgeBy (ltb at 8) (rowOf (getD (c .rows) (at % 8) blank)) role t u ≡ judge (rowsOf c) role t u
+row-found c us i at {table} e k r role t =
+    judged-by-rows (rowsOf c) role t (updateOf (part (221 * i) 221 us)) (k ∙ ap (λ (n : ℕ). known n (rowsOf c)) its)
+    (λ h. row-there c at h ∙ r ∙ ap (λ (n : ℕ). rowFor n (rowsOf c)) its)
   where
     its : table ≡ tableOf (updateOf (part (221 * i) 221 us) .entry)
-    its = t ∙ sym (ap number (part-part (221 * i) 221 1 4 us (omega arith)))
+    its = e ∙ sym (ap number (part-part (221 * i) 221 1 4 us (omega arith)))
 
 -- ---- the store and the answer
 
@@ -84,27 +84,27 @@ module _ (rows : List Row) (role : ℕ) where
   batch-start count start out us ok =
       record { tidy = ok; room = refl; beyond = refl; tables = refl; failing = refl; pairs = written-none 2 _ out }
 
-  -- the tables that an update leaves
-  tables-left : {held : ℕ} {store after : List ℕ} {u : Update} {r : Updated} → Applied rows role held store after u r
-      → tablesIn (r .count) after ≡ apply (judge rows role (tablesIn held store) u) u (tablesIn held store)
-  tables-left a = ap (λ (es : List (List ℕ)). let t : Tables = record { entries = es } in t) (a .left .holds)
-
   module _ {all : Batch} {start out store answer : List ℕ} {held i : ℕ} {failed : Bool} where
     pub batch-next : {u : Update} {us : List Update} {after answer′ : List ℕ} {r : Updated} {failed′ : Bool}
         → Batching all start out (u ∷ us) store answer held failed i → length (u .entry) ≡ 220 → 2 * i ≤ length out
-        → Applied rows role held store after u r → failed′ ≡ flagged (r .reason) failed
+        → {isKnown : Bool} {row : Row} → Applied isKnown row role held store after u r
+        → judgeBy isKnown row role (tablesIn held store) u ≡ judge rows role (tablesIn held store) u
+        → failed′ ≡ flagged (r .reason) failed
         → answer′ ≡ splice answer (2 * i) (pairOf (r .reason))
         → Batching all start out us after answer′ (r .count) failed′ (i + 1)
     unfolding batch
-    batch-next {u} {us} {after} {answer′} {r} b l h a f w =
-        let t = tables-left a in
+    batch-next {u} {us} {after} {answer′} {r} b l h {isKnown} {row} a same f w =
+        let before : Tables = tablesIn held store in
+        let told : r .reason ≡ judge rows role before u = a .reason ∙ same in
+        let t : tablesIn (r .count) after ≡ apply (judge rows role before u) u before =
+        ap (λ (es : List (List ℕ)). let x : Tables = record { entries = es } in x) (a .left .holds) ∙ ap (λ (n : ℕ). apply n u before) same in
         record {
-          tidy = applied-tidy rows role held store u (r .count) after l (b .tidy) (a .left .holds);
+          tidy = applied-tidy isKnown row role held store u (r .count) after l (b .tidy) (a .left .holds);
           room = a .left .room ∙ b .room;
           beyond = a .left .beyond ∙ b .beyond;
           tables = rw t (b .tables);
-          failing = rw (t, f, a .reason) (b .failing ∙ still (judge rows role (tablesIn held store) u) failed _);
-          pairs = rw t (written-next (b .pairs) refl refl h (rw (a .reason) at w) refl);
+          failing = rw (t, f, told) (b .failing ∙ still (judge rows role before u) failed _);
+          pairs = rw t (written-next (b .pairs) refl refl h (rw told at w) refl);
         }
 
   pub batch-end : {count : ℕ} {us : List Update} {start out store answer : List ℕ} {held i : ℕ} {failed : Bool}

@@ -20,13 +20,12 @@ use Rattle.rules.proofs.Shortest.{part-length}
 use Rattle.rows.specs.declared.Row.{Row as RowRead}
 use Rattle.rows.specs.declared.Rows.{Rows}
 use Rattle.rows.specs.Meaning.{rowOf, rowsOf, rowAt}
-use Rattle.rows.proofs.Counted.{blank, row-past}
+use Rattle.rows.proofs.Counted.{blank, row-past, row-there}
 use Rattle.buffers.specs.Splice.{splice}
 use Rattle.entries.specs.Store.{entriesIn, tablesIn}
 use Rattle.updates.specs.Update.{Tidy}
 use Rattle.updates.proofs.Judging.{key-formed-lent, key-fits-lent, key-rules-lent}
 use Rattle.entry_store.specs.Read.{keyIn, keyReason, tableReason, queryReason, readIn, Reads}
-use Rattle.entry_store.proofs.Rows.{row-there}
 
 -- ---- the key
 

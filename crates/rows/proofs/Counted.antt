@@ -1,13 +1,15 @@
 -- The rows in force, walked from the front: what is left begins with the row at the index, and is nothing past the count or
 -- the eighth. Assumes nothing.
-use Prim.Native.Nat.{ℕ, zero, suc, _+_, min, _≤_, _<_}
+use Prim.Native.Nat.{ℕ, zero, suc, _+_, _%_, min, _≤_, _<_}
 use native.Mathlib.Numerals.{add-one}
 use native.Mathlib.Omega.{arith}
-use mathlib.Core.Path.{_≡_, refl, ap, _∙_}
+use mathlib.Core.Path.{_≡_, refl, sym, ap, _∙_}
+use mathlib.Core.Bool.{true}
 use mathlib.Core.List.{List, [], _∷_, map}
 use lib.ListN.{length, take, drop, getD, length-map, length-take, drop-of-length-le, List·getD-map, List·getD-eq-default}
 use lib.Seq.{drop-cons, getD-take}
-use lib.Dec.{eqb, eqb·suc-zero}
+use lib.Dec.{eqb, ltb, eqb·suc-zero}
+use borrow.Author.Tests.{ltb-true}
 use Rattle.rules.specs.Call.{unconfigured}
 use Rattle.rules.specs.Row as rules
 use Rattle.rows.specs.declared.Row.{Row}
@@ -52,3 +54,9 @@ row-at c i = List·getD-map rowOf (c .rows) i blank
 pub row-past : (c : Rows) (i : ℕ) → length (c .rows) ≡ 8 → 8 ≤ i → rowAt c i ≡ rules.noRow
 unfolding rowAt
 row-past c i e h = List·getD-eq-default (map rowOf (c .rows)) rules.noRow {n = i} (rw (length-map, e) h)
+
+-- what the code reads at a place that was found is the row there
+pub row-there : (c : Rows) (at : ℕ) → ltb at 8 ≡ true → rowOf (getD (c .rows) (at % 8) blank) ≡ rowAt c at
+row-there c at h =
+    let here : at % 8 ≡ at = omega (arith, ltb-true at 8 h) in
+    ap (λ (n : ℕ). rowOf (getD (c .rows) n blank)) here ∙ sym (row-at c at)

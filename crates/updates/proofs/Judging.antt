@@ -10,15 +10,15 @@ use lib.ListN.{length, take, drop}
 use borrow.Author.Tests.{le-leb, lt-leb, ne-eqb}
 use Rattle.rules.specs.Bytes.{if_then_else_, between, byte, part, parts, int}
 use Rattle.rules.specs.Reason.{first}
-use Rattle.rules.specs.Frame.{updateOf}
+use Rattle.rules.specs.Frame.{Update, updateOf}
 use Rattle.rules.specs.Row.{Row, known, rowFor, mayWrite}
-use Rattle.rules.specs.Key.{slots, slotFormed, slotFits, slotRule, alongside, alongsideAll, priorityRule, keyFormed, keyFits, keyRules}
+use Rattle.rules.specs.Key.{tableOf, slots, slotFormed, slotFits, slotRule, alongside, alongsideAll, priorityRule, keyFormed, keyFits, keyRules}
 use Rattle.rules.specs.Entry.{actionFormed, actionFits}
-use Rattle.rules.specs.Update.{Tables, judge}
+use Rattle.rules.specs.Update.{Tables, judgeBy, judge}
 use Rattle.rules.proofs.Lists.{parts-lent}
 use Rattle.values.proofs.Digits.{rest-all}
 use Rattle.updates.specs.declared.Verdict.{Verdict}
-use Rattle.updates.specs.Update.{entryReason, placeReason, reasonOf, Meant, FoundIn}
+use Rattle.updates.specs.Update.{entryReason, placeReason, reasonOf, Meant}
 
 -- ---- what is lent
 
@@ -72,27 +72,23 @@ split true true true false true f cs = refl
 split true true true false false true cs = refl
 split true true true false false false cs = refl
 
-module _ (rows : List Row) (role : ℕ) (t : Tables) (u : List ℕ) where
+module _ (isKnown : Bool) (row : Row) (role : ℕ) (t : Tables) (u : List ℕ) where
   abbrev reason : ℕ
-  reason = judge rows role t (updateOf u)
+  reason = judgeBy isKnown row role t (updateOf u)
 
-  -- what is asked once the table's row is found and may be written
-  abbrev rest : Row → ℕ
-  rest row =
-      if eqb (entryReason row (drop 1 u)) 0 then placeReason row (byte 0 u) (drop 1 u) t else entryReason row (drop 1 u)
+  -- what is asked once the table is known and its row may be written
+  abbrev rest : ℕ
+  rest = if eqb (entryReason row (drop 1 u)) 0 then placeReason row (byte 0 u) (drop 1 u) t else entryReason row (drop 1 u)
 
   -- only that is left
-  abbrev pub Reached : Row → Type 0
-  Reached row = reason ≡ rest row
+  abbrev pub Reached : Type 0
+  Reached = reason ≡ rest
 
-  judge-asked : reason
-      ≡ (if between 1 3 (byte 0 u) then if known (int 1 4 u) rows then
-      if mayWrite role (rowFor (int 1 4 u) rows) then rest (rowFor (int 1 4 u) rows) else 16 else 15 else 17)
-  unfolding judge entryReason placeReason
+  judge-asked : reason ≡ (if between 1 3 (byte 0 u) then if isKnown then if mayWrite role row then rest else 16 else 15 else 17)
+  unfolding judgeBy entryReason placeReason
   judge-asked =
       let e : List ℕ = drop 1 u in
-      let row : Row = rowFor (int 1 4 u) rows in
-      split (between 1 3 (byte 0 u)) (known (int 1 4 u) rows) (mayWrite role row)
+      split (between 1 3 (byte 0 u)) isKnown (mayWrite role row)
       (not (keyFormed row e && actionFormed row e)) (not (keyFits row e && actionFits row e)) (not (keyRules row e)) _
 
   -- ---- one law for each way out
@@ -108,29 +104,17 @@ module _ (rows : List Row) (role : ℕ) (t : Tables) (u : List ℕ) where
     typed : between 1 3 (byte 0 u) ≡ true
     typed = rw (le-leb 1 (byte 0 u) (omega arith), le-leb (byte 0 u) 3 most)
 
-    -- and this was found of the table
-    module _ {isKnown : Bool} {row : Row} (found : FoundIn isKnown row rows (updateOf u)) where
-      pub table-unknown : isKnown ≡ false → 15 ≡ reason
-      table-unknown k =
-          let none : known (int 1 4 u) rows ≡ false = sym (found .0) ∙ k in
-          sym (judge-asked ∙ (rw (typed, none)))
+    pub table-unknown : isKnown ≡ false → 15 ≡ reason
+    table-unknown k = sym (judge-asked ∙ (rw (typed, k)))
 
-      -- the table has this row
-      module _ (k : isKnown ≡ true) where
-        has : known (int 1 4 u) rows ≡ true
-        has = sym (found .0) ∙ k
+    pub not-owned : isKnown ≡ true → mayWrite role row ≡ false → 16 ≡ reason
+    not-owned k w = sym (judge-asked ∙ (rw (typed, k, w)))
 
-        its : row ≡ rowFor (int 1 4 u) rows
-        its = found .1 k
-
-        pub not-owned : mayWrite role row ≡ false → 16 ≡ reason
-        not-owned w = sym (judge-asked ∙ (rw (typed, has, ← its, w)))
-
-        pub owned : mayWrite role row ≡ true → Reached row
-        owned w = judge-asked ∙ (rw (typed, has, ← its, w))
+    pub owned : isKnown ≡ true → mayWrite role row ≡ true → Reached
+    owned k w = judge-asked ∙ (rw (typed, k, w))
 
   -- of the entry, as it is lent
-  module _ (row : Row) {e : List ℕ} (left : Reached row) (whole : e ≡ drop 1 u) where
+  module _ {e : List ℕ} (left : Reached) (whole : e ≡ drop 1 u) where
     pub entry-refused : {r : ℕ} → r ≡ entryReason row e → (r ≡ 0 → ⊥) → r ≡ reason
     entry-refused {r} q n =
         let a : entryReason row (drop 1 u) ≡ r = sym (q ∙ ap (entryReason row) whole) in
@@ -143,6 +127,18 @@ module _ (rows : List Row) (role : ℕ) (t : Tables) (u : List ℕ) where
         let a : entryReason row (drop 1 u) ≡ 0 = sym (z ∙ ap (entryReason row) whole) in
         let p : reason ≡ placeReason row (byte 0 u) (drop 1 u) t = left ∙ (rw a) in
         rw (k, whole) at q ∙ sym p
+
+-- by the rows in force: whether the table is known there, and its row
+pub judged-by-rows : (rows : List Row) (role : ℕ) (t : Tables) (u : Update) {isKnown : Bool} {row : Row}
+    → isKnown ≡ known (tableOf (u .entry)) rows → (isKnown ≡ true → row ≡ rowFor (tableOf (u .entry)) rows)
+    → judgeBy isKnown row role t u ≡ judge rows role t u
+unfolding judge judgeBy first
+judged-by-rows rows role t u {isKnown} {row} e f = go isKnown e f
+  where
+    go : (b : Bool) → b ≡ known (tableOf (u .entry)) rows → (b ≡ true → row ≡ rowFor (tableOf (u .entry)) rows)
+        → judgeBy b row role t u ≡ judge rows role t u
+    go true e f = rw (← e, f refl)
+    go false e f = rw (← e)
 
 -- what is meant of the entry as it is lent is meant of the update's entry
 pub place-meant : (t : Tables) (u : List ℕ) {e : List ℕ} {kind : ℕ} (v : Verdict) → e ≡ drop 1 u → kind ≡ byte 0 u

@@ -14,7 +14,7 @@ use Rattle.rules.specs.Frame.{Update, updateOf}
 use Rattle.rules.specs.Row.{Row}
 use Rattle.rules.specs.Key.{shortKey, keyOf, hasKey}
 use Rattle.rules.specs.Entry.{shortEntry}
-use Rattle.rules.specs.Update.{Tables, isInsert, isModify, stored, judge, perform, apply}
+use Rattle.rules.specs.Update.{Tables, isInsert, isModify, stored, judgeBy, perform, apply}
 use Rattle.rules.specs.Sound.{Distinct}
 use Rattle.rules.proofs.Tests.{and-false, same-true}
 use Rattle.rules.proofs.Orders.{first-clear}
@@ -71,12 +71,12 @@ module _ (count : ℕ) (before after u : List ℕ) (long : length u ≡ 221) (d 
   performed (Delete i) j n e m p =
       rw (← e, m .0, m .1, ← deleted (drop 1 u) (entriesIn count before) i whole d (m .2)) (p (inside i (m .2)) .1)
 
-  pub applied : (rows : List Row) (role : ℕ) (v : Verdict) {r : Updated} → r .reason ≡ reasonOf v
-      → reasonOf v ≡ judge rows role (tablesIn count before) (updateOf u)
+  pub applied : (isKnown : Bool) (row : Row) (role : ℕ) (v : Verdict) {r : Updated} → r .reason ≡ reasonOf v
+      → reasonOf v ≡ judgeBy isKnown row role (tablesIn count before) (updateOf u)
       → Meant v (byte 0 u) (drop 1 u) (tablesIn count before)
       → Performed v count before after (drop 1 u) (r .count)
-      → Applied rows role count before after (updateOf u) r
-  applied rows role v {r} e j m p = record { reason = e ∙ j; left = performed v _ (r .count) j m p }
+      → Applied isKnown row role count before after (updateOf u) r
+  applied isKnown row role v {r} e j m p = record { reason = e ∙ j; left = performed v _ (r .count) j m p }
 
 -- ---- an update keeps a store tidy
 
@@ -84,9 +84,9 @@ module _ (count : ℕ) (before after u : List ℕ) (long : length u ≡ 221) (d 
 abbrev Neat : List (List ℕ) → Type 0
 Neat es = (length es ≤ 256) × Distinct es
 
-module _ (rows : List Row) (role : ℕ) (t : Tables) (u : Update) (l : length (u .entry) ≡ 220) (ok : Neat (t .entries)) where
-  insert-neat : judge rows role t u ≡ 0 → isInsert (u .type) ≡ true → Neat (t .entries ++ (shortEntry (u .entry) ∷ []))
-  unfolding judge stored
+module _ (isKnown : Bool) (row : Row) (role : ℕ) (t : Tables) (u : Update) (l : length (u .entry) ≡ 220) (ok : Neat (t .entries)) where
+  insert-neat : judgeBy isKnown row role t u ≡ 0 → isInsert (u .type) ≡ true → Neat (t .entries ++ (shortEntry (u .entry) ∷ []))
+  unfolding judgeBy stored
   insert-neat j i =
       let e : List ℕ = u .entry in
       let c = first-clear _ refl j in
@@ -96,9 +96,9 @@ module _ (rows : List Row) (role : ℕ) (t : Tables) (u : Update) (l : length (u
         distinct-snoc (t .entries) (shortEntry e) (ok .1) (rw (key-of-short e l) free),
       )
 
-  applied-neat : Neat (apply (judge rows role t u) u t .entries)
+  applied-neat : Neat (apply (judgeBy isKnown row role t u) u t .entries)
   unfolding apply perform
-  applied-neat = go (eqb (judge rows role t u) 0) (isInsert (u .type)) (isModify (u .type)) refl refl
+  applied-neat = go (eqb (judgeBy isKnown row role t u) 0) (isInsert (u .type)) (isModify (u .type)) refl refl
     where
       e : List ℕ
       e = shortEntry (u .entry)
@@ -106,7 +106,7 @@ module _ (rows : List Row) (role : ℕ) (t : Tables) (u : Update) (l : length (u
       other : List ℕ → Bool
       other old = not (hasKey (keyOf e) old)
 
-      go : (a b c : Bool) → eqb (judge rows role t u) 0 ≡ a → isInsert (u .type) ≡ b
+      go : (a b c : Bool) → eqb (judgeBy isKnown row role t u) 0 ≡ a → isInsert (u .type) ≡ b
           → Neat ((if a then record {
             entries =
                 if b then t .entries ++ (e ∷ []) else
@@ -118,10 +118,10 @@ module _ (rows : List Row) (role : ℕ) (t : Tables) (u : Update) (l : length (u
       go true false false p q = (omega (arith, keep-fewer other (t .entries), ok .0), distinct-keep other (t .entries) (ok .1))
       go false b c p q = ok
 
-pub applied-tidy : (rows : List Row) (role held : ℕ) (store : List ℕ) (u : Update) (n : ℕ) (after : List ℕ)
+pub applied-tidy : (isKnown : Bool) (row : Row) (role held : ℕ) (store : List ℕ) (u : Update) (n : ℕ) (after : List ℕ)
     → length (u .entry) ≡ 220 → Tidy held store
-    → entriesIn n after ≡ apply (judge rows role (tablesIn held store) u) u (tablesIn held store) .entries → Tidy n after
-applied-tidy rows role held store u n after l ok h =
+    → entriesIn n after ≡ apply (judgeBy isKnown row role (tablesIn held store) u) u (tablesIn held store) .entries → Tidy n after
+applied-tidy isKnown row role held store u n after l ok h =
     let few : length (entriesIn held store) ≤ 256 = omega (arith, parts-count held 220 store, ok .few) in
-    let r = applied-neat rows role (tablesIn held store) u l (few, ok .distinct) in
+    let r = applied-neat isKnown row role (tablesIn held store) u l (few, ok .distinct) in
     record { few = omega (arith, parts-count n 220 after, ap length h, r .0); distinct = rw h (r .1) }

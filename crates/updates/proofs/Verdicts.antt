@@ -1,19 +1,17 @@
--- Why an update is refused at its place, by where its key was found: one law per way through the order 20 to 24; and what a
--- piece written up to the end leaves. Assumes nothing.
-use Prim.Native.Nat.{ℕ, _+_, _≤_, _<_}
+-- Why an update is refused at its place, by where its key was found: one law per way through the order 20 to 24. Assumes nothing.
+use Prim.Native.Nat.{ℕ, _≤_, _<_}
 use native.Mathlib.Omega.{arith}
 use mathlib.Core.Path.{_≡_}
 use mathlib.Core.Bool.{true, false}
-use mathlib.Core.List.{List, _++_, append-nil}
+use mathlib.Core.List.{List}
 use mathlib.Core.Option.{none, some}
 use lib.Dec.{leb}
-use lib.ListN.{length, take, drop-of-length-le}
+use lib.ListN.{length}
 use borrow.Author.Tests.{le-leb, lt-leb}
 use Rattle.rules.specs.Reason.{first}
 use Rattle.rules.specs.Row.{Row}
 use Rattle.rules.specs.Key.{shortKey}
 use Rattle.rules.specs.Update.{Tables, isInsert, stored, held}
-use Rattle.buffers.specs.Splice.{splice}
 use Rattle.entries.specs.Store.{place}
 use Rattle.entries.proofs.Places.{place-stored}
 use Rattle.updates.specs.Update.{placeReason}
@@ -58,8 +56,3 @@ module _ (row : Row) (e : List ℕ) (es : List (List ℕ)) where
   pub change-absent : (type : ℕ) → isInsert type ≡ false → place (shortKey e) es ≡ none → placeReason row type e t ≡ 21
   unfolding placeReason first
   change-absent type n p = rw (n, absent p)
-
--- a piece written up to the end of d
-pub splice-end : (d : List ℕ) (at : ℕ) (ys : List ℕ) → length d ≡ at + length ys → splice d at ys ≡ take at d ++ ys
-unfolding splice
-splice-end d at ys h = rw (drop-of-length-le d {i = at + length ys} (omega arith), append-nil ys)

@@ -8,10 +8,10 @@ use lib.Dec.{leb}
 use lib.ListN.{length, take, drop, getD, set}
 use Rattle.rules.specs.Reason.{first}
 use Rattle.rules.specs.Frame.{Update}
-use Rattle.rules.specs.Row.{Row, known, rowFor}
-use Rattle.rules.specs.Key.{tableOf, keyFormed, keyFits, keyRules, shortKey}
+use Rattle.rules.specs.Row.{Row}
+use Rattle.rules.specs.Key.{keyFormed, keyFits, keyRules, shortKey}
 use Rattle.rules.specs.Entry.{actionFormed, actionFits, shortEntry}
-use Rattle.rules.specs.Update.{Tables, isInsert, isModify, stored, held, judge, apply}
+use Rattle.rules.specs.Update.{Tables, isInsert, isModify, stored, held, judgeBy, apply}
 use Rattle.rules.specs.Sound.{Distinct}
 use Rattle.entries.specs.Store.{entriesIn, tablesIn, place, without, Left}
 use Rattle.updates.specs.declared.Verdict.{Verdict}
@@ -69,11 +69,7 @@ Performed (Modify i) count before after e n =
     i < count → (n ≡ count) × Left before after n (set (entriesIn count before) i (changed (getD (entriesIn count before) i []) e))
 Performed (Delete i) count before after e n = i < count → (n ≡ count - 1) × Left before after n (without i (entriesIn count before))
 
--- what was found of an update's table in the rows: whether it is known and, where it is, its row
-abbrev pub FoundIn : Bool → Row → List Row → Update → Type 0
-FoundIn isKnown row rows u = (isKnown ≡ known (tableOf (u .entry)) rows) × (isKnown ≡ true → row ≡ rowFor (tableOf (u .entry)) rows)
-
--- one update, judged and applied
-pub record Applied (rows : List Row) (role count : ℕ) (before after : List ℕ) (u : Update) (r : Updated) : Type 0 where
-  pub reason : r .reason ≡ judge rows role (tablesIn count before) u
-  pub left : Left before after (r .count) (apply (judge rows role (tablesIn count before) u) u (tablesIn count before) .entries)
+-- one update, judged by whether its table is known and by the table's row, and applied
+pub record Applied (isKnown : Bool) (row : Row) (role count : ℕ) (before after : List ℕ) (u : Update) (r : Updated) : Type 0 where
+  pub reason : r .reason ≡ judgeBy isKnown row role (tablesIn count before) u
+  pub left : Left before after (r .count) (apply (judgeBy isKnown row role (tablesIn count before) u) u (tablesIn count before) .entries)

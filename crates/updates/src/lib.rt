@@ -1,20 +1,19 @@
 // One update, judged and applied (document 01, "The maker of an update").
 ghost use mathlib.Core.Path.{_≡_};
 ghost use mathlib.Core.Bool.{false, _&&_, not};
-ghost use mathlib.Core.List.{List, [], _∷_, _++_};
+ghost use mathlib.Core.List.{[], _∷_, _++_};
 ghost use Prim.Native.Nat.{_+_, _*_, _≤_, _<_};
 ghost use lib.ListN.{length, drop, getD, set};
 ghost use Rattle.rules.specs.Bytes.{if_then_else_, byte};
 ghost use Rattle.rules.specs.Reason.{first};
 ghost use Rattle.rules.specs.Frame.{updateOf};
 ghost use lib.Dec.{leb};
-ghost use Rattle.rules.specs.Row as rules;
 ghost use Rattle.rules.specs.Key.{keyFormed, keyFits, shortKey};
 ghost use Rattle.rules.specs.Entry.{actionFormed, actionFits, shortEntry};
-ghost use Rattle.rules.specs.Update.{isInsert, held as heldIn, judge as judgement};
+ghost use Rattle.rules.specs.Update.{isInsert, held as heldIn, judgeBy};
 ghost use Rattle.rows.specs.Meaning.{rowOf};
 ghost use Rattle.entries.specs.Store.{entriesIn, tablesIn, place, placeOf, Left};
-ghost use Rattle.updates.specs.Update.{entryReason, placeReason, reasonOf, Meant, changed, Performed, Tidy, FoundIn, Applied};
+ghost use Rattle.updates.specs.Update.{entryReason, placeReason, reasonOf, Meant, changed, Performed, Tidy, Applied};
 use entries::Found;
 use numbers::integer;
 use rows::Row;
@@ -141,7 +140,7 @@ fn judge_change(row: Row, kind: u8, store: &[u8], count: usize, entry: &[u8]) ->
 // Judges an update of 221 bytes by its table's row, if the table is known, the role and the entries stored.
 fn judge(known: bool, row: Row, role: u8, store: &[u8], count: usize, update: &[u8]) -> Verdict
     requires { ⌜ (220 * count ≤ length (now store)) × (length (now update) ≡ 221) ⌝ }
-    ensures reason { λ r. ⌜ ((rows : List rules.Row) → FoundIn known (rowOf row) rows (updateOf (now (update .entry))) → reasonOf r ≡ judgement rows role (tablesIn count (now (store .entry))) (updateOf (now (update .entry)))) ⌝ }
+    ensures reason { λ r. ⌜ reasonOf r ≡ judgeBy «known» (rowOf row) role (tablesIn count (now (store .entry))) (updateOf (now (update .entry))) ⌝ }
     ensures meant { λ r. ⌜ Meant r (byte 0 (now (update .entry))) (drop 1 (now (update .entry))) (tablesIn count (now (store .entry))) ⌝ }
 {
     let kind = update[0];
@@ -227,7 +226,7 @@ pub fn update(
     update: &[u8],
 ) -> Updated
     requires { ⌜ (56320 ≤ length (now store)) × (length (now update) ≡ 221) ⌝ }
-    ensures { λ r. ⌜ ((rows : List rules.Row) → FoundIn known (rowOf row) rows (updateOf (now (update .entry))) → Tidy count (now (store .entry)) → Applied rows role count (now (store .entry)) (now (store .exit)) (updateOf (now (update .entry))) r) ⌝ }
+    ensures { λ r. ⌜ (Tidy count (now (store .entry)) → Applied «known» (rowOf row) role count (now (store .entry)) (now (store .exit)) (updateOf (now (update .entry))) r) ⌝ }
 {
     if 256 < count {
         return Updated { reason: 24, count };

@@ -121,8 +121,8 @@ loop-again c =
     let k : 221 * i + 221 - 221 * i ≡ 221 = omega arith in
     let long : length (drop 1 (part (221 * i) 221 us)) ≡ 220 =
     omega (arith, length-drop 1 (part (221 * i) 221 us), length-window (221 * i) 221 us (at .1)) in
-    let found = row-found (a .t1) us i (p .position .result) (p .before .integer .ensures) (p .position .ensures .0) (p .position .ensures .1 .0) in
-    let update = rw k at (u .ensures (rowsOf (a .t1))) in
+    let found = row-found (a .t1) us i (p .position .result) (p .before .integer .ensures) (p .position .ensures .0) (p .position .ensures .1 .0) (a .role) in
+    let update = rw k at (u .ensures) in
     let written = part-copied x (w .last .1 .0) (pairOf r) (2 * i) (length x - 2 * i) (w .ensures)
     (omega (arith, at .3)) (omega (arith, at .3)) in
     let f : Bool = l .loop .failed in
@@ -133,7 +133,7 @@ loop-again c =
       same-len-mid (2 * i) (length x - 2 * i) x (w .last .1 .0) (w .kept .1 .0) ∙ l .loop .inv .2,
       λ t.
           let b = rw (parts-from i (a .n) 221 us (at .0)) at (l .loop .inv .3 t) in
-          batch-next _ _ b long (omega (arith, at .2)) (update found (b .tidy)) flag written,
+          batch-next _ _ b long (omega (arith, at .2)) (update (b .tidy)) (found (tablesIn (l .loop .held) (l .loop .store))) flag written,
     )
 
 same-length : tie.Need-same-length Inv-loop μ-loop

@@ -5,7 +5,7 @@ use lib.ListN.{length, replicate}
 use denote.Ref.{now}
 use Rattle.rules.specs.Key.{shortKey}
 use Rattle.rules.proofs.Shortest.{key-length}
-use Rattle.updates.proofs.Verdicts.{splice-end}
+use Rattle.buffers.proofs.Splice.{splice-end}
 use Rattle.entry_store.specs.Read.{keyIn}
 use Rattle.entry_store.proofs.Queries as queries
 use borrow.Author.Needs.{needs}

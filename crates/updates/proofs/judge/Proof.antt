@@ -1,24 +1,23 @@
--- Right because each way out is one way through the order of `judge`, and a place is judged of the update's own entry.
+-- Right because each way out is one way through the order of `judgeBy`, and a place is judged of the update's own entry.
 -- Assumes nothing.
 use Prim.Native.Nat.{ℕ}
 use native.Mathlib.Omega.{arith}
 use mathlib.Core.Path.{refl, sym, _∙_}
+use mathlib.Core.Bool.{Bool}
 use mathlib.Core.List.{List}
 use denote.Ref.{now}
 use borrow.Author.Tests.{not-true, not-false, ne-eqb}
 use Rattle.rules.specs.Bytes.{byte}
-use Rattle.rules.specs.Frame.{updateOf}
 use Rattle.rules.specs.Row.{Row}
 use Rattle.rules.specs.Update.{Tables}
 use Rattle.rows.specs.Meaning.{rowOf}
 use Rattle.entries.specs.Store.{tablesIn}
-use Rattle.updates.specs.Update.{FoundIn}
 use Rattle.updates.proofs.Judging.{Reached, type-zero, type-high, table-unknown, not-owned, owned, entry-lent, entry-refused, place-judged, place-meant}
 use borrow.Author.Needs.{needs}
 use Rattle.updates.proofs.judge.Statement.{statement}
 use Rattle.updates.proofs.judge.Tie as tie
 
--- the role, the tables and the update, and what was found of its table
+-- the role, the tables and the update, the row of its table, and whether that is known
 
 abbrev P : tie.Else1 → ℕ
 P b = b .before .before .before .before .args .role
@@ -32,17 +31,16 @@ U b = now (b .before .before .before .before .args .update)
 abbrev K : tie.Else1 → Row
 K b = rowOf (b .before .before .before .before .args .row)
 
-abbrev F : tie.Else1 → List Row → Type 0
-F b rows = let a = b .before .before .before .before .args in FoundIn (a .known) (K b) rows (updateOf (U b))
+abbrev N : tie.Else1 → Bool
+N b = b .before .before .before .before .args .known
 
 -- the row may be written
-reached : (g : tie.Else4) (rows : List Row) → let b = g .before .before .before .before in F b rows
-    → Reached rows (P b) (T b) (U b) (K b)
-reached g rows f =
+reached : (g : tie.Else4) → let b = g .before .before .before .before in Reached (N b) (K b) (P b) (T b) (U b)
+reached g =
     let m = g .before in
     let e = m .before in
     let b = e .before .before in
-    owned rows (P b) (T b) (U b) (b .if1 .left) (e .before .if2 .left) f (not-false _ (e .if3 .left))
+    owned (N b) (K b) (P b) (T b) (U b) (b .if1 .left) (e .before .if2 .left) (not-false _ (e .if3 .left))
     (sym (m .may-write .ensures) ∙ not-false (m .may-write .result) (g .if4 .left))
 
 shared-slice-read-kind : tie.Need-shared-slice-read-kind
@@ -51,17 +49,17 @@ shared-slice-read-kind c = search needs
 returns : tie.Need-returns
 returns c =
     let a = c .before .before .before .before .args in
-    (λ rows f. type-zero rows (a .role) (tablesIn (a .count) (now (a .store))) (now (a .update)) (c .if1 .taken), omega arith)
+    (type-zero (a .known) (rowOf (a .row)) (a .role) (tablesIn (a .count) (now (a .store))) (now (a .update)) (c .if1 .taken), omega arith)
 
 returns-2 : tie.Need-returns-2
 returns-2 c =
     let b = c .before in
-    (λ rows f. type-high rows (P b) (T b) (U b) (c .if2 .taken), omega arith)
+    (type-high (N b) (K b) (P b) (T b) (U b) (c .if2 .taken), omega arith)
 
 returns-3 : tie.Need-returns-3
 returns-3 c =
     let b = c .before .before in
-    (λ rows f. table-unknown rows (P b) (T b) (U b) (b .if1 .left) (c .before .if2 .left) f (not-true _ (c .if3 .taken)), omega arith)
+    (table-unknown (N b) (K b) (P b) (T b) (U b) (b .if1 .left) (c .before .if2 .left) (not-true _ (c .if3 .taken)), omega arith)
 
 may-write-requires : tie.Need-may-write-requires
 may-write-requires c κs = search needs
@@ -72,7 +70,7 @@ returns-4 c =
     let e = m .before in
     let b = e .before .before in
     let w = sym (m .may-write .ensures) ∙ not-true (m .may-write .result) (c .if4 .taken) in
-    (λ rows f. not-owned rows (P b) (T b) (U b) (b .if1 .left) (e .before .if2 .left) f (not-false _ (e .if3 .left)) w, omega arith)
+    (not-owned (N b) (K b) (P b) (T b) (U b) (b .if1 .left) (e .before .if2 .left) (not-false _ (e .if3 .left)) w, omega arith)
 
 sub-entry-reason : tie.Need-sub-entry-reason
 sub-entry-reason c = search needs
@@ -90,7 +88,7 @@ returns-5 : tie.Need-returns-5
 returns-5 c =
     let g = c .before .before .before in
     let b = g .before .before .before .before in (
-      λ rows f. entry-refused rows (P b) (T b) (U b) (K b) (reached g rows f) (entry-lent (U b)) (c .before .entry-reason .ensures) (c .if5 .taken),
+      entry-refused (N b) (K b) (P b) (T b) (U b) (reached g) (entry-lent (U b)) (c .before .entry-reason .ensures) (c .if5 .taken),
       (let n = c .if5 .taken in omega (arith, n)),
     )
 
@@ -113,9 +111,7 @@ returns-6 c =
     let b = g .before .before .before .before in
     let z = sym (h .if5 .left) ∙ h .before .entry-reason .ensures in
     let k = sym (c .before .before .if6 .taken) in (
-      λ rows f.
-          place-judged rows (P b) (T b) (U b) (K b) (reached g rows f) (entry-lent (U b)) 1 (c .judge-insert .result) z k
-          (c .judge-insert .ensures .0),
+      place-judged (N b) (K b) (P b) (T b) (U b) (reached g) (entry-lent (U b)) 1 (c .judge-insert .result) z k (c .judge-insert .ensures .0),
       place-meant (T b) (U b) (c .judge-insert .result) (entry-lent (U b)) k (c .judge-insert .ensures .1),
     )
 
@@ -137,9 +133,8 @@ returns-7 c =
     let g = h .before .before .before in
     let b = g .before .before .before .before in
     let z = sym (h .if5 .left) ∙ h .before .entry-reason .ensures in (
-      λ rows f.
-          place-judged rows (P b) (T b) (U b) (K b) (reached g rows f) (entry-lent (U b)) (byte 0 (U b)) (c .judge-change .result) z refl
-          (c .judge-change .ensures .0),
+      place-judged (N b) (K b) (P b) (T b) (U b) (reached g) (entry-lent (U b)) (byte 0 (U b)) (c .judge-change .result) z refl
+      (c .judge-change .ensures .0),
       place-meant (T b) (U b) (c .judge-change .result) (entry-lent (U b)) refl (c .judge-change .ensures .1),
     )
 

@@ -8,7 +8,7 @@ use denote.Ref.{now}
 use Rattle.rules.specs.Key.{shortKey}
 use Rattle.rules.proofs.Shortest.{key-length}
 use Rattle.entries.specs.Store.{entriesIn, place}
-use Rattle.updates.proofs.Verdicts.{splice-end}
+use Rattle.buffers.proofs.Splice.{splice-end}
 use borrow.Author.Needs.{needs}
 use Rattle.updates.proofs.locate.Statement.{statement}
 use Rattle.updates.proofs.locate.Tie as tie

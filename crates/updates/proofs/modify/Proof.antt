@@ -8,11 +8,10 @@ use denote.Ref.{now}
 use Rattle.rules.specs.Bytes.{part}
 use Rattle.rules.specs.Entry.{shortEntry}
 use Rattle.rules.proofs.Shortest.{entry-length}
-use Rattle.buffers.proofs.Splice.{drop-splice, length-splice, length-window}
+use Rattle.buffers.proofs.Splice.{splice-end, drop-splice, length-splice, length-window}
 use Rattle.values.proofs.Pieces.{rest-back}
 use Rattle.entries.specs.Store.{entriesIn}
 use Rattle.entries.proofs.Parts.{parts-set, parts-at}
-use Rattle.updates.proofs.Verdicts.{splice-end}
 use borrow.Author.Needs.{needs}
 use Rattle.updates.proofs.modify.Statement.{statement}
 use Rattle.updates.proofs.modify.Tie as tie

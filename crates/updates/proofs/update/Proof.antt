@@ -12,7 +12,7 @@ use Rattle.updates.proofs.update.Statement.{statement}
 use Rattle.updates.proofs.update.Tie as tie
 
 returns : tie.Need-returns
-returns c = λ rows f t. absurd (omega (arith, t .few))
+returns c = λ t. absurd (omega (arith, t .few))
 
 judge-requires : tie.Need-judge-requires
 judge-requires c κs = search needs
@@ -36,7 +36,7 @@ same-length : tie.Need-same-length
 same-length c = search needs
 
 returns-2 : tie.Need-returns-2
-returns-2 c = λ rows f t.
+returns-2 c = λ t.
     let a = c .before .before .before .before .before .before .before .before .before .before .before .args in
     let j = c .before .before .before .before .before .before .judge in
     let r = c .before .before .before .before .before .reason in
@@ -45,7 +45,7 @@ returns-2 c = λ rows f t.
     let long : length u ≡ 221 = search needs in
     let whole : take (length u - 1) (drop 1 u) ≡ drop 1 u =
     take-all (length u - 1) (drop 1 u) (omega (arith, length-drop 1 u)) in
-    applied (a .count) (now (a .store)) (p .last .1 .0) u long (t .distinct) rows _ (j .result) (r .ensures) (j .ensures .0 rows f)
+    applied (a .count) (now (a .store)) (p .last .1 .0) u long (t .distinct) _ _ _ (j .result) (r .ensures) (j .ensures .0)
     (j .ensures .1) (rw whole at (p .ensures .1))
 
 pub update-spec : {M : Type 1} → statement M
