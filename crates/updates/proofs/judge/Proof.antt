@@ -134,7 +134,7 @@ returns-7 c =
     let b = g .before .before .before .before in
     let z = sym (h .if5 .left) ∙ h .before .entry-reason .ensures in (
       place-judged (N b) (K b) (P b) (T b) (U b) (reached g) (entry-lent (U b)) (byte 0 (U b)) (c .judge-change .result) z refl
-      (c .judge-change .ensures .0),
+          (c .judge-change .ensures .0),
       place-meant (T b) (U b) (c .judge-change .result) (entry-lent (U b)) refl (c .judge-change .ensures .1),
     )
 
