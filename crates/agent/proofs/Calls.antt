@@ -3,15 +3,15 @@
 use Prim.Native.Nat.{ℕ, _+_, _-_, _<_, _≤_}
 use native.Mathlib.Omega.{arith}
 use mathlib.Core.Path.{_≡_, refl, sym, ap, ap₂, _∙_, subst}
-use mathlib.Core.Bool.{Bool, true, false, _&&_}
+use mathlib.Core.Bool.{true, false}
 use mathlib.Core.List.{List, _++_}
 use lib.Dec.{leb}
-use lib.ListN.{length, take, drop, length-take, length-drop}
-use lib.Seq.{take-at, take-all}
+use lib.ListN.{length, length-take, length-drop}
+use lib.Seq.{take-at}
 use borrow.Author.Tests.{leb-true}
-use Rattle.rules.specs.Bytes.{if_then_else_, number, part, int}
+use Rattle.rules.specs.Bytes.{number, part, int}
 use Rattle.rules.specs.Frame as rules
-use Rattle.rules.specs.Frame.{Command, cramped, readFrame}
+use Rattle.rules.specs.Frame.{cramped, readFrame}
 use Rattle.rules.specs.Key.{tableOf}
 use Rattle.rules.specs.Answer.{replyOf}
 use Rattle.rules.specs.Call.{roomy, commandOf, nextControl, nextTables, next, answer, reply}
@@ -25,8 +25,8 @@ use Rattle.frames.specs.Meaning.{queryOf}
 use Rattle.agent.specs.declared.Agent.{Agent}
 use Rattle.agent.specs.declared.Called.{Called}
 use Rattle.agent.specs.Meaning.{stateOf}
-use Rattle.agent.specs.Contract.{Kept, asked, Obeyed, Meets}
-use Rattle.agent.specs.Handlers.{queryIn, Named, Obeys}
+use Rattle.agent.specs.Contract.{Kept, asked, Obeyed}
+use Rattle.agent.specs.Handlers.{queryIn, Named}
 
 -- ---- 2 is tested first
 

@@ -5,7 +5,7 @@ use mathlib.Core.Path.{_≡_, refl, sym, ap, _∙_, subst}
 use mathlib.Core.Bool.{Bool, true, false, not, _&&_, true≢false}
 use mathlib.Core.List.{List, [], _∷_, _++_, map}
 use lib.Dec.{eqb, ltb}
-use borrow.Author.Tests.{eqb-true, eq-eqb, ne-eqb, not-false}
+use borrow.Author.Tests.{eqb-true, eq-eqb, ne-eqb}
 use Rattle.rules.specs.Bytes.{if_then_else_, parts, every}
 use Rattle.rules.specs.Reason.{first}
 use Rattle.rules.specs.Frame.{Head, Update, Query, Command, cramped, malformed, OPEN, CLOSE, ARBITRATE, CONFIGURE, WRITE, READ}
@@ -15,7 +15,7 @@ use Rattle.rules.specs.Key.{keyFormed, keyFits, keyRules}
 use Rattle.rules.specs.Answer.{Answer, answerBytes}
 use Rattle.rules.specs.Call.{Control, unconfigured, configureReason, writeReason, readReason, refusal, withStreams, withRows, nextControl, nextTables, next, batchOf, pairOf, headOf, shown, heard, plain, answer}
 use Rattle.rules.proofs.Formed.{parts-count, Formed}
-use Rattle.rules.proofs.Orders.{first-clear, first-more}
+use Rattle.rules.proofs.Orders.{first-more}
 use Rattle.rules.proofs.OneKey.{one-key}
 use Rattle.buffers.specs.Splice.{splice}
 use Rattle.arbitration.specs.declared.Outcome.{Outcome}

@@ -1,6 +1,5 @@
 -- Why an update is refused at its place, by where its key was found: one law per way through the order 20 to 24. Assumes nothing.
 use Prim.Native.Nat.{ℕ, _≤_, _<_}
-use native.Mathlib.Omega.{arith}
 use mathlib.Core.Path.{_≡_}
 use mathlib.Core.Bool.{true, false}
 use mathlib.Core.List.{List}

@@ -1,0 +1,2 @@
+-- Rules that the walks of this crate share.
+mod Locals
