@@ -23,7 +23,7 @@ use Rattle.rows.specs.Meaning.{rowsOf}
 use Rattle.rows.proofs.Configuration.{rows-allowed-read}
 use Rattle.frames.specs.declared.Command as frames
 use Rattle.frames.specs.declared.Command.the-variants.{Open, Close, Arbitrate, Configure, Write, Read}
-use Rattle.frames.specs.Meaning.{commandOf, stands, givenBy}
+use Rattle.frames.specs.Meaning.{commandOf, stands, givenBy, given}
 use Rattle.frames.proofs.Standing.{given-there}
 use Rattle.entries.specs.Store.{tablesIn}
 use Rattle.agent.specs.declared.Agent.{Agent}
@@ -34,7 +34,7 @@ use Rattle.agent.specs.Contract.{Kept, asked, Obeyed, Outcome, Meets}
 use Rattle.agent.specs.Handlers.{elected, configured, wrote, unchanged}
 use Rattle.answers.specs.Answered.{answered, unread}
 use Rattle.control.specs.Events.{isEvent, turn, Elects}
-use Rattle.control.specs.Configuring.{isConfigure, given, verdict, rowsAsked}
+use Rattle.control.specs.Configuring.{isConfigure, verdict, rowsAsked}
 use Rattle.agent.specs.Parts.{onEntries, Serves}
 use Rattle.control.proofs.Configuring.{rows-allowed}
 use Rattle.agent.proofs.Obeying.{OnStreams, turn-obeyed, turn-answered, malformed-obeyed, configure-refused, was-configured}

@@ -6,7 +6,7 @@ use Prim.Native.Nat.{ℕ}
 use lib.ListN.{length}
 use Rattle.rules.specs.Frame.{Command, cramped, malformed, OPEN, CLOSE, ARBITRATE, CONFIGURE, WRITE, READ}
 use Rattle.frames.specs.declared.Command as frames
-use Rattle.control.specs.Configuring.{given}
+use Rattle.frames.specs.Meaning.{given}
 use Rattle.agent.specs.declared.Agent.{Agent}
 use Rattle.agent.specs.declared.Wrote.{Wrote}
 use Rattle.agent.specs.Contract.{Kept, Obeyed}

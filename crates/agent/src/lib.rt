@@ -1,4 +1,5 @@
-// The agent: one call hands in a frame and gets its answer (document 01).
+// The agent: one call hands in a frame and gets its answer (document 01). WRITE and READ, which look at entries, are done here, the other
+// commands by `control`.
 ghost use mathlib.Core.Path.{_≡_};
 ghost use mathlib.Core.Bool.{true, not};
 ghost use mathlib.Core.List.{[], _∷_};

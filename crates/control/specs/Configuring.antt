@@ -2,16 +2,15 @@
 use mathlib.Core.Bool.{Bool, true, false}
 use mathlib.Core.List.{List, []}
 use Prim.Native.Nat.{ℕ}
-use Rattle.rules.specs.Bytes.{if_then_else_}
 use Rattle.rules.specs.Frame.{Command, cramped, malformed, OPEN, CLOSE, ARBITRATE, CONFIGURE, WRITE, READ}
 use Rattle.rules.specs.Streams as rules
 use Rattle.rules.specs.Row.{Row}
-use Rattle.rules.specs.Call.{configureReason, roomy}
+use Rattle.rules.specs.Call.{configureReason}
 use Rattle.rows.specs.Meaning.{rowsIn}
 use Rattle.frames.specs.declared.Command as frames
 use Rattle.frames.specs.declared.Command.the-variants.{Open, Close, Arbitrate, Configure, Write, Read}
-use Rattle.frames.specs.Meaning.{givenBy}
 
+-- whether a command is a CONFIGURE
 abbrev pub isConfigure : frames.Command → Bool
 isConfigure (Open s) = false
 isConfigure (Close s) = false
@@ -19,10 +18,6 @@ isConfigure (Arbitrate s h) = false
 isConfigure (Configure h t) = true
 isConfigure (Write h atomicity n) = false
 isConfigure (Read q) = false
-
--- what is asked for, where c is handed on beside the frame f: under 2 neither is looked at
-abbrev pub given : frames.Command → List ℕ → ℕ → ℕ → Command
-given c f room space = if roomy room space then givenBy c f else cramped
 
 -- why a CONFIGURE is refused, on this device and with the streams e; the rows in force do not matter
 abbrev pub verdict : ℕ → rules.Streams → Command → ℕ

@@ -14,6 +14,7 @@ use Rattle.frames.specs.declared.Command as frames
 use Rattle.frames.specs.declared.Command.the-variants.{Open, Close, Arbitrate, Configure, Write, Read}
 use Rattle.frames.specs.Meaning.{commandOf}
 
+-- whether a command is an event of the streams
 abbrev pub isEvent : frames.Command → Bool
 isEvent (Open s) = true
 isEvent (Close s) = true

@@ -6,6 +6,7 @@ use lib.Dec.{eqb, leb}
 use lib.ListN.{length, drop}
 use Rattle.rules.specs.Bytes.{if_then_else_, part, parts, int}
 use Rattle.rules.specs.Frame as rules
+use Rattle.rules.specs.Call.{roomy}
 use Rattle.election.specs.Meaning.{headOf}
 use Rattle.frames.specs.declared.Query.{Query}
 use Rattle.frames.specs.declared.Command.{Command}
@@ -48,3 +49,7 @@ frameStands Malformed f = true
 -- what is asked for, where the command c is handed on beside the frame f: c, if what it leaves in the frame stands there
 abbrev pub givenBy : Command → List ℕ → rules.Command
 givenBy c f = if stands c f then commandOf c f else rules.malformed
+
+-- and where the store has this room and the answer buffer this space: under 2 neither c nor f is looked at
+abbrev pub given : Command → List ℕ → ℕ → ℕ → rules.Command
+given c f room space = if roomy room space then givenBy c f else rules.cramped

@@ -6,9 +6,9 @@ use borrow.Author.Tests.{not-true, not-false}
 use Rattle.rules.specs.Frame.{Command, malformed}
 use Rattle.rules.specs.Call.{roomy}
 use Rattle.arbitration.specs.Meaning.{streamsOf}
-use Rattle.frames.specs.Meaning.{stands, givenBy}
+use Rattle.frames.specs.Meaning.{stands, givenBy, given}
 use Rattle.frames.proofs.Standing.{given-there}
-use Rattle.control.specs.Configuring.{verdict, given}
+use Rattle.control.specs.Configuring.{verdict}
 use borrow.Author.Needs.{needs}
 use Rattle.control.proofs.verify.Statement.{statement}
 use Rattle.control.proofs.verify.Tie as tie

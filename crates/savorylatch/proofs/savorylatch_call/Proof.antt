@@ -61,7 +61,7 @@ use Rattle.rows.specs.declared.Rows.{Rows}
 use Rattle.rows.specs.Meaning.{rowsOf}
 use Rattle.rows.proofs.Rows as Q
 use Rattle.rows.proofs.Rows.Laws as Q′
-use Rattle.frames.specs.Meaning.{commandOf, frameOf, stands, frameStands, givenBy}
+use Rattle.frames.specs.Meaning.{commandOf, frameOf, stands, frameStands, givenBy, given}
 use Rattle.frames.specs.declared.Command.{Command}
 use Rattle.frames.specs.declared.Frame.{Frame}
 use Rattle.frames.specs.declared.Frame.the-variants.{Asks, Malformed}
@@ -73,7 +73,7 @@ use Rattle.agent.specs.Contract as agent
 use Rattle.agent.specs.Handlers.{elected, configured, wrote, unchanged}
 use Rattle.answers.specs.Answered.{answered, unread}
 use Rattle.control.specs.Events.{isEvent, Elects}
-use Rattle.control.specs.Configuring.{isConfigure, given, verdict, rowsAsked}
+use Rattle.control.specs.Configuring.{isConfigure, verdict, rowsAsked}
 use Rattle.agent.specs.Parts.{Serves}
 use Rattle.agent.specs.declared.Agent.{Agent}
 use Rattle.agent.specs.declared.Called.{Called}
