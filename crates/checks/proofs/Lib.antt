@@ -1,3 +1,2 @@
 -- Laws of the checks.
-pub mod Slots
 pub mod Alongside

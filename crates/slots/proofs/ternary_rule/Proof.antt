@@ -1,10 +1,10 @@
 -- Right because it is the tests of `ternaryRule`, in their order. Assumes nothing.
 use mathlib.Core.Path.{sym, _∙_}
 use Rattle.numbers.specs.Whole.{wholeOf}
-use Rattle.checks.proofs.Slots.{mask-none, mask-some}
+use Rattle.slots.proofs.Slots.{mask-none, mask-some}
 use borrow.Author.Needs.{needs}
-use Rattle.checks.proofs.ternary_rule.Statement.{statement}
-use Rattle.checks.proofs.ternary_rule.Tie as tie
+use Rattle.slots.proofs.ternary_rule.Statement.{statement}
+use Rattle.slots.proofs.ternary_rule.Tie as tie
 
 is-zero-requires : tie.Need-is-zero-requires
 is-zero-requires c κs = search needs

@@ -4,10 +4,10 @@ use mathlib.Core.Path.{_≡_, sym, ap, _∙_}
 use mathlib.Core.Bool.{true, not}
 use borrow.Author.Tests.{not-true, not-false}
 use Rattle.numbers.specs.Whole.{wholeOf}
-use Rattle.checks.proofs.Slots.{bounds-turned, bounds-from-zero, bounds-above}
+use Rattle.slots.proofs.Slots.{bounds-turned, bounds-from-zero, bounds-above}
 use borrow.Author.Needs.{needs}
-use Rattle.checks.proofs.range_rule.Statement.{statement}
-use Rattle.checks.proofs.range_rule.Tie as tie
+use Rattle.slots.proofs.range_rule.Statement.{statement}
+use Rattle.slots.proofs.range_rule.Tie as tie
 
 -- past the first test the bounds are in order
 in-order : (z : tie.After-is-zero)

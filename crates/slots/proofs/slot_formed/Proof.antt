@@ -11,10 +11,10 @@ use Rattle.rules.specs.Row.{Field}
 use Rattle.rules.specs.Value.{isValue}
 use Rattle.rules.specs.Key.{kind, value1}
 use Rattle.rows.specs.Meaning.{fieldOf}
-use Rattle.checks.proofs.Slots.{omitted-exact, omitted-other, other-kind, first-unformed, one-value, two-values}
+use Rattle.slots.proofs.Slots.{omitted-exact, omitted-other, other-kind, first-unformed, one-value, two-values}
 use borrow.Author.Needs.{needs}
-use Rattle.checks.proofs.slot_formed.Statement.{statement}
-use Rattle.checks.proofs.slot_formed.Tie as tie
+use Rattle.slots.proofs.slot_formed.Statement.{statement}
+use Rattle.slots.proofs.slot_formed.Tie as tie
 
 -- where the first value has been tested
 abbrev F : tie.After-formed → Field

@@ -2,10 +2,10 @@
 use native.Mathlib.Omega.{arith}
 use mathlib.Core.Path.{_∙_}
 use Rattle.numbers.specs.Whole.{wholeOf}
-use Rattle.checks.proofs.Slots.{low-alone, prefix-none, prefix-long, prefix-some}
+use Rattle.slots.proofs.Slots.{low-alone, prefix-none, prefix-long, prefix-some}
 use borrow.Author.Needs.{needs}
-use Rattle.checks.proofs.lpm_rule.Statement.{statement}
-use Rattle.checks.proofs.lpm_rule.Tie as tie
+use Rattle.slots.proofs.lpm_rule.Statement.{statement}
+use Rattle.slots.proofs.lpm_rule.Tie as tie
 
 returns : tie.Need-returns
 returns c =

@@ -8,10 +8,10 @@ use Rattle.rules.specs.Value.{value}
 use Rattle.rules.specs.Key.{kind, value1, value2}
 use Rattle.numbers.specs.Whole.{wholeOf}
 use Rattle.rows.specs.Meaning.{fieldOf}
-use Rattle.checks.proofs.Slots.{omitted-passes, no-rule, by-lpm, by-ternary, by-range}
+use Rattle.slots.proofs.Slots.{omitted-passes, no-rule, by-lpm, by-ternary, by-range}
 use borrow.Author.Needs.{needs}
-use Rattle.checks.proofs.slot_rule.Statement.{statement}
-use Rattle.checks.proofs.slot_rule.Tie as tie
+use Rattle.slots.proofs.slot_rule.Statement.{statement}
+use Rattle.slots.proofs.slot_rule.Tie as tie
 
 -- where both values have been read
 abbrev F : tie.After-of-value2 → Field

@@ -10,10 +10,10 @@ use Rattle.rules.specs.Row.{Field}
 use Rattle.rules.specs.Value.{fits}
 use Rattle.rules.specs.Key.{kind, value1}
 use Rattle.rows.specs.Meaning.{fieldOf}
-use Rattle.checks.proofs.Slots.{omitted-fits, first-over, second-fits, first-alone}
+use Rattle.slots.proofs.Slots.{omitted-fits, first-over, second-fits, first-alone}
 use borrow.Author.Needs.{needs}
-use Rattle.checks.proofs.slot_fits.Statement.{statement}
-use Rattle.checks.proofs.slot_fits.Tie as tie
+use Rattle.slots.proofs.slot_fits.Statement.{statement}
+use Rattle.slots.proofs.slot_fits.Tie as tie
 
 -- where the first value has been tested
 abbrev F : tie.After-fits2 → Field

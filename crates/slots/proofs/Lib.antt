@@ -1,0 +1,2 @@
+-- Laws of one slot.
+pub mod Slots

@@ -1,0 +1,1 @@
+-- This crate's contracts cite the rules' definitions alone.
