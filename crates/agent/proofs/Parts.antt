@@ -20,7 +20,7 @@ use Rattle.arbitration.specs.declared.Outcome as arbitration
 use Rattle.arbitration.specs.Meaning.{outcomeOf, leftAs}
 use Rattle.rows.specs.declared.Rows.{Rows}
 use Rattle.rows.specs.Meaning.{rowsOf}
-use Rattle.rows.proofs.Configuration.{rows-allowed-read}
+use Rattle.configuration.proofs.Configuration.{rows-allowed-read}
 use Rattle.frames.specs.declared.Command as frames
 use Rattle.frames.specs.declared.Command.the-variants.{Open, Close, Arbitrate, Configure, Write, Read}
 use Rattle.frames.specs.Meaning.{commandOf, stands, givenBy, given}

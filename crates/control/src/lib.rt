@@ -148,7 +148,7 @@ fn verify_rows(device: u64, streams: Streams, head: Head, t: usize, rows: &[u8])
     if reason != 0 {
         return reason;
     }
-    if rows::allowed(rows, t) {
+    if configuration::allowed(rows, t) {
         return 0;
     }
     14

@@ -1,6 +1,5 @@
 -- Laws of configuration rows.
 pub mod Bytes
-pub mod Configuration
-pub mod Counted
 pub mod Records
-pub mod OneRow
+pub mod Counted
+pub mod Reading

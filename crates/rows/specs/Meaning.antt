@@ -1,10 +1,10 @@
 -- What the values of this crate mean in the rules' terms. Assumes nothing.
 use mathlib.Core.Bool.{Bool, _&&_}
 use mathlib.Core.List.{List, [], _∷_, map}
-use Prim.Native.Nat.{ℕ, _+_, _*_}
+use Prim.Native.Nat.{ℕ, _+_}
 use lib.Dec.{leb, eqb}
-use lib.ListN.{take, drop, getD}
-use Rattle.rules.specs.Bytes.{if_then_else_, between, every, distinct, parts, allZero}
+use lib.ListN.{take, getD}
+use Rattle.rules.specs.Bytes.{if_then_else_, every, parts}
 use Rattle.rules.specs.Row as rules
 use Rattle.rows.specs.declared.Field.{Field}
 use Rattle.rows.specs.declared.Action.{Action}
@@ -49,43 +49,3 @@ countsFit b =
 -- rows of 53 bytes as they are read; where a count does not fit, which 14 does not allow, none is
 unfoldable pub rowsIn : List (List ℕ) → List rules.Row
 rowsIn rows = if every countsFit rows then map rules.rowOf rows else []
-
--- ---- the parts of 14 that single functions decide, on the bytes of a row
-
--- its fields
-unfoldable pub fieldsPass : List ℕ → Bool
-fieldsPass b =
-    between 1 4 (rules.fieldCount b)
-    && every rules.fieldAllowed (map rules.fieldOf (parts (rules.fieldCount b) 2 (rules.fieldBytes b)))
-    && allZero (drop (2 * rules.fieldCount b) (rules.fieldBytes b))
-
--- one action
-unfoldable pub actionPasses : List ℕ → Bool
-actionPasses a = rules.actionAllowed (rules.actionOf a) && rules.unusedWidths a
-
--- the ids of its first n actions
-unfoldable pub actionIds : ℕ → List ℕ → List ℕ
-actionIds n b = map (λ (a : List ℕ). rules.actionOf a .id) (parts n 9 (rules.actionBytes b))
-
--- its actions
-unfoldable pub actionsPass : List ℕ → Bool
-actionsPass b =
-    between 1 4 (rules.actionCount b)
-    && every actionPasses (parts (rules.actionCount b) 9 (rules.actionBytes b))
-    && distinct (actionIds (rules.actionCount b) b)
-    && allZero (drop (9 * rules.actionCount b) (rules.actionBytes b))
-
--- ---- and on the bytes of all rows
-
--- their table ids
-unfoldable pub tableIds : List (List ℕ) → List ℕ
-tableIds rows = map (λ (b : List ℕ). rules.rowOf b .table) rows
-
--- each row by itself, and no table id repeated
-unfoldable pub rowsPass : List (List ℕ) → Bool
-rowsPass rows =
-    every (λ (b : List ℕ). rules.rowAllowed (rules.rowOf b) && rules.unusedZero b) rows && distinct (tableIds rows)
-
--- their sizes
-unfoldable pub tableSizes : List (List ℕ) → List ℕ
-tableSizes rows = map (λ (b : List ℕ). rules.rowOf b .size) rows

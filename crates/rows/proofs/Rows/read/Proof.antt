@@ -7,7 +7,7 @@ use borrow.Author.Needs.{needs}
 use borrow.Author.Tests.{not-true, not-false}
 use Rattle.rules.specs.Bytes.{part}
 use Rattle.rows.specs.Meaning.{rowsOf, countsFit}
-use Rattle.rows.proofs.Configuration.{none-read, Taken, taken-next, taken-all}
+use Rattle.rows.proofs.Reading.{none-read, Taken, taken-next, taken-all}
 use Rattle.rows.proofs.Rows.read.Statement.{statement}
 use Rattle.rows.proofs.Rows.read.Tie as tie
 

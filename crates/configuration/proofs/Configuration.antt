@@ -6,21 +6,21 @@ use mathlib.Core.Path.{_≡_, refl, sym, ap, _∙_}
 use mathlib.Core.Bool.{Bool, true, false, _&&_, and-assoc, and-comm}
 use mathlib.Core.List.{List, [], _∷_, map, map-map}
 use lib.Dec.{eqb, leb, ltb, lit≤}
-use lib.ListN.{length, take, drop, getD, set, length-map}
-use lib.Seq.{getD-drop, getD-set-same, getD-set-other}
-use borrow.Author.Count.{below-more}
+use lib.ListN.{length, drop, length-map}
+use lib.Seq.{getD-drop}
 use borrow.Author.Tests.{ltb-true, ltb-false, eqb-true}
-use Rattle.rules.specs.Bytes.{if_then_else_, between, every, sum, distinct, byte, part, parts, int, number, allZero}
+use Rattle.rules.specs.Bytes.{between, every, sum, distinct, byte, part, parts, int, number, allZero}
 use Rattle.rules.specs.Row as rules
-use Rattle.rules.proofs.Tests.{and-true, both-true, clash}
+use Rattle.rules.proofs.Tests.{and-true, both-true}
 use Rattle.rules.proofs.Formed.{parts-count}
 use Rattle.rules.proofs.Lists.{every-map, part-part, byte-part}
 use Rattle.rows.specs.declared.Row.{Row}
-use Rattle.rows.specs.Meaning.{rowOf, rowsIn, countsFit, tableIds, rowsPass, tableSizes}
-use Rattle.rows.proofs.Bytes.{int-first, read-all, every-part, every-parts, column-next, column-none, passOnce}
-use Rattle.rows.proofs.Counted.{blank}
-use Rattle.rows.proofs.OneRow.{every-both}
+use Rattle.rows.specs.Meaning.{rowOf, rowsIn, countsFit}
+use Rattle.configuration.specs.Passing.{tableIds, rowsPass, tableSizes}
+use Rattle.rows.proofs.Bytes.{int-first, every-part, every-parts, column-next, column-none, passOnce}
+use Rattle.configuration.proofs.OneRow.{every-both}
 use Rattle.rows.proofs.Records.{fewParameters}
+use Rattle.rows.proofs.Reading.{fit-read}
 
 -- ---- tests of all elements of a list
 
@@ -178,11 +178,7 @@ module _ (t i : ℕ) (b : List ℕ) where
   unfolding tableSizes
   sizes-none h = column-none sizeOf t 53 i b h
 
--- ---- reading them one by one
-
-fit-read : (rows : List (List ℕ)) → every countsFit rows ≡ true → rowsIn rows ≡ map rules.rowOf rows
-unfolding rowsIn
-fit-read rows e = rw e
+-- ---- reading them
 
 -- allowed rows are all read
 pub rows-allowed-read : (rows : List (List ℕ)) → rules.configurationAllowed rows ≡ true → rowsIn rows ≡ map rules.rowOf rows
@@ -191,30 +187,3 @@ rows-allowed-read rows e =
     let pass = and-true (rowsPass rows) (leb (sum (tableSizes rows)) 256) (sym (configuration-asked rows) ∙ e) .0 in
     let own = and-true (every alone rows) (distinct (tableIds rows)) pass .0 in
     fit-read rows (every-weaker alone countsFit counts-fit rows own)
-
--- one whose counts do not fit is enough to read none
-pub none-read : (n i : ℕ) (b : List ℕ) → i < n → countsFit (part (53 * i) 53 b) ≡ false → rowsIn (parts n 53 b) ≡ []
-unfolding rowsIn
-none-read n i b h f = go (every countsFit (parts n 53 b)) refl
-  where
-    go : (v : Bool) → every countsFit (parts n 53 b) ≡ v → (if v then map rules.rowOf (parts n 53 b) else []) ≡ []
-    go true e = clash (every-part countsFit 53 n i b e h) f
-    go false e = refl
-
--- the counts of row k fit, and it is read
-abbrev pub Taken : List ℕ → List Row → ℕ → Type 0
-Taken b rows k = (countsFit (part (53 * k) 53 b) ≡ true) × (rowOf (getD rows k blank) ≡ rules.rowOf (part (53 * k) 53 b))
-
-pub taken-next : (b : List ℕ) (rows : List Row) (i : ℕ) (r : Row) → i < length rows → ((k : ℕ) → k < i → Taken b rows k)
-    → countsFit (part (53 * i) 53 b) ≡ true → (countsFit (part (53 * i) 53 b) ≡ true → rowOf r ≡ rules.rowOf (part (53 * i) 53 b))
-    → (k : ℕ) → k < i + 1 → Taken b (set rows i r) k
-taken-next b rows i r h all a e =
-    below-more (Taken b (set rows i r)) i
-    (λ k l. (all k l .0, ap rowOf (getD-set-other rows i k r blank (omega arith)) ∙ all k l .1))
-    (a, ap rowOf (getD-set-same rows i r blank h) ∙ e a)
-
-pub taken-all : (b : List ℕ) (rows : List Row) (n : ℕ) → n ≤ length rows → ((k : ℕ) → k < n → Taken b rows k)
-    → map rowOf (take n rows) ≡ rowsIn (parts n 53 b)
-taken-all b rows n h all =
-    read-all rowOf rules.rowOf blank 53 n rows b h (λ i l. all i l .1)
-    ∙ sym (fit-read (parts n 53 b) (every-parts countsFit 53 n b (λ i l. all i l .0)))

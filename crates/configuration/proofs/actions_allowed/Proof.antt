@@ -6,10 +6,10 @@ use mathlib.Core.List.{List}
 use lib.ListN.{getD}
 use borrow.Author.Needs.{needs}
 use borrow.Author.Tests.{not-true, not-false}
-use Rattle.rows.specs.Meaning.{actionPasses, actionsPass}
-use Rattle.rows.proofs.OneRow.{part-lent, count-none, count-over, count-fits, actions-refused, actions-asked, actionsLeft, action-refused, action-repeated, action-passed, actions-passed}
-use Rattle.rows.proofs.actions_allowed.Statement.{statement}
-use Rattle.rows.proofs.actions_allowed.Tie as tie
+use Rattle.configuration.specs.Passing.{actionPasses, actionsPass}
+use Rattle.configuration.proofs.OneRow.{part-lent, count-none, count-over, count-fits, actions-refused, actions-asked, actionsLeft, action-refused, action-repeated, action-passed, actions-passed}
+use Rattle.configuration.proofs.actions_allowed.Statement.{statement}
+use Rattle.configuration.proofs.actions_allowed.Tie as tie
 
 abbrev Inv-loop : tie.InvT-loop
 Inv-loop b n i₀ i = (i ≤ n) × (actionsPass b ≡ actionsLeft n b i)

@@ -7,10 +7,10 @@ use lib.ListN.{drop}
 use borrow.Author.Needs.{needs}
 use borrow.Author.Tests.{eq-eqb, ne-eqb}
 use Rattle.rules.specs.Bytes.{some-of, parts, int}
-use Rattle.rows.specs.Meaning.{tableIds}
-use Rattle.rows.proofs.Configuration.{tables-next, tables-none}
-use Rattle.rows.proofs.table_repeated.Statement.{statement}
-use Rattle.rows.proofs.table_repeated.Tie as tie
+use Rattle.configuration.specs.Passing.{tableIds}
+use Rattle.configuration.proofs.Configuration.{tables-next, tables-none}
+use Rattle.configuration.proofs.table_repeated.Statement.{statement}
+use Rattle.configuration.proofs.table_repeated.Tie as tie
 
 abbrev Inv-loop : tie.InvT-loop
 Inv-loop b table from t j₀ j =

@@ -6,12 +6,12 @@ use lib.ListN.{length-take, length-drop}
 use borrow.Author.Needs.{needs}
 use borrow.Author.Tests.{not-true, not-false}
 use Rattle.rules.specs.Bytes.{part, parts}
-use Rattle.rows.specs.Meaning.{tableIds, rowsPass}
+use Rattle.configuration.specs.Passing.{tableIds, rowsPass}
 use Rattle.rows.proofs.Bytes.{passOnce, once-refused, once-repeated, once-passed, once-ended}
-use Rattle.rows.proofs.OneRow.{part-lent}
-use Rattle.rows.proofs.Configuration.{alone, tableOf, rows-asked, table-at}
-use Rattle.rows.proofs.each_allowed.Statement.{statement}
-use Rattle.rows.proofs.each_allowed.Tie as tie
+use Rattle.configuration.proofs.OneRow.{part-lent}
+use Rattle.configuration.proofs.Configuration.{alone, tableOf, rows-asked, table-at}
+use Rattle.configuration.proofs.each_allowed.Statement.{statement}
+use Rattle.configuration.proofs.each_allowed.Tie as tie
 
 abbrev Inv-loop : tie.InvT-loop
 Inv-loop b t i₀ i = (i ≤ t) × (rowsPass (parts t 53 b) ≡ passOnce alone tableOf t 53 b i)

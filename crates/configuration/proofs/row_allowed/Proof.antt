@@ -6,10 +6,10 @@ use mathlib.Core.List.{List}
 use lib.ListN.{getD}
 use borrow.Author.Tests.{not-true, not-false, eq-eqb, ne-eqb, le-leb, lt-leb}
 use Rattle.rules.specs.Bytes.{int}
-use Rattle.rows.proofs.OneRow.{row-asked}
+use Rattle.configuration.proofs.OneRow.{row-asked}
 use borrow.Author.Needs.{needs}
-use Rattle.rows.proofs.row_allowed.Statement.{statement}
-use Rattle.rows.proofs.row_allowed.Tie as tie
+use Rattle.configuration.proofs.row_allowed.Statement.{statement}
+use Rattle.configuration.proofs.row_allowed.Tie as tie
 
 shared-slice-read-if1 : tie.Need-shared-slice-read-if1
 shared-slice-read-if1 c = search needs

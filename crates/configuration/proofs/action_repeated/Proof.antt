@@ -7,10 +7,10 @@ use lib.ListN.{drop}
 use borrow.Author.Needs.{needs}
 use borrow.Author.Tests.{eq-eqb, ne-eqb}
 use Rattle.rules.specs.Bytes.{some-of, int}
-use Rattle.rows.specs.Meaning.{actionIds}
-use Rattle.rows.proofs.OneRow.{ids-next, ids-none}
-use Rattle.rows.proofs.action_repeated.Statement.{statement}
-use Rattle.rows.proofs.action_repeated.Tie as tie
+use Rattle.configuration.specs.Passing.{actionIds}
+use Rattle.configuration.proofs.OneRow.{ids-next, ids-none}
+use Rattle.configuration.proofs.action_repeated.Statement.{statement}
+use Rattle.configuration.proofs.action_repeated.Tie as tie
 
 abbrev Inv-loop : tie.InvT-loop
 Inv-loop b id from n j₀ j = some-of (eqb id) (drop from (actionIds n b)) ≡ some-of (eqb id) (drop j (actionIds n b))

@@ -6,10 +6,10 @@ use mathlib.Core.List.{List}
 use lib.ListN.{getD}
 use borrow.Author.Needs.{needs}
 use borrow.Author.Tests.{not-true, not-false, eq-eqb, ne-eqb, le-leb, lt-leb}
-use Rattle.rows.specs.Meaning.{actionPasses}
-use Rattle.rows.proofs.OneRow.{left-refused, left-passed, left-none, widthPasses, width-at, widthsLeft, action-asked}
-use Rattle.rows.proofs.action_allowed.Statement.{statement}
-use Rattle.rows.proofs.action_allowed.Tie as tie
+use Rattle.configuration.specs.Passing.{actionPasses}
+use Rattle.configuration.proofs.OneRow.{left-refused, left-passed, left-none, widthPasses, width-at, widthsLeft, action-asked}
+use Rattle.configuration.proofs.action_allowed.Statement.{statement}
+use Rattle.configuration.proofs.action_allowed.Tie as tie
 
 abbrev Inv-loop : tie.InvT-loop
 Inv-loop a n i₀ i = (i ≤ n) × (actionPasses a ≡ widthsLeft n a i)

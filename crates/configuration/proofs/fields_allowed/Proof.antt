@@ -7,10 +7,10 @@ use lib.ListN.{getD}
 use borrow.Author.Needs.{needs}
 use borrow.Author.Tests.{not-true, not-false}
 use Rattle.rules.specs.Row as rules
-use Rattle.rows.specs.Meaning.{fieldsPass}
-use Rattle.rows.proofs.OneRow.{left-refused, left-passed, left-none, count-none, count-over, count-fits, fieldPasses, fieldsLeft, fields-refused, fields-asked}
-use Rattle.rows.proofs.fields_allowed.Statement.{statement}
-use Rattle.rows.proofs.fields_allowed.Tie as tie
+use Rattle.configuration.specs.Passing.{fieldsPass}
+use Rattle.configuration.proofs.OneRow.{left-refused, left-passed, left-none, count-none, count-over, count-fits, fieldPasses, fieldsLeft, fields-refused, fields-asked}
+use Rattle.configuration.proofs.fields_allowed.Statement.{statement}
+use Rattle.configuration.proofs.fields_allowed.Tie as tie
 
 abbrev Inv-loop : tie.InvT-loop
 Inv-loop b n i₀ i = (i ≤ n) × (fieldsPass b ≡ fieldsLeft n b i)

@@ -3,10 +3,10 @@ use mathlib.Core.Path.{_≡_, sym, _∙_}
 use mathlib.Core.Bool.{true, false}
 use borrow.Author.Needs.{needs}
 use Rattle.rules.specs.Bytes.{parts}
-use Rattle.rows.specs.Meaning.{rowsPass}
-use Rattle.rows.proofs.Configuration.{configuration-asked}
-use Rattle.rows.proofs.allowed.Statement.{statement}
-use Rattle.rows.proofs.allowed.Tie as tie
+use Rattle.configuration.specs.Passing.{rowsPass}
+use Rattle.configuration.proofs.Configuration.{configuration-asked}
+use Rattle.configuration.proofs.allowed.Statement.{statement}
+use Rattle.configuration.proofs.allowed.Tie as tie
 
 each-allowed-requires : tie.Need-each-allowed-requires
 each-allowed-requires c κs = search needs

@@ -7,11 +7,11 @@ use mathlib.Core.List.{List}
 use lib.ListN.{drop}
 use borrow.Author.Needs.{needs}
 use Rattle.rules.specs.Bytes.{sum, parts}
-use Rattle.rows.specs.Meaning.{tableSizes}
+use Rattle.configuration.specs.Passing.{tableSizes}
 use Rattle.rows.proofs.Bytes.{int-below}
-use Rattle.rows.proofs.Configuration.{sizes-next, sizes-none}
-use Rattle.rows.proofs.sizes.Statement.{statement}
-use Rattle.rows.proofs.sizes.Tie as tie
+use Rattle.configuration.proofs.Configuration.{sizes-next, sizes-none}
+use Rattle.configuration.proofs.sizes.Statement.{statement}
+use Rattle.configuration.proofs.sizes.Tie as tie
 
 abbrev Inv-loop : tie.InvT-loop
 Inv-loop b t total₀ i₀ total i =

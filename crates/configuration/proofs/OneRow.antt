@@ -15,8 +15,8 @@ use Rattle.rules.proofs.Formed.{parts-count}
 use Rattle.rules.proofs.Lists.{every-map, parts-from, part-part, byte-part, drop-take}
 use Rattle.buffers.proofs.Words.{Bytes}
 use Rattle.numbers.proofs.Bytes.{int-none, int-next}
-use Rattle.rows.specs.Meaning.{fieldsPass, actionPasses, actionIds, actionsPass}
+use Rattle.configuration.specs.Passing.{fieldsPass, actionPasses, actionIds, actionsPass}
 use Rattle.rows.proofs.Bytes.{int-first, column-next, column-none, passOnce, once-refused, once-repeated, once-passed, once-ended}
 
 -- ---- parts of parts
 

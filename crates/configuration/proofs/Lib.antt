@@ -1,0 +1,3 @@
+-- What is proved of the tests of a configuration.
+pub mod OneRow
+pub mod Configuration

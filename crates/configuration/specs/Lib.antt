@@ -1,0 +1,2 @@
+-- What is tested of a configuration.
+pub mod Passing
