@@ -1,16 +1,9 @@
--- A record of notification is of 20 bytes, and is the rules' where its primary and mark are. Assumes nothing.
+-- A record of notification is the rules' where its primary and mark are. Assumes nothing.
 use Prim.Native.Nat.{ℕ}
-use native.Mathlib.Omega.{arith}
 use mathlib.Core.Path.{_≡_}
 use mathlib.Core.List.{List, map}
 use mathlib.Core.Option.{Option}
-use lib.ListN.{length}
 use Rattle.rules.specs.Streams.{Streams, members, markOf, primary, noticeOf, notification, notifyAll}
-use Rattle.rules.proofs.Sizes.{bytes-length}
-
-pub notice-length : (p : Option ℕ) (m r s : ℕ) → length (noticeOf p m r s) ≡ 20
-unfolding noticeOf
-notice-length p m r s = omega (arith, bytes-length 16 m)
 
 module _ (e : Streams) (r : ℕ) {p : Option ℕ} {m : ℕ} (f : p ≡ primary e r) (g : m ≡ markOf e r) where
   pub notice-is : (s : ℕ) → noticeOf p m r s ≡ notification e r s

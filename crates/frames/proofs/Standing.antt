@@ -2,11 +2,9 @@
 use mathlib.Core.Path.{_≡_, refl, sym, _∙_}
 use mathlib.Core.Bool.{Bool, true, false, _&&_, not}
 use mathlib.Core.List.{List}
-use Prim.Native.Nat.{ℕ, _≤_, _+_, _*_, _-_}
-use native.Mathlib.Omega.{arith}
+use Prim.Native.Nat.{ℕ, _≤_, _+_, _*_}
 use lib.Dec.{eqb, leb}
-use lib.ListN.{length, take, drop, length-drop}
-use lib.Seq.{take-all}
+use lib.ListN.{length}
 use borrow.Author.Tests.{eqb-true, leb-true, eq-eqb, ne-eqb, not-true}
 use Rattle.rules.specs.Bytes.{byte, int}
 use Rattle.rules.proofs.Tests.{clash, and-true, both-true}
@@ -18,10 +16,6 @@ use Rattle.frames.specs.Meaning.{commandOf, stands, givenBy}
 use Rattle.frames.proofs.Readings.{keyFits, key-only}
 
 -- ---- what a frame has, beside which a command stands
-
--- all of a frame from a place on
-pub from : (f : List ℕ) (n : ℕ) → take (length f - n) (drop n f) ≡ drop n f
-from f n = take-all (length f - n) (drop n f) (omega (arith, length-drop n f))
 
 pub given-there : (c : Command) (f : List ℕ) → stands c f ≡ true → givenBy c f ≡ commandOf c f
 given-there c f e = rw e

@@ -4,13 +4,14 @@ use Prim.Native.Nat.{ℕ, zero, suc, _+_, _*_, _/_, _%_, _≤_}
 use mathlib.Core.Path.{_≡_, refl, _∙_}
 use mathlib.Core.Bool.{Bool, true, false}
 use mathlib.Core.List.{List, [], _∷_, _++_, map}
+use mathlib.Core.Option.{Option}
 use native.Mathlib.Nat.{le-trans, le-of-eq, mul-le-mul}
 use native.Mathlib.Omega.{arith}
 use lib.Dec.{eqb}
-use lib.ListN.{length, getD, length-append, length-map, length-set}
+use lib.ListN.{length, length-append, length-map, length-set}
 use Rattle.rules.specs.Bytes.{if_then_else_, keep, concat, sum, between, numberFrom, int, bytesOf}
 use Rattle.rules.specs.Frame.{Head, Update, Query, Command, cramped, malformed, OPEN, CLOSE, ARBITRATE, CONFIGURE, WRITE, READ}
-use Rattle.rules.specs.Streams.{Stream, closed, unbound, bound, Streams, numbers, inRole, members, noticeOf, notification, notifyAll, is, primary, become, streamAt, leaving, closeReason, openStream, closeRecords, closeStream, arbitrateReason, binds, samePair, bindRecords, arbitrate}
+use Rattle.rules.specs.Streams.{Stream, closed, unbound, bound, Streams, numbers, inRole, members, markOf, noticeOf, notification, notifyAll, is, primary, become, streamAt, leaving, closeReason, openStream, closeRecords, closeStream, arbitrateReason, binds, samePair, bindRecords, arbitrate}
 use Rattle.rules.specs.Row.{Row}
 use Rattle.rules.specs.Key.{hasKey, shortKey}
 use Rattle.rules.specs.Update.{Tables, inTable, held, judge, apply, batch}
@@ -62,9 +63,12 @@ unfolding bytesOf
 bytes-length zero x = refl
 bytes-length (suc n) x = omega (arith, length-append (bytesOf n (x / 256)) (x % 256 ∷ []), bytes-length n (x / 256))
 
-pub notification-length : (e : Streams) (r s : ℕ) → length (notification e r s) ≡ 20
+pub notice-length : (p : Option ℕ) (m r s : ℕ) → length (noticeOf p m r s) ≡ 20
 unfolding noticeOf
-notification-length e r s = omega (arith, bytes-length 16 (getD (e .marks) r 0))
+notice-length p m r s = omega (arith, bytes-length 16 m)
+
+notification-length : (e : Streams) (r s : ℕ) → length (notification e r s) ≡ 20
+notification-length e r s = notice-length (primary e r) (markOf e r) r s
 
 numbers-few : (p : Stream → Bool) (k : ℕ) (l : List Stream) → length (numbers p k l) ≤ length l
 numbers-few p k [] = omega arith

@@ -15,8 +15,7 @@ use Rattle.rules.specs.Row.{Row, known, rowFor, mayWrite}
 use Rattle.rules.specs.Key.{tableOf, slots, slotFormed, slotFits, slotRule, alongside, alongsideAll, priorityRule, keyFormed, keyFits, keyRules}
 use Rattle.rules.specs.Entry.{actionFormed, actionFits}
 use Rattle.rules.specs.Update.{Tables, judgeBy, judge}
-use Rattle.rules.proofs.Lists.{parts-lent}
-use Rattle.values.proofs.Digits.{rest-all}
+use Rattle.rules.proofs.Lists.{parts-lent, rest-all}
 use Rattle.updates.specs.declared.Verdict.{Verdict}
 use Rattle.updates.specs.Update.{entryReason, placeReason, reasonOf, Meant}
 

@@ -1,12 +1,12 @@
 -- Stripping a part of a value is walking over its leading zeros, up to its last byte. Assumes nothing.
-use Prim.Native.Nat.{ℕ, suc, _-_, _<_, _≤_}
+use Prim.Native.Nat.{ℕ, suc, _<_, _≤_}
 use native.Mathlib.Nat.{add-zero}
 use native.Mathlib.Omega.{arith}
 use mathlib.Core.Path.{_≡_, refl, sym, ap, _∙_}
 use mathlib.Core.Bool.{Bool, true, false}
 use mathlib.Core.List.{List, [], _∷_}
 use lib.Dec.{eqb}
-use lib.ListN.{length, take, drop, length-drop}
+use lib.ListN.{length, drop}
 use lib.Seq.{drop-cons, take-all}
 use borrow.Author.Tests.{eqb-true, eq-eqb, ne-eqb}
 use Rattle.rules.specs.Bytes.{if_then_else_, byte, part}
@@ -33,10 +33,6 @@ one-stays b = go (eqb b 0) refl
 
 pub last-stays : (v : List ℕ) (i : ℕ) → i < length v → stripped (part i 1 v) ≡ part i 1 v
 last-stays v i inside = rw (part-first v i 0 inside) (one-stays (byte i v))
-
--- what is read of l from place a on
-pub rest-all : (a : ℕ) (l : List ℕ) → take (length l - a) (drop a l) ≡ drop a l
-rest-all a l = take-all (length l - a) (drop a l) (simp length-drop (omega arith))
 
 -- a count past the end takes the bytes that are there
 pub part-all : (a m n : ℕ) (l : List ℕ) → length (drop a l) ≤ m → m ≤ n → part a m l ≡ part a n l

@@ -8,10 +8,11 @@ use lib.ListN.{length, take, drop, length-take, length-drop}
 use denote.Ref.{now}
 use Rattle.rules.specs.Bytes.{part, int}
 use Rattle.rules.specs.Frame as rules
+use Rattle.rules.proofs.Lists.{rest-all}
 use Rattle.election.specs.Meaning.{headOf}
 use Rattle.frames.specs.declared.Command.{Command}
 use Rattle.frames.specs.Meaning.{commandOf, stands}
-use Rattle.frames.proofs.Standing.{write-stands, read-stands, from}
+use Rattle.frames.proofs.Standing.{write-stands, read-stands}
 use Rattle.entry_store.specs.Batch.{updatesIn}
 use Rattle.agent.specs.Handlers.{wrote, unchanged, Obeys}
 use Rattle.agent.specs.Parts.{onEntries}
@@ -148,7 +149,7 @@ returns-5 c =
     let out = r .last .1 .1 .1 .1 .1 .1 .0 in
     subst (λ (k : Command). Obeys (a .agent) (onEntries (commandOf k f)) s d (wrote (a .agent) (r .result)) left out) (sym (v .1))
     (subst (λ (l : List ℕ). Obeys (a .agent) (rules.WRITE (headOf (v .0 .0)) (v .0 .1 .0) (updatesIn (v .0 .1 .1 .0) l)) s d (wrote (a .agent) (r .result)) left out)
-    (from f 29) (r .ensures))
+    (rest-all 29 f) (r .ensures))
 
 same-length-7 : tie.Need-same-length-7
 same-length-7 c = search needs

@@ -8,10 +8,11 @@ use lib.ListN.{length, length-take, length-drop}
 use denote.Ref.{now}
 use Rattle.rules.specs.Bytes.{parts}
 use Rattle.rules.specs.Row.{Row}
+use Rattle.rules.proofs.Lists.{rest-all}
 use Rattle.rows.specs.Meaning.{rowsIn}
 use Rattle.frames.specs.declared.Command.{Command}
 use Rattle.frames.specs.Meaning.{commandOf, stands}
-use Rattle.frames.proofs.Standing.{configure-stands, from}
+use Rattle.frames.proofs.Standing.{configure-stands}
 use Rattle.control.specs.Configuring.{rowsAsked}
 use borrow.Author.Needs.{needs}
 use Rattle.control.proofs.rows_in.Statement.{statement}
@@ -87,7 +88,7 @@ returns-4 : tie.Need-returns-4
 returns-4 c =
     let s = c .before .before .before .before .before .before in
     let v = c .before .before .before .command .given in
-    of s (v .1) (c .read .ensures ∙ ap (λ (l : List ℕ). rowsIn (parts (v .0 .1 .0) 53 l)) (from (now (s .args .frame)) 28))
+    of s (v .1) (c .read .ensures ∙ ap (λ (l : List ℕ). rowsIn (parts (v .0 .1 .0) 53 l)) (rest-all 28 (now (s .args .frame))))
 
 returns-5 : tie.Need-returns-5
 returns-5 c = of (c .before .before .before .before) (c .before .enum-told4 .given .1) (c .fresh4 .ensures)

@@ -8,11 +8,12 @@ use lib.ListN.{length, length-take, length-drop}
 use denote.Ref.{now}
 use Rattle.rules.specs.Bytes.{parts}
 use Rattle.rules.specs.Frame.{CONFIGURE}
+use Rattle.rules.proofs.Lists.{rest-all}
 use Rattle.election.specs.Meaning.{headOf}
 use Rattle.arbitration.specs.Meaning.{streamsOf}
 use Rattle.frames.specs.declared.Command.{Command}
 use Rattle.frames.specs.Meaning.{commandOf, stands}
-use Rattle.frames.proofs.Standing.{configure-stands, from}
+use Rattle.frames.proofs.Standing.{configure-stands}
 use Rattle.control.specs.Configuring.{verdict}
 use borrow.Author.Needs.{needs}
 use Rattle.control.proofs.verify_command.Statement.{statement}
@@ -69,7 +70,7 @@ returns-4 c =
     let a = c .before .before .before .before .before .before .args in
     let v = c .before .before .before .command .given in
     c .verify-rows .ensures
-    ∙ ap (λ (l : List ℕ). verdict (a .device) (streamsOf (a .streams)) (CONFIGURE (headOf (v .0 .0)) (parts (v .0 .1 .0) 53 l))) (from (now (a .frame)) 28)
+    ∙ ap (λ (l : List ℕ). verdict (a .device) (streamsOf (a .streams)) (CONFIGURE (headOf (v .0 .0)) (parts (v .0 .1 .0) 53 l))) (rest-all 28 (now (a .frame)))
     ∙ ap (λ (k : Command). verdict (a .device) (streamsOf (a .streams)) (commandOf k (now (a .frame)))) (sym (v .1))
 
 returns-5 : tie.Need-returns-5

@@ -8,10 +8,10 @@ use lib.ListN.{length, getD, take, drop, length-take, length-drop, drop-of-lengt
 use lib.Seq.{drop-cons, getD-take, length-take-le}
 use borrow.Author.Needs.{needs}
 use Rattle.rules.specs.Streams.{noticeOf}
+use Rattle.rules.proofs.Sizes.{notice-length}
 use Rattle.buffers.proofs.Splice.{part-copied}
 use Rattle.buffers.proofs.Written.{Written, written-none, written-next, written-length, written-all}
 use Rattle.election.specs.Meaning.{idOf, primaryOf}
-use Rattle.election.proofs.Notices.{notice-length}
 use Rattle.election.proofs.write_members.Statement.{statement}
 use Rattle.election.proofs.write_members.Tie as tie
 

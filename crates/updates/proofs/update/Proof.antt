@@ -1,11 +1,11 @@
 -- Right because what was judged and done is what the rules leave of a tidy store. Assumes nothing.
 use native.Mathlib.Omega.{arith}
-use Prim.Native.Nat.{ℕ, _-_}
+use Prim.Native.Nat.{ℕ}
 use mathlib.Core.Path.{_≡_}
 use mathlib.Core.List.{List}
-use lib.ListN.{length, take, drop, length-drop}
-use lib.Seq.{take-all}
+use lib.ListN.{length}
 use denote.Ref.{now}
+use Rattle.updates.proofs.Judging.{entry-lent}
 use Rattle.updates.proofs.Updates.{applied}
 use borrow.Author.Needs.{needs}
 use Rattle.updates.proofs.update.Statement.{statement}
@@ -43,10 +43,8 @@ returns-2 c = λ t.
     let p = c .before .before .perform in
     let u : List ℕ = now (a .update) in
     let long : length u ≡ 221 = search needs in
-    let whole : take (length u - 1) (drop 1 u) ≡ drop 1 u =
-    take-all (length u - 1) (drop 1 u) (omega (arith, length-drop 1 u)) in
     applied (a .count) (now (a .store)) (p .last .1 .0) u long (t .distinct) _ _ _ (j .result) (r .ensures) (j .ensures .0)
-    (j .ensures .1) (rw whole at (p .ensures .1))
+    (j .ensures .1) (rw (entry-lent u) at (p .ensures .1))
 
 pub update-spec : {M : Type 1} → statement M
 update-spec =

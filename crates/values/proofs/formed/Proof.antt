@@ -9,7 +9,7 @@ use denote.Ref.{now}
 use borrow.Author.Tests.{le-leb, lt-leb}
 use Rattle.rules.specs.Bytes.{byte, allZero}
 use Rattle.rules.specs.Value.{isValue}
-use Rattle.values.proofs.Digits.{rest-all}
+use Rattle.rules.proofs.Lists.{rest-all}
 use borrow.Author.Needs.{needs}
 use Rattle.values.proofs.formed.Statement.{statement}
 use Rattle.values.proofs.formed.Tie as tie
