@@ -1,6 +1,6 @@
 -- From what a command leaves to what a call leaves: a call whose buffers are long enough is the command that its frame reads as.
 -- Assumes nothing.
-use Prim.Native.Nat.{ℕ, _+_, _-_, _<_, _≤_}
+use Prim.Native.Nat.{ℕ, _<_, _≤_}
 use native.Mathlib.Omega.{arith}
 use mathlib.Core.Path.{_≡_, refl, sym, ap, ap₂, _∙_, subst}
 use mathlib.Core.Bool.{true, false}
@@ -11,22 +11,23 @@ use lib.Seq.{take-at}
 use borrow.Author.Tests.{leb-true}
 use Rattle.rules.specs.Bytes.{number, part, int}
 use Rattle.rules.specs.Frame as rules
-use Rattle.rules.specs.Frame.{cramped, readFrame}
+use Rattle.rules.specs.Frame.{Command, cramped, readFrame}
 use Rattle.rules.specs.Key.{tableOf}
+use Rattle.rules.specs.Update.{Tables}
 use Rattle.rules.specs.Answer.{replyOf}
-use Rattle.rules.specs.Call.{roomy, commandOf, nextControl, nextTables, next, answer, reply}
+use Rattle.rules.specs.Call.{Control, State, roomy, commandOf, nextControl, nextTables, next, answer, reply}
 use Rattle.rules.specs.Sound.{Sound}
-use Rattle.rules.proofs.Formed.{parts-count, call-formed}
+use Rattle.rules.proofs.Formed.{parts-count}
 use Rattle.rules.proofs.Lists.{part-part}
 use Rattle.rules.proofs.Tests.{and-true}
-use Rattle.rules.proofs.Sound.{next-sound}
 use Rattle.frames.specs.declared.Query.{Query}
 use Rattle.frames.specs.Meaning.{queryOf}
 use Rattle.agent.specs.declared.Agent.{Agent}
 use Rattle.agent.specs.declared.Called.{Called}
-use Rattle.agent.specs.Meaning.{stateOf}
-use Rattle.agent.specs.Contract.{Kept, asked, Obeyed}
-use Rattle.agent.specs.Handlers.{queryIn, Named}
+use Rattle.agent.specs.Meaning.{Flat, memory, input, result}
+use Rattle.calls.specs.Contract as contract
+use Rattle.calls.specs.Contract.{Contract}
+use Rattle.agent.specs.Handlers.{atTables, Invariant, Correct, queryIn, Named}
 
 -- ---- 2 is tested first
 
@@ -37,30 +38,36 @@ long-enough room space e =
     (leb-true 57_344 space (s .0), leb-true 56_320 room (s .1))
 
 -- no list of calls leaves a count over 256
-pub no-stray : (a : Agent) (store : List ℕ) → Kept a store → 256 < a .count → ⊥
-unfolding stateOf
-no-stray a store k h = omega (arith, k .tables .few, parts-count (a .count) 220 store)
+pub no-stray : (a : Agent) (store : List ℕ) (t : Tables) → Invariant a store t → 256 < a .count → ⊥
+no-stray a store t k h =
+    omega (arith, k .sound .tables .few, parts-count (a .count) 220 store, ap (λ (x : Tables). length (x .entries)) (k .holds))
+
+-- the command of a call
+abbrev pub requested : List ℕ → List ℕ → List ℕ → Command
+requested frame store d = commandOf (length store) (record { frame = frame; buffer = length d })
 
 module _ (a : Agent) (frame store d : List ℕ) where
-  -- what the agent is left as is kept, since it is the rules' next state
-  pub kept-on : (r : Called) (store′ out : List ℕ) → Kept a store → Obeyed a (asked frame store d) store d r store′ out → Kept (r .agent) store′
-  kept-on r store′ out k o =
-      subst Sound (sym (o .state))
-      (next-sound (stateOf a store) (asked frame store d) (call-formed (length store) (record { frame = frame; buffer = length d })) k)
+  -- the contract asks for the rules in every state that the memory represents: its control is the record's
+  pub all-met : (r : Called) (store′ out : List ℕ) → ((t : Tables) → Invariant a store t → Correct a t (requested frame store d) store d r store′ out)
+      → Contract Flat (memory a store) (input frame d) (result r store′ out)
+  all-met r store′ out h s k rep =
+      let e : atTables a (s .tables) ≡ s = ap (λ (c : Control). record { control = c; tables = s .tables }) (rep .control) in
+      subst (λ (x : State). contract.Correct Flat x (requested frame store d) (memory a store) d (result r store′ out)) e
+      (h (s .tables) (record { holds = rep .tables; sound = subst Sound (sym e) k }))
 
   -- ---- 2
 
-  pub is-cramped : roomy (length store) (length d) ≡ false → asked frame store d ≡ cramped
+  pub is-cramped : roomy (length store) (length d) ≡ false → requested frame store d ≡ cramped
   unfolding commandOf
   is-cramped e = rw e
 
-  pub nothing-done : Obeyed a cramped store d (record { agent = a; reason = 2 }) store d
+  pub nothing-done : (t : Tables) → Flat .holds (memory a store) t → Correct a t cramped store d (record { agent = a; reason = 2 }) store d
   unfolding next nextControl nextTables reply replyOf answer
-  nothing-done = record { state = refl; returned = refl; filled = refl; room = refl; beyond = refl; untouched = λ h. refl }
+  nothing-done t h = record { state = record { control = refl; tables = h }; returned = refl; filled = refl; room = refl; beyond = refl; untouched = λ z. refl }
 
   -- ---- every other call
 
-  pub is-read : roomy (length store) (length d) ≡ true → asked frame store d ≡ readFrame frame
+  pub is-read : roomy (length store) (length d) ≡ true → requested frame store d ≡ readFrame frame
   unfolding commandOf
   is-read e = rw e
 

@@ -12,6 +12,7 @@ use Rattle.rules.specs.Bytes.{if_then_else_}
 use Rattle.rules.specs.Frame.{Command, cramped, malformed, OPEN, CLOSE, ARBITRATE, CONFIGURE, WRITE, READ, readFrame}
 use Rattle.rules.specs.Streams as streams
 use Rattle.rules.specs.Answer.{Answer, answerBytes, replyOf}
+use Rattle.rules.specs.Update.{Tables}
 use Rattle.rules.specs.Call as rules
 use Rattle.rules.specs.Call.{State, configureReason, refusal, roomy, withStreams, nextControl, nextTables, next, heard, plain, answer, reply}
 use Rattle.rules.proofs.Replies.{written-whole}
@@ -25,20 +26,19 @@ use Rattle.frames.specs.declared.Command as frames
 use Rattle.frames.specs.declared.Command.the-variants.{Open, Close, Arbitrate, Configure, Write, Read}
 use Rattle.frames.specs.Meaning.{commandOf, stands, givenBy, given}
 use Rattle.frames.proofs.Standing.{given-there}
-use Rattle.entries.specs.Store.{tablesIn}
 use Rattle.agent.specs.declared.Agent.{Agent}
 use Rattle.agent.specs.declared.Called.{Called}
 use Rattle.agent.specs.declared.Wrote.{Wrote}
-use Rattle.agent.specs.Meaning.{controlOf, stateOf}
-use Rattle.agent.specs.Contract.{Kept, asked, Obeyed, Outcome, Meets}
-use Rattle.agent.specs.Handlers.{elected, configured, wrote, unchanged}
+use Rattle.agent.specs.Meaning.{controlOf, Flat, memory, input, result}
+use Rattle.calls.specs.Contract.{Contract}
+use Rattle.agent.specs.Handlers.{atTables, Invariant, Correct, elected, configured, wrote, unchanged}
 use Rattle.answers.specs.Answered.{answered, unread}
 use Rattle.control.specs.Events.{isEvent, turn, Elects}
 use Rattle.control.specs.Configuring.{isConfigure, verdict, rowsAsked}
 use Rattle.agent.specs.Parts.{onEntries, Serves}
 use Rattle.control.proofs.Configuring.{rows-allowed}
-use Rattle.agent.proofs.Obeying.{OnStreams, turn-obeyed, turn-answered, malformed-obeyed, configure-refused, was-configured}
-use Rattle.agent.proofs.Calls.{long-enough, kept-on, is-cramped, nothing-done, is-read}
+use Rattle.agent.proofs.Commands.{OnStreams, turn-correct, turn-answered, malformed-correct, configure-refused, was-configured}
+use Rattle.agent.proofs.Calls.{long-enough, requested, all-met, is-cramped, nothing-done, is-read}
 
 -- ---- what each part's commands are
 
@@ -123,23 +123,20 @@ unwritten n x d e o = o ∙ (rw e (either (ltb (length d) n)))
 -- ---- a malformed frame
 
 pub refuse-met : (a : Agent) (frame store d : List ℕ) (reason : ℕ) (out : List ℕ) → malformed ≡ readFrame frame
-    → reason ≡ unread (length store) (length d) → out ≡ answered 4 (plain reason) d → Meets a frame store d (unchanged a reason) store out
-refuse-met a frame store d reason out means v o k = left (by-room (length store) (length d) short long)
+    → reason ≡ unread (length store) (length d) → out ≡ answered 4 (plain reason) d → Contract Flat (memory a store) (input frame d) (result (unchanged a reason) store out)
+refuse-met a frame store d reason out means v o = all-met a frame store d (unchanged a reason) store out (λ t k. by-room (length store) (length d) (short t k) (long t k))
   where
-    left : Obeyed a (asked frame store d) store d (unchanged a reason) store out → Outcome a frame store d (unchanged a reason) store out
-    left y = record { kept = kept-on a frame store d (unchanged a reason) store out k y; obeyed = y }
-
-    short : roomy (length store) (length d) ≡ false → Obeyed a (asked frame store d) store d (unchanged a reason) store out
-    short z =
+    short : (t : Tables) → Invariant a store t → roomy (length store) (length d) ≡ false → Correct a t (requested frame store d) store d (unchanged a reason) store out
+    short t k z =
         let e : reason ≡ 2 = v ∙ (rw z) in
-        rw (is-cramped a frame store d z, e, unwritten 4 (plain reason) d e o) (nothing-done a frame store d)
+        rw (is-cramped a frame store d z, e, unwritten 4 (plain reason) d e o) (nothing-done a frame store d t (k .holds))
 
-    long : roomy (length store) (length d) ≡ true → Obeyed a (asked frame store d) store d (unchanged a reason) store out
-    long z =
+    long : (t : Tables) → Invariant a store t → roomy (length store) (length d) ≡ true → Correct a t (requested frame store d) store d (unchanged a reason) store out
+    long t k z =
         let e : reason ≡ 1 = v ∙ (rw z) in
         let p = long-enough (length store) (length d) z in
         let w : out ≡ splice d 0 (answerBytes (plain reason)) = written 4 (plain reason) d (omega (arith, p .0)) (ap (λ (m : ℕ). eqb m 2) e) o in
-        rw (is-read a frame store d z, ← means, e) (malformed-obeyed a store d out (rw e at w))
+        rw (is-read a frame store d z, ← means, e) (malformed-correct a t store d out (k .holds) (rw e at w))
 
 -- ---- a command c that the frame was read as, and that is handed on beside it
 
@@ -148,33 +145,33 @@ module _ (a : Agent) (c : frames.Command) (frame store d : List ℕ) where
   asks = given c frame (length store) (length d)
 
   -- a WRITE or a READ is tested for 2 first
-  pub serve-short : roomy (length store) (length d) ≡ false → Obeyed a (onEntries asks) store d (unchanged a 2) store d
-  serve-short z = rw z (nothing-done a frame store d)
+  pub serve-short : (t : Tables) → Invariant a store t → roomy (length store) (length d) ≡ false → Correct a t (onEntries asks) store d (unchanged a 2) store d
+  serve-short t h z = rw z (nothing-done a frame store d t (h .holds))
 
   -- and then obeyed
-  pub serve-long : roomy (length store) (length d) ≡ true → (k : Command) → givenBy c frame ≡ k → {r : Called} {store′ out : List ℕ}
-      → Obeyed a (onEntries k) store d r store′ out → Obeyed a (onEntries asks) store d r store′ out
-  serve-long z k e {r} {store′} {out} h =
+  pub serve-long : roomy (length store) (length d) ≡ true → (k : Command) → givenBy c frame ≡ k → {t : Tables} {r : Called} {store′ out : List ℕ}
+      → Correct a t (onEntries k) store d r store′ out → Correct a t (onEntries asks) store d r store′ out
+  serve-long z k e {t} {r} {store′} {out} h =
       let g : asks ≡ k = rw z e in
-      subst (λ (x : Command). Obeyed a (onEntries x) store d r store′ out) (sym g) h
+      subst (λ (x : Command). Correct a t (onEntries x) store d r store′ out) (sym g) h
 
   module _ (means : commandOf c frame ≡ readFrame frame) (there : stands c frame ≡ true) where
-    is-asked : asks ≡ asked frame store d
+    is-asked : asks ≡ requested frame store d
     unfolding rules.commandOf
     is-asked = ap (λ (k : Command). if roomy (length store) (length d) then k else cramped) (given-there c frame there ∙ means)
 
     is-frame : roomy (length store) (length d) ≡ true → asks ≡ commandOf c frame
     is-frame z = rw z (given-there c frame there)
 
-    as-asked : (r : Called) {store′ out : List ℕ} → Kept a store → Obeyed a asks store d r store′ out → Outcome a frame store d r store′ out
-    as-asked r {store′} {out} k y =
-        let z = subst (λ (x : Command). Obeyed a x store d r store′ out) is-asked y in
-        record { kept = kept-on a frame store d r store′ out k z; obeyed = z }
+    as-asked : (r : Called) {store′ out : List ℕ} → ((t : Tables) → Invariant a store t → Correct a t asks store d r store′ out)
+        → Contract Flat (memory a store) (input frame d) (result r store′ out)
+    as-asked r {store′} {out} y =
+        all-met a frame store d r store′ out (λ t k. subst (λ (x : Command). Correct a t x store d r store′ out) is-asked (y t k))
 
     pub serve-met : (r : Wrote) (store′ out : List ℕ) → isEvent c ≡ false → isConfigure c ≡ false
-        → Serves a c frame store d r store′ out → Meets a frame store d (wrote a r) store′ out
-    serve-met r store′ out e n h k =
-        as-asked (wrote a r) k (subst (λ (x : Command). Obeyed a x store d (wrote a r) store′ out) (same (roomy (length store) (length d))) (h k))
+        → Serves a c frame store d r store′ out → Contract Flat (memory a store) (input frame d) (result (wrote a r) store′ out)
+    serve-met r store′ out e n h =
+        as-asked (wrote a r) (λ t k. subst (λ (x : Command). Correct a t x store d (wrote a r) store′ out) (same (roomy (length store) (length d))) (h t k))
       where
         same : (b : Bool) → onEntries (if b then givenBy c frame else cramped) ≡ (if b then givenBy c frame else cramped)
         same true = rw (given-there c frame there) (on-entries c frame e n)
@@ -191,42 +188,42 @@ module _ (a : Agent) (c : frames.Command) (frame store d : List ℕ) where
       told : roomy (length store) (length d) ≡ true → reason ≡ verdict (a .device) (controlOf a .streams) (commandOf c frame)
       told z = v ∙ ap (verdict (a .device) (controlOf a .streams)) (is-frame z)
 
-      refused-by : (reason ≡ 0 → ⊥) → (k : Command) → OnRows k → reason ≡ verdict (a .device) (controlOf a .streams) k
-          → 57_344 ≤ length d → Obeyed a k store d (unchanged a reason) store out
-      unfolding answer refusal stateOf configureReason
-      refused-by n (CONFIGURE h rows) k e p =
-          let x : eqb reason 2 ≡ false = ap (λ (m : ℕ). eqb m 2) e ∙ not-2 (stateOf a store) (CONFIGURE h rows) (λ z. subst OnRows z k) in
-          configure-refused a store d out reason n (written 4 (plain reason) d (omega arith) x o) h rows (sym e)
+      refused-by : (t : Tables) → Invariant a store t → (reason ≡ 0 → ⊥) → (k : Command) → OnRows k → reason ≡ verdict (a .device) (controlOf a .streams) k
+          → 57_344 ≤ length d → Correct a t k store d (unchanged a reason) store out
+      unfolding answer refusal configureReason
+      refused-by t i n (CONFIGURE h rows) k e p =
+          let x : eqb reason 2 ≡ false = ap (λ (m : ℕ). eqb m 2) e ∙ not-2 (atTables a t) (CONFIGURE h rows) (λ z. subst OnRows z k) in
+          configure-refused a t store d out (i .holds) reason n (written 4 (plain reason) d (omega arith) x o) h rows (sym e)
 
       -- where nothing refuses it, and the rows are those that it asks for
-      configured-by : (rows : Rows) → reason ≡ 0 → (k : Command) → OnRows k → reason ≡ verdict (a .device) (controlOf a .streams) k
-          → rowsOf rows ≡ rowsAsked k → 57_344 ≤ length d → Obeyed a k store d (configured a rows) store out
+      configured-by : (t : Tables) (rows : Rows) → reason ≡ 0 → (k : Command) → OnRows k → reason ≡ verdict (a .device) (controlOf a .streams) k
+          → rowsOf rows ≡ rowsAsked k → 57_344 ≤ length d → Correct a t k store d (configured a rows) store out
       unfolding configureReason
-      configured-by rows z (CONFIGURE h rs) k e l p =
+      configured-by t rows z (CONFIGURE h rs) k e l p =
           let n : configureReason (controlOf a) h rs ≡ 0 = sym e ∙ z in
           let w : out ≡ splice d 0 (answerBytes (plain reason)) = written 4 (plain reason) d (omega arith) (ap (λ (m : ℕ). eqb m 2) z) o in
-          was-configured a h rs store d out rows n (l ∙ rows-allowed-read rs (rows-allowed (controlOf a) h rs n)) (rw z at w)
+          was-configured a h rs t store d out rows n (l ∙ rows-allowed-read rs (rows-allowed (controlOf a) h rs n)) (rw z at w)
 
-      pub configure-refused-met : (reason ≡ 0 → ⊥) → Meets a frame store d (unchanged a reason) store out
-      configure-refused-met n k = as-asked (unchanged a reason) k (by-room (length store) (length d) short long)
+      pub configure-refused-met : (reason ≡ 0 → ⊥) → Contract Flat (memory a store) (input frame d) (result (unchanged a reason) store out)
+      configure-refused-met n = as-asked (unchanged a reason) (λ t k. by-room (length store) (length d) (short t k) (long t k))
         where
-          short : roomy (length store) (length d) ≡ false → Obeyed a asks store d (unchanged a reason) store out
-          short z =
-              rw (z, short-2 z, unwritten 4 (plain reason) d (short-2 z) o) (nothing-done a frame store d)
+          short : (t : Tables) → Invariant a store t → roomy (length store) (length d) ≡ false → Correct a t asks store d (unchanged a reason) store out
+          short t k z =
+              rw (z, short-2 z, unwritten 4 (plain reason) d (short-2 z) o) (nothing-done a frame store d t (k .holds))
 
-          long : roomy (length store) (length d) ≡ true → Obeyed a asks store d (unchanged a reason) store out
-          long z = rw (is-frame z) (refused-by n (commandOf c frame) (on-rows c frame test) (told z) (long-enough (length store) (length d) z .0))
+          long : (t : Tables) → Invariant a store t → roomy (length store) (length d) ≡ true → Correct a t asks store d (unchanged a reason) store out
+          long t k z = rw (is-frame z) (refused-by t k n (commandOf c frame) (on-rows c frame test) (told z) (long-enough (length store) (length d) z .0))
 
-      pub configured-met : reason ≡ 0 → (rows : Rows) → rowsOf rows ≡ rowsAsked (givenBy c frame) → Meets a frame store d (configured a rows) store out
-      configured-met z rows l k = as-asked (configured a rows) k (by-room (length store) (length d) short long)
+      pub configured-met : reason ≡ 0 → (rows : Rows) → rowsOf rows ≡ rowsAsked (givenBy c frame) → Contract Flat (memory a store) (input frame d) (result (configured a rows) store out)
+      configured-met z rows l = as-asked (configured a rows) (λ t k. by-room (length store) (length d) (short t) (long t))
         where
-          short : roomy (length store) (length d) ≡ false → Obeyed a asks store d (configured a rows) store out
-          short y = absurd (let w : _≡_ {A = ℕ} 0 2 = sym z ∙ short-2 y in omega arith)
+          short : (t : Tables) → roomy (length store) (length d) ≡ false → Correct a t asks store d (configured a rows) store out
+          short t y = absurd (let w : _≡_ {A = ℕ} 0 2 = sym z ∙ short-2 y in omega arith)
 
-          long : roomy (length store) (length d) ≡ true → Obeyed a asks store d (configured a rows) store out
-          long y =
+          long : (t : Tables) → roomy (length store) (length d) ≡ true → Correct a t asks store d (configured a rows) store out
+          long t y =
               rw (is-frame y)
-              (configured-by rows z (commandOf c frame) (on-rows c frame test) (told y) (l ∙ ap rowsAsked (given-there c frame there))
+              (configured-by t rows z (commandOf c frame) (on-rows c frame test) (told y) (l ∙ ap rowsAsked (given-there c frame there))
               (long-enough (length store) (length d) y .0))
 
     -- ---- OPEN, CLOSE, ARBITRATE
@@ -234,10 +231,10 @@ module _ (a : Agent) (c : frames.Command) (frame store d : List ℕ) where
     module _ (out : List ℕ) (r : arbitration.Outcome) (test : isEvent c ≡ true) (h : Elects (a .device) (a .streams) c (length store) (length d) r)
         (o : out ≡ answered 644 (heard (outcomeOf r)) d) where
       -- under 2 nothing is done
-      none-told : outcomeOf r ≡ leftAs (controlOf a .streams) 2 → Obeyed a cramped store d (elected a r) store out
-      unfolding stateOf next nextControl nextTables reply replyOf answer
-      none-told w = record {
-        state = ap (λ (q : streams.Outcome). record { control = withStreams (controlOf a) (q .after); tables = tablesIn (a .count) store }) w;
+      none-told : (t : Tables) → Invariant a store t → outcomeOf r ≡ leftAs (controlOf a .streams) 2 → Correct a t cramped store d (elected a r) store out
+      unfolding next nextControl nextTables reply replyOf answer
+      none-told t k w = record {
+        state = record { control = ap (λ (q : streams.Outcome). withStreams (controlOf a) (q .after)) w; tables = k .holds };
         returned = ap (λ (q : streams.Outcome). q .reason) w;
         filled = unwritten 644 (heard (outcomeOf r)) d (ap (λ (q : streams.Outcome). q .reason) w) o;
         room = refl;
@@ -246,20 +243,20 @@ module _ (a : Agent) (c : frames.Command) (frame store d : List ℕ) where
       }
 
       event-by : (k : Command) → OnStreams k → outcomeOf r ≡ turn (a .device) (controlOf a .streams) k → 57_344 ≤ length d
-          → Kept a store → Obeyed a k store d (elected a r) store out
-      event-by k on w p =
+          → (t : Tables) → Invariant a store t → Correct a t k store d (elected a r) store out
+      event-by k on w p t =
           let n : eqb (outcomeOf r .reason) 2 ≡ false =
-          ap (λ (z : streams.Outcome). eqb (z .reason) 2) w ∙ ap (λ (z : Answer). eqb (z .reason) 2) (sym (turn-answered a store k on)) ∙ not-2 (stateOf a store) k (λ z. subst OnStreams z on) in
-          turn-obeyed a r d out (written 644 (heard (outcomeOf r)) d (omega arith) n o) k on w store
+          ap (λ (z : streams.Outcome). eqb (z .reason) 2) w ∙ ap (λ (z : Answer). eqb (z .reason) 2) (sym (turn-answered a t k on)) ∙ not-2 (atTables a t) k (λ z. subst OnStreams z on) in
+          turn-correct a r d out (written 644 (heard (outcomeOf r)) d (omega arith) n o) k on w store t
 
-      pub event-met : Meets a frame store d (elected a r) store out
-      event-met k = as-asked (elected a r) k (by-room (length store) (length d) short long)
+      pub event-met : Contract Flat (memory a store) (input frame d) (result (elected a r) store out)
+      event-met = as-asked (elected a r) (λ t k. by-room (length store) (length d) (short t k) (long t k))
         where
-          short : roomy (length store) (length d) ≡ false → Obeyed a asks store d (elected a r) store out
-          short z = rw z (none-told (h ∙ (rw z)))
+          short : (t : Tables) → Invariant a store t → roomy (length store) (length d) ≡ false → Correct a t asks store d (elected a r) store out
+          short t k z = rw z (none-told t k (h ∙ (rw z)))
 
-          long : roomy (length store) (length d) ≡ true → Obeyed a asks store d (elected a r) store out
-          long z =
+          long : (t : Tables) → Invariant a store t → roomy (length store) (length d) ≡ true → Correct a t asks store d (elected a r) store out
+          long t k z =
               let e : outcomeOf r ≡ turn (a .device) (controlOf a .streams) (commandOf c []) = h ∙ (rw z) in
               let w = e ∙ ap (turn (a .device) (controlOf a .streams)) (event-alone c frame test) in
-              rw (is-frame z) (event-by (commandOf c frame) (on-streams c frame test) w (long-enough (length store) (length d) z .0) k)
+              rw (is-frame z) (event-by (commandOf c frame) (on-streams c frame test) w (long-enough (length store) (length d) z .0) t k)

@@ -1,9 +1,13 @@
--- What the functions behind a call are held to. Assumes nothing.
+-- What the functions behind a call are held to: the rules, in any state whose control is the record's and whose tables the memory holds.
+-- Assumes nothing.
 use mathlib.Core.Path.{_≡_}
 use mathlib.Core.List.{List}
 use Prim.Native.Nat.{ℕ}
 use Rattle.rules.specs.Frame as rules
 use Rattle.rules.specs.Key.{tableOf}
+use Rattle.rules.specs.Update.{Tables}
+use Rattle.rules.specs.Call.{State}
+use Rattle.rules.specs.Sound.{Sound}
 use Rattle.arbitration.specs.declared.Outcome.{Outcome}
 use Rattle.rows.specs.declared.Rows.{Rows}
 use Rattle.frames.specs.declared.Query.{Query}
@@ -11,7 +15,22 @@ use Rattle.entry_store.specs.Read.{keyIn}
 use Rattle.agent.specs.declared.Agent.{Agent}
 use Rattle.agent.specs.declared.Called.{Called}
 use Rattle.agent.specs.declared.Wrote.{Wrote}
-use Rattle.agent.specs.Contract.{Kept, Obeyed}
+use Rattle.calls.specs.Contract as contract
+use Rattle.agent.specs.Meaning.{controlOf, Flat, memory, result}
+
+-- the state of an agent that holds the tables t
+abbrev pub atTables : Agent → Tables → State
+atTables a t = record { control = controlOf a; tables = t }
+
+-- what every list of calls leaves of the record and the store: they hold tables that are sound under the record's rows
+pub record Invariant (a : Agent) (store : List ℕ) (t : Tables) : Type 0 where
+  pub holds : Flat .holds (memory a store) t
+  pub sound : Sound (atTables a t)
+
+-- what a command leaves, where the agent a with this store, which holds t, and answer buffer hands back r, store′ and answer′
+abbrev pub Correct : Agent → Tables → rules.Command → List ℕ → List ℕ → Called → List ℕ → List ℕ → Type 0
+Correct a t c store answer r store′ answer′ =
+    contract.Correct Flat (atTables a t) c (memory a store) answer (result r store′ answer′)
 
 -- what a READ asks for, where its bytes from the table on are these
 abbrev pub queryIn : Query → List ℕ → rules.Query
@@ -40,9 +59,9 @@ abbrev pub unchanged : Agent → ℕ → Called
 unchanged a reason = record { agent = a; reason = reason }
 
 -- a command that is given the store
-abbrev pub Obeys : Agent → rules.Command → List ℕ → List ℕ → Called → List ℕ → List ℕ → Type 0
-Obeys a c store answer r store′ answer′ = Kept a store → Obeyed a c store answer r store′ answer′
+abbrev pub Handles : Agent → rules.Command → List ℕ → List ℕ → Called → List ℕ → List ℕ → Type 0
+Handles a c store answer r store′ answer′ = (t : Tables) → Invariant a store t → Correct a t c store answer r store′ answer′
 
 -- a command that is not given the store, and so leaves any store as it is
-abbrev pub ObeysAny : Agent → rules.Command → Called → List ℕ → List ℕ → Type 0
-ObeysAny a c r answer answer′ = (store : List ℕ) → Kept a store → Obeyed a c store answer r store answer′
+abbrev pub HandlesAnyStore : Agent → rules.Command → Called → List ℕ → List ℕ → Type 0
+HandlesAnyStore a c r answer answer′ = (store : List ℕ) (t : Tables) → Invariant a store t → Correct a t c store answer r store answer′

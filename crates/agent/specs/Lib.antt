@@ -1,6 +1,4 @@
--- The contract of a call, and the claim about lists of calls.
+-- The agent in the rules' terms: its layout, its handlers, and the parts of a call.
 pub mod Meaning
-pub mod Contract
-pub mod Claim
 pub mod Handlers
 pub mod Parts

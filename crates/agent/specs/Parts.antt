@@ -4,13 +4,13 @@
 use mathlib.Core.List.{List}
 use Prim.Native.Nat.{ℕ}
 use lib.ListN.{length}
+use Rattle.rules.specs.Update.{Tables}
 use Rattle.rules.specs.Frame.{Command, cramped, malformed, OPEN, CLOSE, ARBITRATE, CONFIGURE, WRITE, READ}
 use Rattle.frames.specs.declared.Command as frames
 use Rattle.frames.specs.Meaning.{given}
 use Rattle.agent.specs.declared.Agent.{Agent}
 use Rattle.agent.specs.declared.Wrote.{Wrote}
-use Rattle.agent.specs.Contract.{Kept, Obeyed}
-use Rattle.agent.specs.Handlers.{wrote}
+use Rattle.agent.specs.Handlers.{Invariant, Correct, wrote}
 
 -- WRITE and READ
 abbrev pub onEntries : Command → Command
@@ -25,5 +25,5 @@ onEntries (READ q) = READ q
 
 abbrev pub Serves : Agent → frames.Command → List ℕ → List ℕ → List ℕ → Wrote → List ℕ → List ℕ → Type 0
 Serves a c frame store answer r store′ answer′ =
-    Kept a store
-    → Obeyed a (onEntries (given c frame (length store) (length answer))) store answer (wrote a r) store′ answer′
+    (t : Tables) → Invariant a store t
+    → Correct a t (onEntries (given c frame (length store) (length answer))) store answer (wrote a r) store′ answer′

@@ -12,8 +12,9 @@ ghost use Rattle.rules.specs.Frame as rules;
 ghost use Rattle.election.specs.Meaning.{headOf};
 ghost use Rattle.entry_store.specs.Batch.{updatesIn};
 ghost use Rattle.frames.specs.Meaning.{commandOf, stands};
-ghost use Rattle.agent.specs.Contract.{Fresh, Meets};
-ghost use Rattle.agent.specs.Handlers.{queryIn, Named, wrote, unchanged, Obeys, ObeysAny};
+ghost use Rattle.calls.specs.Contract.{Fresh, Contract};
+ghost use Rattle.agent.specs.Meaning.{Flat, memory, input, result};
+ghost use Rattle.agent.specs.Handlers.{queryIn, Named, wrote, unchanged, Handles, HandlesAnyStore};
 ghost use Rattle.agent.specs.Parts.{onEntries, Serves};
 use arbitration::Streams;
 use election::Head;
@@ -40,7 +41,7 @@ pub struct Called {
 impl Agent {
     // A fresh agent: all streams closed, and no marks, rows or entries.
     pub fn new(device: u64) -> Agent
-        ensures { λ r. ⌜ Fresh device r ⌝ }
+        ensures { λ r. ⌜ Fresh Flat device r ⌝ }
     {
         Agent {
             device,
@@ -102,7 +103,7 @@ fn write(
     answer: &mut [u8],
 ) -> Wrote
     requires { ⌜ (n ≤ 64) × (length (now updates) ≡ 221 * n) × (56320 ≤ length (now store)) × (132 ≤ length (now answer)) ⌝ }
-    ensures { λ r. ⌜ Obeys agent (rules.WRITE (headOf head) atomicity (updatesIn n (now (updates .entry)))) (now (store .entry)) (now (answer .entry)) (wrote agent r) (now (store .exit)) (now (answer .exit)) ⌝ }
+    ensures { λ r. ⌜ Handles agent (rules.WRITE (headOf head) atomicity (updatesIn n (now (updates .entry)))) (now (store .entry)) (now (answer .entry)) (wrote agent r) (now (store .exit)) (now (answer .exit)) ⌝ }
 {
     let streams = agent.streams;
     let rows = agent.rows;
@@ -144,10 +145,10 @@ fn read_reason(here: bool, role: u8, unconfigured: bool) -> u8
     0
 }
 
-// Writes the entries asked for from byte 4 on, and before them the head; the reason. The query stands in 149 bytes, from its table on.
+// Writes the entries requested for from byte 4 on, and before them the head; the reason. The query stands in 149 bytes, from its table on.
 fn read(agent: Agent, query: Query, bytes: &[u8], store: &[u8], answer: &mut [u8]) -> u8
     requires { ⌜ (length (now bytes) ≡ 149) × (220 * agent .count ≤ length (now store)) × (57344 ≤ length (now answer)) ⌝ }
-    ensures { λ r. ⌜ (Named (queryIn query (now (bytes .entry))) → Obeys agent (rules.READ (queryIn query (now (bytes .entry)))) (now (store .entry)) (now (answer .entry)) (unchanged agent r) (now (store .entry)) (now (answer .exit))) ⌝ }
+    ensures { λ r. ⌜ (Named (queryIn query (now (bytes .entry))) → Handles agent (rules.READ (queryIn query (now (bytes .entry)))) (now (store .entry)) (now (answer .entry)) (unchanged agent r) (now (store .entry)) (now (answer .exit))) ⌝ }
 {
     let rows = agent.rows;
     let here = query.device == agent.device;
@@ -179,7 +180,7 @@ fn read(agent: Agent, query: Query, bytes: &[u8], store: &[u8], answer: &mut [u8
 // 1: neither a WRITE nor a READ.
 fn refuse_entries(agent: Agent, answer: &mut [u8]) -> Wrote
     requires { ⌜ 4 ≤ length (now answer) ⌝ }
-    ensures { λ r. ⌜ ObeysAny agent rules.malformed (wrote agent r) (now (answer .entry)) (now (answer .exit)) ⌝ }
+    ensures { λ r. ⌜ HandlesAnyStore agent rules.malformed (wrote agent r) (now (answer .entry)) (now (answer .exit)) ⌝ }
 {
     answers::write_head(1, 0, answer);
     Wrote {
@@ -188,10 +189,10 @@ fn refuse_entries(agent: Agent, answer: &mut [u8]) -> Wrote
     }
 }
 
-// Obeys a WRITE or a READ; any other command is refused under 1.
+// Handles a WRITE or a READ; any other command is refused under 1.
 fn obey(agent: Agent, command: Command, frame: &[u8], store: &mut [u8], answer: &mut [u8]) -> Wrote
     requires { ⌜ (stands command (now frame) ≡ true) × (agent .count ≤ 256) × (56320 ≤ length (now store)) × (57344 ≤ length (now answer)) ⌝ }
-    ensures { λ r. ⌜ Obeys agent (onEntries (commandOf command (now (frame .entry)))) (now (store .entry)) (now (answer .entry)) (wrote agent r) (now (store .exit)) (now (answer .exit)) ⌝ }
+    ensures { λ r. ⌜ Handles agent (onEntries (commandOf command (now (frame .entry)))) (now (store .entry)) (now (answer .entry)) (wrote agent r) (now (store .exit)) (now (answer .exit)) ⌝ }
 {
     match command {
         Command::Open(_) => refuse_entries(agent, answer),
@@ -238,7 +239,7 @@ pub fn serve(
 // One call: its frame is read first, so that a refusal copies no more of the record than it looks at; then by the parts of the
 // record that the command may change.
 pub fn call(mut agent: Agent, frame: &[u8], store: &mut [u8], answer: &mut [u8]) -> Called
-    ensures { λ r. ⌜ Meets agent (now (frame .entry)) (now (store .entry)) (now (answer .entry)) r (now (store .exit)) (now (answer .exit)) ⌝ }
+    ensures { λ r. ⌜ Contract Flat (memory agent (now (store .entry))) (input (now (frame .entry)) (now (answer .entry))) (result r (now (store .exit)) (now (answer .exit))) ⌝ }
 {
     let room = store.len();
     let space = answer.len();

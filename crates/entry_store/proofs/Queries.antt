@@ -5,7 +5,7 @@ use mathlib.Core.Path.{_≡_, refl, sym, ap, ap₂, _∙_}
 use mathlib.Core.Bool.{Bool, true, false, _&&_, not}
 use mathlib.Core.List.{List, [], _∷_}
 use lib.Dec.{eqb, ltb}
-use lib.ListN.{length, take, drop, getD, length-append}
+use lib.ListN.{length, take, drop, getD}
 use lib.Seq.{take-all, drop-append-add}
 use borrow.Author.Tests.{ne-eqb, ltb-false}
 use Rattle.rules.specs.Bytes.{if_then_else_, keep, concat, part, parts, int, number}
@@ -16,7 +16,7 @@ use Rattle.rules.specs.Call.{gathered}
 use Rattle.rules.proofs.Lists.{part-part}
 use Rattle.rules.proofs.Formed.{parts-count}
 use Rattle.rules.proofs.Tables.{keep-fewer}
-use Rattle.rules.proofs.Shortest.{part-length}
+use Rattle.rules.proofs.Shortest.{part-length, joined-length}
 use Rattle.rows.specs.declared.Row.{Row as RowRead}
 use Rattle.rows.specs.declared.Rows.{Rows}
 use Rattle.rows.specs.Meaning.{rowOf, rowsOf, rowAt}
@@ -30,7 +30,7 @@ use Rattle.entry_store.specs.Read.{keyIn, keyReason, tableReason, queryR
 -- ---- the key
 
 pub key-length : (b : List ℕ) → length b ≡ 149 → length (keyIn b) ≡ 148
-key-length b l = omega (arith, length-append (part 0 4 b) (part 5 144 b), part-length 0 4 b (omega arith), part-length 5 144 b (omega arith))
+key-length b l = joined-length 0 4 5 144 b (omega arith) (omega arith)
 
 key-part : (b : List ℕ) (i n : ℕ) → length b ≡ 149 → i + n ≤ 144 → part (4 + i) n (keyIn b) ≡ part (5 + i) n b
 key-part b i n l h =
@@ -148,14 +148,10 @@ module _ (rows : List Row) (role table only : ℕ) (k : List ℕ) {found : Bool}
 -- ---- the records
 
 -- where they have room, all are written
-module _ (es : List (List ℕ)) (before : List ℕ) {after : List ℕ} {n : ℕ} (h : 220 * length es ≤ length before) where
-  pub reads-all : Reads es before after n → (n ≡ length es) × (after ≡ splice before 0 (concat es))
-  reads-all r =
-      let c : n ≡ length es = omega (arith, r .0) in
-      (c, r .1 ∙ ap (λ (l : List (List ℕ)). splice before 0 (concat l)) (take-all n es (omega arith)))
-
-  all-reads : n ≡ length es → after ≡ splice before 0 (concat es) → Reads es before after n
-  all-reads c b = (omega arith, b ∙ ap (λ (l : List (List ℕ)). splice before 0 (concat l)) (sym (take-all n es (omega arith))))
+all-reads : (es : List (List ℕ)) (before : List ℕ) {after : List ℕ} {n : ℕ} → 220 * length es ≤ length before
+    → n ≡ length es → after ≡ splice before 0 (concat es) → Reads es before after n
+all-reads es before {after} {n} h c b =
+    (omega arith, b ∙ ap (λ (l : List (List ℕ)). splice before 0 (concat l)) (sym (take-all n es (omega arith))))
 
 module _ (rows : List Row) (role table : ℕ) {only : ℕ} (k before : List ℕ) {count : ℕ} {s after : List ℕ} {n : ℕ} where
   -- with only 1 the entry of the key

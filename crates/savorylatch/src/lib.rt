@@ -1,5 +1,6 @@
 // The agent's way in for a host in C or Rust: the host holds the record and lends it to each call.
-ghost use Rattle.agent.specs.Contract.{Fresh, Meets};
+ghost use Rattle.calls.specs.Contract.{Fresh, Contract};
+ghost use Rattle.agent.specs.Meaning.{Flat, memory, input, result};
 ghost use Rattle.savorylatch.specs.Host.{called};
 use agent::Agent;
 use frames::Frame;
@@ -7,7 +8,7 @@ use frames::Frame;
 // Makes the record that the host holds fresh, for a device id.
 #[no_mangle]
 pub extern "C" fn savorylatch_new(agent: &mut Agent, device: u64)
-    ensures { λ _. ⌜ Fresh device (now (agent .exit)) ⌝ }
+    ensures { λ _. ⌜ Fresh Flat device (now (agent .exit)) ⌝ }
 {
     *agent = Agent::new(device);
 }
@@ -21,7 +22,7 @@ pub extern "C" fn savorylatch_call(
     store: &mut [u8],
     answer: &mut [u8],
 ) -> u8
-    ensures { λ r. ⌜ Meets (now (agent .entry)) (now (frame .entry)) (now (store .entry)) (now (answer .entry)) (called (now (agent .exit)) r) (now (store .exit)) (now (answer .exit)) ⌝ }
+    ensures { λ r. ⌜ Contract Flat (memory (now (agent .entry)) (now (store .entry))) (input (now (frame .entry)) (now (answer .entry))) (result (called (now (agent .exit)) r) (now (store .exit)) (now (answer .exit))) ⌝ }
 {
     let Frame::Asks(command) = frames::read_frame(frame) else {
         return answers::refuse(store.len(), answer);

@@ -1,4 +1,4 @@
--- Right because a command is for one part of the record, and what that part obeys is what was asked. Assumes nothing.
+-- Right because a command is for one part of the record, and what that part obeys is what was requested. Assumes nothing.
 use denote.Ref.{now}
 use mathlib.Core.Path.{_≡_, sym, ap, _∙_, subst}
 use mathlib.Core.Bool.{true}

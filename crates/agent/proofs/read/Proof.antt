@@ -11,14 +11,14 @@ use Rattle.rules.specs.Bytes.{if_then_else_}
 use Rattle.rules.specs.Frame.{READ}
 use Rattle.rules.specs.Call.{readReason, shown}
 use Rattle.rules.proofs.Formed.{Formed}
+use Rattle.rules.proofs.Shortest.{joined-length}
 use Rattle.rules.proofs.Sizes.{shown-sized}
 use Rattle.buffers.proofs.Splice.{length-window}
 use Rattle.entry_store.specs.Read.{queryReason, Reads}
-use Rattle.entry_store.proofs.Queries.{key-length, reads-all}
-use Rattle.agent.specs.Meaning.{controlOf, stateOf}
+use Rattle.agent.specs.Meaning.{controlOf}
 use Rattle.agent.specs.Handlers.{queryIn}
 use Rattle.answers.proofs.Answers.{records-then-head, head-alone}
-use Rattle.agent.proofs.Obeying.{read-refused, read-order, was-read, taken, tidy}
+use Rattle.agent.proofs.Commands.{flat, flat-handles, read-refused, read-order, was-read, taken, reads-all, tidy}
 use borrow.Author.Needs.{needs}
 use Rattle.agent.proofs.read.Statement.{statement}
 use Rattle.agent.proofs.read.Tie as tie
@@ -46,10 +46,10 @@ order e =
     read-order (a .agent) (queryIn (a .query) (now (a .bytes))) refl (e .before .is-empty .ensures) (e .read-reason .ensures)
 
 returns : tie.Need-returns
-returns c m k =
+returns c m t k =
     let a = c .before .before .before .before .before .before .before .before .before .before .before .before .before .args in
     let h = c .before .before .write-head in
-    read-refused (a .agent) (now (a .store)) (now (a .answer)) (h .last .1 .1 .0) (c .before .before .before .before .before .read-reason .result) (c .before .before .before .before .if1 .taken)
+    read-refused (a .agent) t (now (a .store)) (now (a .answer)) (h .last .1 .1 .0) (k .holds) (c .before .before .before .before .before .read-reason .result) (c .before .before .before .before .if1 .taken)
     (head-alone _ (now (a .answer)) _ (h .ensures)) (queryIn (a .query) (now (a .bytes))) (order (c .before .before .before .before .before) ∙ (rw (ne-eqb _ 0 (c .before .before .before .before .if1 .taken))))
 
 query-reason-requires : tie.Need-query-reason-requires
@@ -62,11 +62,11 @@ same-length-2 : tie.Need-same-length-2
 same-length-2 c = search needs
 
 returns-2 : tie.Need-returns-2
-returns-2 c m k =
+returns-2 c m t k =
     let a = c .before .before .before .before .before .before .before .before .before .before .before .before .before .before .before .args in
     let h = c .before .before .write-head2 in
     let w = c .before .before .before .before .before .query-reason in
-    read-refused (a .agent) (now (a .store)) (now (a .answer)) (h .last .1 .1 .0) (w .result) (c .before .before .before .before .if2 .taken)
+    read-refused (a .agent) t (now (a .store)) (now (a .answer)) (h .last .1 .1 .0) (k .holds) (w .result) (c .before .before .before .before .if2 .taken)
     (head-alone _ (now (a .answer)) _ (h .ensures)) (queryIn (a .query) (now (a .bytes)))
     (order (c .before .before .before .before .before .before .before) ∙ (rw (eq-eqb _ 0 (c .before .before .before .before .before .before .if1 .left))) ∙ sym (w .ensures))
 
@@ -89,18 +89,20 @@ same-length-3 : tie.Need-same-length-3
 same-length-3 c = search needs
 
 returns-3 : tie.Need-returns-3
-returns-3 c m k =
+returns-3 c m =
     let a = c .before .before .before .before .before .before .before .before .before .before .before .before .before .before .before .before .before .before .before .args in
     let q = queryIn (a .query) (now (a .bytes)) in
     let s = now (a .store) in
     let d = now (a .answer) in
     let r = c .before .before .before .before .before .before .read in
     let h = c .before .before .write-head3 in
-    let l : length (q .key) ≡ 148 = key-length (now (a .bytes)) (c .before .before .before .before .before .before .before .before .before .before .before .before .before .before .before .before .before .before .before .pre .0) in
+    let size : length (now (a .bytes)) ≡ 149 = c .before .before .before .before .before .before .before .before .before .before .before .before .before .before .before .before .before .before .before .pre .0 in
+    let l : length (q .key) ≡ 148 = joined-length 0 4 5 144 (now (a .bytes)) (omega arith) (omega arith) in
     let f : Formed (READ q) = (l, m .0, m .1) in
     let e : readReason (controlOf (a .agent)) q ≡ 0 = order (c .before .before .before .before .before .before .before .before .before .before .before) ∙ (rw (eq-eqb _ 0 (c .before .before .before .before .before .before .before .before .before .before .if1 .left))) ∙ sym (c .before .before .before .before .before .before .before .before .before .query-reason .ensures) ∙ c .before .before .before .before .before .before .before .before .if2 .left in
-    let es = shown (stateOf (a .agent) s) q in
-    let z = shown-sized (stateOf (a .agent) s) q k in
+    let es = shown (flat (a .agent) s) q in
+    flat-handles (a .agent) _ s d _ s (h .last .1 .1 .0) (λ k.
+    let z = shown-sized (flat (a .agent) s) q k in
     let t : Reads es (take (length d - 4) (drop 4 d)) (r .last .1 .1 .1 .1 .1 .1 .1 .0) (r .result) =
     subst (λ (x : List (List ℕ)). Reads x (take (length d - 4) (drop 4 d)) (r .last .1 .1 .1 .1 .1 .1 .1 .0) (r .result))
     (taken (a .agent) q s f k e) (r .ensures (tidy (a .agent) s k)) in
@@ -108,7 +110,7 @@ returns-3 c m k =
     let w : length (take (length d - 4) (drop 4 d)) ≡ length d - 4 = length-window 4 (length d - 4) d (omega arith) in
     let n = reads-all es (take (length d - 4) (drop 4 d)) (omega (arith, z .1)) t in
     was-read (a .agent) q s d (h .last .1 .1 .0) e
-    (records-then-head 0 (r .result) es d (r .last .1 .1 .1 .1 .1 .1 .1 .0) (h .last .1 .1 .0) (omega arith) (n .0) (r .kept .1 .1 .1 .1 .1 .1 .1 .0) (n .1) (h .ensures))
+    (records-then-head 0 (r .result) es d (r .last .1 .1 .1 .1 .1 .1 .1 .0) (h .last .1 .1 .0) (omega arith) (n .0) (r .kept .1 .1 .1 .1 .1 .1 .1 .0) (n .1) (h .ensures)))
 
 pub read-spec : {M : Type 1} → statement M
 read-spec =

@@ -22,7 +22,7 @@ cramped-requires c κs = search needs
 returns : tie.Need-returns
 returns c =
     let a = c .before .before .before .before .before .args in
-    λ k. serve-short (a .agent) (a .command) (now (a .frame)) (now (a .store)) (now (a .answer)) (not-true _ (sym (c .before .cramped .ensures) ∙ c .if1 .taken))
+    λ t k. serve-short (a .agent) (a .command) (now (a .frame)) (now (a .store)) (now (a .answer)) t k (not-true _ (sym (c .before .cramped .ensures) ∙ c .if1 .taken))
 
 -- the buffers are long enough
 long : (e : tie.Else1) → roomy (length (now (e .before .before .before .before .before .args .store))) (length (now (e .before .before .before .before .before .args .answer))) ≡ true
@@ -31,7 +31,7 @@ long e = not-false _ (sym (e .before .cramped .ensures) ∙ e .if1 .left)
 returns-2 : tie.Need-returns-2
 returns-2 c =
     let a = c .before .before .before .before .before .before .args in
-    λ k. absurd (no-stray (a .agent) (now (a .store)) k (c .if2 .taken))
+    λ t k. absurd (no-stray (a .agent) (now (a .store)) t k (c .if2 .taken))
 
 stands-requires : tie.Need-stands-requires
 stands-requires c κs = search needs
@@ -51,9 +51,9 @@ returns-3 c =
     let s = now (a .store) in
     let t = c .before .before .before .before .before .stands in
     let n : stands (a .command) (now (a .frame)) ≡ false = sym (t .ensures) ∙ not-true (t .result) (c .before .before .before .before .if3 .taken) in
-    λ k.
+    λ u k.
     serve-long (a .agent) (a .command) (now (a .frame)) s (now (a .answer)) (long (c .before .before .before .before .before .before .before)) malformed
-    (rw n) (c .before .before .refuse-entries .ensures s k)
+    (rw n) (c .before .before .refuse-entries .ensures s u k)
 
 -- what the command leaves in the frame stands there
 there : (e : tie.After-stands) → not (e .stands .result) ≡ false → stands (e .before .before .before .before .before .before .before .args .command) (now (e .before .before .before .before .before .before .before .args .frame)) ≡ true
@@ -71,9 +71,9 @@ same-length-3 c = search needs
 returns-4 : tie.Need-returns-4
 returns-4 c =
     let a = c .before .before .before .before .before .before .before .before .before .before .before .before .before .before .before .args in
-    λ k.
+    λ u k.
     serve-long (a .agent) (a .command) (now (a .frame)) (now (a .store)) (now (a .answer)) (long (c .before .before .before .before .before .before .before .before .before .before)) (commandOf (a .command) (now (a .frame)))
-    (given-there (a .command) (now (a .frame)) (there (c .before .before .before .before .before .before .before .before) (c .before .before .before .before .before .before .before .if3 .left))) (c .before .before .before .before .obey .ensures k)
+    (given-there (a .command) (now (a .frame)) (there (c .before .before .before .before .before .before .before .before) (c .before .before .before .before .before .before .before .if3 .left))) (c .before .before .before .before .obey .ensures u k)
 
 pub serve-spec : {M : Type 1} → statement M
 serve-spec =

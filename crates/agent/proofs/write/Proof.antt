@@ -13,9 +13,9 @@ use Rattle.election.specs.Meaning.{headOf}
 use Rattle.rows.specs.Meaning.{rowsOf}
 use Rattle.entries.specs.Store.{tablesIn}
 use Rattle.entry_store.specs.Batch.{updatesIn}
-use Rattle.agent.specs.Meaning.{controlOf, stateOf}
+use Rattle.agent.specs.Meaning.{controlOf}
 use Rattle.answers.proofs.Answers.{records-then-head, head-alone}
-use Rattle.agent.proofs.Obeying.{write-refused, write-order, was-written, tidy}
+use Rattle.agent.proofs.Commands.{flat, flat-handles, write-refused, write-order, was-written, tidy}
 use borrow.Author.Needs.{needs}
 use Rattle.agent.proofs.write.Statement.{statement}
 use Rattle.agent.proofs.write.Tie as tie
@@ -43,10 +43,10 @@ order e =
     write-order (a .agent) (headOf (a .head)) (a .atomicity) refl (e .before .before .before .before .by-primary .ensures) (e .before .is-empty .ensures) (e .write-reason .ensures)
 
 returns : tie.Need-returns
-returns c k =
+returns c t k =
     let a = c .before .before .before .before .before .before .before .before .before .before .before .before .before .before .before .args in
     let h = c .before .before .write-head in
-    write-refused (a .agent) (now (a .store)) (now (a .answer)) (h .last .1 .1 .0) (c .before .before .before .before .before .write-reason .result) (c .before .before .before .before .if1 .taken)
+    write-refused (a .agent) t (now (a .store)) (now (a .answer)) (h .last .1 .1 .0) (k .holds) (c .before .before .before .before .before .write-reason .result) (c .before .before .before .before .if1 .taken)
     (head-alone _ (now (a .answer)) _ (h .ensures)) (headOf (a .head)) (a .atomicity) (updatesIn (a .n) (now (a .updates))) (order (c .before .before .before .before .before))
 
 sub-batch : tie.Need-sub-batch
@@ -74,22 +74,22 @@ same-length-3 : tie.Need-same-length-3
 same-length-3 c = search needs
 
 returns-2 : tie.Need-returns-2
-unfolding stateOf
-returns-2 c k =
+returns-2 c =
     let a = c .before .before .before .before .before .before .before .before .before .before .before .before .before .before .before .before .before .before .before .before .before .before .before .args in
     let b = c .before .before .before .before .before .before .before .before .before .batch in
     let g = c .before .before .before .before .head-reason in
     let h = c .before .before .write-head2 in
     let us = updatesIn (a .n) (now (a .updates)) in
-    let t = tidy (a .agent) (now (a .store)) k in
-    let rs = batchOf (stateOf (a .agent) (now (a .store))) (headOf (a .head)) us .reasons in
+    let rs = batchOf (flat (a .agent) (now (a .store))) (headOf (a .head)) us .reasons in
     let n : a .n ≡ length (map pairOf rs) =
     sym (length-map rs pairOf ∙ reasons-count (rowsOf (a .agent .rows)) (a .head .role) (tablesIn (a .agent .count) (now (a .store))) us
     ∙ length-map (parts (a .n) 221 (now (a .updates))) updateOf ∙ parts-count (a .n) 221 (now (a .updates))) in
+    flat-handles (a .agent) _ (now (a .store)) (now (a .answer)) _ (b .last .1 .1 .0) (h .last .1 .1 .0) (λ k.
+    let t = tidy (a .agent) (now (a .store)) k in
     was-written (a .agent) (headOf (a .head)) (a .atomicity) us (now (a .store)) (b .last .1 .1 .0) (now (a .answer)) (h .last .1 .1 .0)
     (record { count = b .result .count; reason = g .result }) (b .result) (order (c .before .before .before .before .before .before .before .before .before .before .before .before .before) ∙ c .before .before .before .before .before .before .before .before .before .before .before .before .if1 .left) (b .ensures .0 t) refl (g .ensures)
     (records-then-head (g .result) (a .n) (map pairOf rs) (now (a .answer)) (b .last .1 .1 .1 .1 .1 .1 .0) (h .last .1 .1 .0) (omega (arith, c .before .before .before .before .before .before .before .before .before .before .before .before .before .before .before .before .before .before .before .before .before .before .before .pre .3))
-    n (b .kept .1 .1 .1 .1 .1 .1 .0) (b .ensures .1 t) (h .ensures))
+    n (b .kept .1 .1 .1 .1 .1 .1 .0) (b .ensures .1 t) (h .ensures)))
 
 pub write-spec : {M : Type 1} → statement M
 write-spec =

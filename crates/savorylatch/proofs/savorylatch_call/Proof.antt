@@ -69,7 +69,8 @@ use Rattle.frames.proofs.Command as G
 use Rattle.frames.proofs.Command.Laws as G′
 use Rattle.frames.proofs.Frame as F
 use Rattle.frames.proofs.Frame.Laws as F′
-use Rattle.agent.specs.Contract as agent
+use Rattle.calls.specs.Contract as agent
+use Rattle.agent.specs.Meaning.{Flat, memory, input, result}
 use Rattle.agent.specs.Handlers.{elected, configured, wrote, unchanged}
 use Rattle.answers.specs.Answered.{answered, unread}
 use Rattle.control.specs.Events.{isEvent, Elects}
@@ -362,7 +363,7 @@ module _ {M : Type 1} (𝓤 : URA M) (H : Heap 𝓤) (A : Atoms 𝓤) (W : Given
   abbrev Left : Called → List ℕ → List ℕ → List (Item 𝓤)
   Left r ss ws = ‵ (fobs γ (T.the-row .coded .code (r .agent))) ∷ ‵ (fbor κ₀ (Referent (mem T.the-row) b o γ)) ∷ t₀ ∷ t₁ ∷ t₂ ∷ t₃ ∷ ‵ (finally u8 (xa .name) ws) ∷ ‵ (finally u8 (xs .name) ss) ∷ FR ∷ []
 
-  exits : (r : Called) (ss ws : List ℕ) → agent.Meets h (xf .now) (xs .now) (xa .now) r ss ws → length ss ≡ length (xs .now) → length ws ≡ length (xa .now) → r .reason < 2 ^ 8 → ent 𝓤 (⋆ 𝓤 H A (Left r ss ws)) (Ends (vint w8 (r .reason)))
+  exits : (r : Called) (ss ws : List ℕ) → agent.Contract Flat (memory h (xs .now)) (input (xf .now) (xa .now)) (result r ss ws) → length ss ≡ length (xs .now) → length ws ≡ length (xa .now) → r .reason < 2 ^ 8 → ent 𝓤 (⋆ 𝓤 H A (Left r ss ws)) (Ends (vint w8 (r .reason)))
   unfolding Ends
   exits r ss ws e ls la fits =
       qed W (Left r ss ws) ∵
@@ -468,7 +469,7 @@ module _ {M : Type 1} (𝓤 : URA M) (H : Heap 𝓤) (A : Atoms 𝓤) (W : Given
     module _ (ρ : Ty) (E : Env 𝓤 H) (ty : Typed (locals ρ) E) where
       -- ---- the end of each way: the borrow is closed at the record that it leaves, and the function returns
       finish : {K : Type 0} → K → {q : Post 𝓤 H} (ms : List (Option Val)) (r : Called) (ss ws : List ℕ) → post 𝓤 H q returnsᴼ ≡ atReturn 𝓤 H E Ends returnsᴼ → holding 0 ms ≡ full (vint w8 (r .reason)) → Is T.the-row (r .agent) (mach (r .agent))
-          → agent.Meets h (xf .now) (xs .now) (xa .now) r ss ws → length ss ≡ length (xs .now) → length ws ≡ length (xa .now) → r .reason < 2 ^ 8
+          → agent.Contract Flat (memory h (xs .now)) (input (xf .now) (xa .now)) (result r ss ws) → length ss ≡ length (xs .now) → length ws ≡ length (xa .now) → r .reason < 2 ^ 8
           → Seq K W (Lent (r .agent) (t₁ ∷ t₂ ∷ t₃ ∷ FR ∷ ‵ (finally u8 (xs .name) ss) ∷ ‵ (finally u8 (xa .name) ws) ∷ raw (held 𝓤 H E ms) ∷ [])) (runs C Λ E return q)
       finish t ms r ss ws end out is meets ls la fits =
           owned t T.the-row (Is T.the-row) ((LL.makes T.the-type T′.the-plain) 𝓤 H A) (r .agent) (mach (r .agent)) is $ move t (1 ∷ 0 ∷ []) $ closes t tt T.the-row (r .agent) (mach (r .agent)) b o $
@@ -476,7 +477,7 @@ module _ {M : Type 1} (𝓤 : URA M) (H : Heap 𝓤) (A : Atoms 𝓤) (W : Given
 
       -- the same where no call was given the store
       finish-kept : {K : Type 0} → K → {q : Post 𝓤 H} (ms : List (Option Val)) (r : Called) (ws : List ℕ) → post 𝓤 H q returnsᴼ ≡ atReturn 𝓤 H E Ends returnsᴼ → holding 0 ms ≡ full (vint w8 (r .reason)) → Is T.the-row (r .agent) (mach (r .agent))
-          → agent.Meets h (xf .now) (xs .now) (xa .now) r (xs .now) ws → length ws ≡ length (xa .now) → r .reason < 2 ^ 8
+          → agent.Contract Flat (memory h (xs .now)) (input (xf .now) (xa .now)) (result r (xs .now) ws) → length ws ≡ length (xa .now) → r .reason < 2 ^ 8
           → Seq K W (Lent (r .agent) (t₁ ∷ t₂ ∷ (t₃ ⊛ ‵ ftrue) ∷ FR ∷ ST ∷ ‵ (finally u8 (xa .name) ws) ∷ raw (held 𝓤 H E ms) ∷ [])) (runs C Λ E return q)
       finish-kept t ms r ws end out is meets la fits =
           move t (8 ∷ []) $ use1 W (‵ (finally u8 (xs .name) (xs .now))) kept-store $ move t (7 ∷ []) $ split t $ keep t (3 ∷ 4 ∷ 5 ∷ 6 ∷ 7 ∷ 8 ∷ 0 ∷ 9 ∷ 2 ∷ 10 ∷ 11 ∷ []) $
@@ -557,7 +558,7 @@ module _ {M : Type 1} (𝓤 : URA M) (H : Heap 𝓤) (A : Atoms 𝓤) (W : Given
           move t (4 ∷ 3 ∷ []) $ use2 W (raw (RowsAsked 𝓤 H A at-mem run .pre (to-rows c w)) ⊛ FR) (asks-rows c w read) $ split t $
           calls-at t fm (RowsAsked 𝓤 H A at-mem run) (callees .met-ro) (to-rows c w) (and-then t (gets t 11 here ty tt refl) (and-then t (gets t 11 here ty tt refl) (no-more t))) (λ w₄.
           use1 W (later (some (λ (k : Rows). ((t₁ ⊛ ‵ ftrue) ⊛ ‵ (Q.the-row .own k (w₄ ∷ []))) ⊛ raw (ensured 𝓤 H A ro.ended (ro.clauses 𝓤 H A at-mem run) (κ₁, tt) (c, (xf, tt)) tt k)))) (id⊢ 𝓤 _) $ await t tt $ pick t (λ k.
-          split t $ move t (1 ∷ []) $ use1 W (some (λ (zs : Unit {0} × (Unit {0} × Unit {0})). ‵ (lasts ro.ended (κ₁, tt) (c, (xf, tt)) zs) ⊛ raw (fact 𝓤 (rowsOf k ≡ rowsAsked (givenBy c (xf .now)))))) (id⊢ 𝓤 _) $ pick t (λ zs₂. split t $ drop t $ heard t (rowsOf k ≡ rowsAsked (givenBy c (xf .now))) (λ asked.
+          split t $ move t (1 ∷ []) $ use1 W (some (λ (zs : Unit {0} × (Unit {0} × Unit {0})). ‵ (lasts ro.ended (κ₁, tt) (c, (xf, tt)) zs) ⊛ raw (fact 𝓤 (rowsOf k ≡ rowsAsked (givenBy c (xf .now)))))) (id⊢ 𝓤 _) $ pick t (λ zs₂. split t $ drop t $ heard t (rowsOf k ≡ rowsAsked (givenBy c (xf .now))) (λ requested.
           split t $ move t (1 ∷ []) $ facts t Q.the-row (Is Q.the-row) (shows 𝓤 H A Q.the-row) k (w₄ ∷ []) (λ got. split t $ move t (1 ∷ []) $ drop t $
           -- [t₁; what the frame owns; t₃; the answer's last list; …; the record's cell; the open borrow; obs; auth; t₂; what the store owns; the locals]
           lands-in t 11 here ty tt (ap only (LL.tells Q.the-type Q′.the-laws k _ got)) (LL.lawful Q.the-type Q′.the-laws 𝓤 H A W .typed k _ got .0) $
@@ -565,7 +566,7 @@ module _ {M : Type 1} (𝓤 : URA M) (H : Heap 𝓤) (A : Atoms 𝓤) (W : Given
           assigns t (of-opd t (lit t tt)) (at-local t ty (hop t (look-in t 11 (in-local t 1 here ty tt refl)) (fld t refl (stop t)))) (store-in t 5 (in-count t) (tt, record { fits = no-word })) $
           sets t 11 here ty tt (of-opd t (lit t tt)) (tt, record { fits = no-byte }) $
           -- the borrow is closed at the record with the new rows and no entries
-          keep t (5 ∷ 6 ∷ 7 ∷ 8 ∷ 0 ∷ 9 ∷ 2 ∷ 1 ∷ 10 ∷ 3 ∷ 11 ∷ []) $ finish-kept t _ (configured h k) (zs .1 .0) end refl (configured-is is k _ got) (configured-met h c (xf .now) (xs .now) (xa .now) means there n (zs .1 .0) test reason out (eqb-true n 0 (not-false (eqb n 0) (is-false _ accepted))) k asked) la no-byte)))))))))))))))))
+          keep t (5 ∷ 6 ∷ 7 ∷ 8 ∷ 0 ∷ 9 ∷ 2 ∷ 1 ∷ 10 ∷ 3 ∷ 11 ∷ []) $ finish-kept t _ (configured h k) (zs .1 .0) end refl (configured-is is k _ got) (configured-met h c (xf .now) (xs .now) (xa .now) means there n (zs .1 .0) test reason out (eqb-true n 0 (not-false (eqb n 0) (is-false _ accepted))) k requested) la no-byte)))))))))))))))))
 
       -- ---- WRITE, READ
       serve-way : {K : Type 0} → K → {q : Post 𝓤 H} {w : Val} (v₉ v₁₃ v₂₁ : Val) → post 𝓤 H q returnsᴼ ≡ atReturn 𝓤 H E Ends returnsᴼ → (c : Command) → Is G.the-row c (w ∷ []) → commandOf c (xf .now) ≡ readFrame (xf .now) → stands c (xf .now) ≡ true → isEvent c ≡ false → isConfigure c ≡ false → Is T.the-row h (mach h) → Room u8 (length (xs .now)) → Room u8 (length (xa .now))

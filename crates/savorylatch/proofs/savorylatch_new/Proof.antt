@@ -38,7 +38,8 @@ use denote.Triple.Spec.{Meets, tripleOf}
 use denote.Triple.Table.{entered, cited}
 use denote.Triple.Walked.{says, Stays, stay-ref, stay-none, walkOf, goes-none, goes-ref, Walks, ends-at, walked, walk-meets}
 use denote.Exit.{yes}
-use Rattle.agent.specs.Contract.{Fresh}
+use Rattle.calls.specs.Contract.{Fresh}
+use Rattle.agent.specs.Meaning.{Flat}
 use Rattle.agent.specs.declared.Agent.{Agent}
 use Rattle.agent.proofs.Agent as T
 use Rattle.agent.proofs.Agent.Laws as T′
@@ -59,8 +60,8 @@ module _ {M : Type 1} (𝓤 : URA M) (H : Heap 𝓤) (A : Atoms 𝓤) (at-mem : 
   abbrev New : Contract 𝓤
   New = tripleOf 𝓤 H A g.signature (g.spec 𝓤 H A at-mem run)
 
-  new-of : (n : ℕ) (r : Agent) → ent 𝓤 (ensured 𝓤 H A g.ended (g.clauses 𝓤 H A at-mem run) tt (n, tt) tt r) (fact 𝓤 (Fresh n r))
-  new-of n r = exE 𝓤 _ (λ ws. snd∗ 𝓤 (sem 𝓤 H A (lasts g.ended tt (n, tt) ws)) (fact 𝓤 (Fresh n r)))
+  new-of : (n : ℕ) (r : Agent) → ent 𝓤 (ensured 𝓤 H A g.ended (g.clauses 𝓤 H A at-mem run) tt (n, tt) tt r) (fact 𝓤 (Fresh Flat n r))
+  new-of n r = exE 𝓤 _ (λ ws. snd∗ 𝓤 (sem 𝓤 H A (lasts g.ended tt (n, tt) ws)) (fact 𝓤 (Fresh Flat n r)))
 
 module _ {M : Type 1} (𝓤 : URA M) (H : Heap 𝓤) (A : Atoms 𝓤) (W : Given 𝓤 H A) (at-mem : Memory → SProp 𝓤) (run : Routine → Fun 𝓤) (κ : Lft) (q : Share) (b o : ℕ) (γ : GName) (h : Agent) (n : ℕ) where
   abbrev Arg : Type 0
@@ -76,7 +77,7 @@ module _ {M : Type 1} (𝓤 : URA M) (H : Heap 𝓤) (A : Atoms 𝓤) (W : Given
   Post = walkOf 𝓤 H A f.ended stayed (f.clauses 𝓤 H A at-mem run) .post (((κ, tt), (q, tt), tt, x, at), tt)
 
   -- what the walk has left where it ends is what the contract says
-  exits : (r : Agent) → Fresh n r → n < 2 ^ 64 → ent 𝓤 (sep 𝓤 (A .obs γ (T.the-row .coded .code r)) (sep 𝓤 (A .bor κ (Body (mem T.the-row) b o γ)) (A .lft κ q))) (Post vunit)
+  exits : (r : Agent) → Fresh Flat n r → n < 2 ^ 64 → ent 𝓤 (sep 𝓤 (A .obs γ (T.the-row .coded .code r)) (sep 𝓤 (A .bor κ (Body (mem T.the-row) b o γ)) (A .lft κ q))) (Post vunit)
   exits r e fits =
       qed W (‵ (fobs γ (T.the-row .coded .code r)) ∷ ‵ (fbor κ (Body (mem T.the-row) b o γ)) ∷ ‵ (flft κ q) ∷ []) ∵
       suffices ! _ (ends-at 𝓤 H A f.ended stayed (f.clauses 𝓤 H A at-mem run) W (((κ, tt), (q, tt), tt, x, at), tt) vunit tt (r, (tt, tt)) (tt, (tt, tt))) $ says ! e $ nothing ! $ move ! (3 ∷ 0 ∷ []) $ join ! $
@@ -102,7 +103,7 @@ module _ {M : Type 1} (𝓤 : URA M) (H : Heap 𝓤) (A : Atoms 𝓤) (W : Given
         move ! (11 ∷ []) $ use1 W (raw (New 𝓤 H A at-mem run .pre to-new)) goes-new $
         calls-at ! fm (New 𝓤 H A at-mem run) known to-new (and-then ! (load ! (from ! (stop !)) (look ! 3 refl)) (no-more !)) (λ w.
         use1 W (later (some (λ (r : Agent). (‵ ftrue ⊛ ‵ (T.the-row .own r (w ∷ []))) ⊛ raw (ensured 𝓤 H A g.ended (g.clauses 𝓤 H A at-mem run) tt (n, tt) tt r)))) (id⊢ 𝓤 _) $ await ! tt $ pick ! (λ r.
-        split ! $ move ! (1 ∷ []) $ use1 W (raw (fact 𝓤 (Fresh n r))) (new-of 𝓤 H A at-mem run n r) $ heard ! (Fresh n r) (λ e. split ! $ drop ! $
+        split ! $ move ! (1 ∷ []) $ use1 W (raw (fact 𝓤 (Fresh Flat n r))) (new-of 𝓤 H A at-mem run n r) $ heard ! (Fresh Flat n r) (λ e. split ! $ drop ! $
         peeks ! T.the-row (Is T.the-row) (shows 𝓤 H A T.the-row) r (w ∷ []) (λ is.
         land ! (from ! (stop !)) (init ! 1 refl (LL.lawful T.the-type T′.the-laws 𝓤 H A W .typed r _ is .0)) $
         -- [what r owns; _3; …; _2; …; _1; …; room for _0; …; obs; the borrow; the token; …]

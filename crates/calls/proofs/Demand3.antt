@@ -1,0 +1,265 @@
+-- Demand 3, for any layout: each call of a list finds a memory that represents the state that the rules make of the calls before it,
+-- since every call leaves what the rules leave; the rules agree with looking back. Assumes nothing.
+use Prim.Native.Nat.{ℕ, suc, _+_, _*_, _≤_, _<_}
+use native.Mathlib.Omega.{arith}
+use mathlib.Core.Path.{_≡_, refl, sym, ap, ap₂, _∙_, subst}
+use mathlib.Core.Bool.{Bool, true, false, _&&_, false≢true}
+use mathlib.Core.Logic.{_⊎_, _↔_}
+use mathlib.Core.List.{List, [], _∷_, _++_}
+use lib.ListN.{length, take, drop, length-append, length-drop}
+use lib.Seq.{take-append-le, drop-append-le}
+use Rattle.rules.specs.Bytes.{if_then_else_, int, bytesOf, concat}
+use Rattle.rules.specs.Reason.{codeOf, pairs}
+use Rattle.rules.specs.Frame.{Head, Update, Query, Command, cramped, WRITE, READ}
+use Rattle.rules.specs.Answer.{Reply, answerBytes, replyOf}
+use Rattle.rules.specs.Call.{Call, State, fresh, accepted, refusal, plain, answer, commandOf, next, reply, run}
+use Rattle.rules.specs.LookBack.{Past, present, shows, tookEffect, noteUpdates, pairsSeen, someFailed, readSeen, answerSeen, replySeen}
+use Rattle.rules.specs.Agreement.{commandsOf, replyAfter, pastOf, pairAt}
+use Rattle.rules.specs.Authority.{eventsOf, Gives, Held}
+use Rattle.rules.specs.Sound.{Sound, EveryStored}
+use Rattle.rules.proofs.Formed.{call-formed}
+use Rattle.rules.proofs.Sound.{fresh-agent, next-sound, sound}
+use Rattle.rules.proofs.Sizes.{answer-sized, count-read, write-count}
+use Rattle.rules.proofs.Replies.{written-whole}
+use Rattle.rules.proofs.LookBack.{fresh-shows, agreement, pairs-length}
+use Rattle.rules.proofs.Primary.{authority}
+use Rattle.rules.proofs.Presence.{presence}
+use Rattle.calls.specs.Contract.{Memory, Input, Result, callOf, requested, Layout, Represents, Fresh, FreeBytes, Correct, Contract}
+use Rattle.calls.specs.Claim.{Step, Trace, callsOf, Place, ListClaim, Demand3}
+
+-- ---- where a list has come to
+
+-- a memory that calls leave, the state that it represents, and the calls ws that come then
+pub record Arrived {A : Type 0} (L : Layout A) (room : ℕ) (s : State) (ws : List (Step A)) : Type 0 where
+  pub memory : Memory A
+  pub sound : Sound s
+  pub long : length (memory .store) ≡ room
+  pub state : Represents L memory s
+  pub trace : Trace L memory ws
+
+-- one call: what it did, and where it leads
+module _ {A : Type 0} (L : Layout A) {room : ℕ} {s : State} {w : Step A} {ws : List (Step A)} (a : Arrived L room s (w ∷ ws)) where
+  abbrev does : Command
+  does = commandOf room (callOf (w .input))
+
+  met : Correct L s does (a .memory) (w .input .buffer) (w .result)
+  unfolding Trace
+  met = rw (← a .long) (a .trace .0 s (a .sound) (a .state))
+
+  pub replied : (w .result .reason ≡ reply s does .returned)
+      × (w .result .answer ≡ reply s does .written ++ drop (length (reply s does .written)) (w .input .buffer))
+  replied = (met .returned, met .filled)
+
+  pub onward : Arrived L room (next s does) ws
+  unfolding Trace
+  onward = record {
+    memory = w .result .memory;
+    sound = next-sound s does (call-formed room (callOf (w .input))) (a .sound);
+    long = met .room ∙ a .long;
+    state = met .state;
+    trace = a .trace .1;
+  }
+
+module _ {A : Type 0} (L : Layout A) where
+  arrives : (room : ℕ) (s : State) (before ws : List (Step A)) → Arrived L room s (before ++ ws)
+      → Arrived L room (run s (commandsOf room (callsOf before))) ws
+  unfolding run
+  arrives room s [] ws a = a
+  arrives room s (b ∷ before) ws a = arrives room (next s (commandOf room (callOf (b .input)))) before ws (onward L a)
+
+  -- a list from a fresh agent
+  pub starts : (device : ℕ) (start : Memory A) (ws : List (Step A)) → Fresh L device (start .agent) → Trace L start ws
+      → Arrived L (length (start .store)) (fresh device) ws
+  starts device start ws f l = record {
+    memory = start;
+    sound = fresh-agent device;
+    long = refl;
+    state = f (start .store);
+    trace = l;
+  }
+
+-- ---- one call of a list
+
+-- a pair stands in what is written, whatever stands behind it
+pair-in : (i : ℕ) (b rest : List ℕ) → 4 + 2 * i + 2 ≤ length b → pairAt i (b ++ rest) ≡ pairAt i b
+unfolding pairAt
+pair-in i b rest h =
+    ap (take 2) (drop-append-le (4 + 2 * i) b rest (omega arith))
+    ∙ take-append-le 2 (drop (4 + 2 * i) b) rest (omega (arith, length-drop (4 + 2 * i) b))
+
+-- an accepted READ's bytes, and how long an accepted WRITE's are
+read-bytes : (p : Past) (q : Query) → accepted (shows p) (READ q) ≡ true
+    → replySeen p (READ q) .written
+    ≡ 0 ∷ 0 ∷ bytesOf 2 (length (readSeen (p .control .rows) q (present (p .effects)))) ++ concat (readSeen (p .control .rows) q (present (p .effects)))
+unfolding replySeen replyOf answerSeen answerBytes codeOf pairs
+read-bytes p q e =
+    ap (λ (b : Bool). replyOf (if b then record { reason = 0; records = readSeen (p .control .rows) q (present (p .effects)) } else
+    plain (refusal (shows p) (READ q))) .written) e
+
+head-length : (r c n : ℕ) (l : List ℕ) → length (r ∷ c ∷ bytesOf 2 n ++ l) ≡ 4 + length l
+unfolding bytesOf
+head-length r c n l = omega arith
+
+write-length : (p : Past) (h : Head) (atomicity : ℕ) (us : List Update) → accepted (shows p) (WRITE h atomicity us) ≡ true
+    → length (replySeen p (WRITE h atomicity us) .written) ≡ 4 + 2 * length us
+unfolding replySeen replyOf answerSeen answerBytes
+write-length p h atomicity us e = rw e (go (someFailed p (h .role) us))
+  where
+    go : (b : Bool) → length (replyOf (record { reason = if b then 23 else 0; records = pairsSeen p (h .role) us }) .written) ≡ 4 + 2 * length us
+    go true = head-length 23 (codeOf 23) (length (pairsSeen p (h .role) us)) (concat (pairsSeen p (h .role) us)) ∙ ap (λ (n : ℕ). 4 + n) (pairs-length p (h .role) us)
+    go false = head-length 0 (codeOf 0) (length (pairsSeen p (h .role) us)) (concat (pairsSeen p (h .role) us)) ∙ ap (λ (n : ℕ). 4 + n) (pairs-length p (h .role) us)
+
+module _ {A : Type 0} (L : Layout A) (device : ℕ) (start : Memory A) (f : Fresh L device (start .agent)) (before : List (Step A)) (w : Step A) where
+  abbrev room : ℕ
+  room = length (start .store)
+
+  abbrev calls : List Call
+  calls = callsOf before
+
+  abbrev p : Past
+  p = pastOf room device calls
+
+  abbrev c : Command
+  c = requested start (w .input)
+
+  -- the agent that the rules make of the calls before
+  abbrev s : State
+  s = run (fresh device) (commandsOf room calls)
+
+  agrees : reply s c ≡ replySeen p c
+  unfolding replyAfter
+  agrees = agreement room device calls (callOf (w .input)) .replies
+
+  module _ (after : List (Step A)) (l : Trace L start (before ++ w ∷ after)) where
+    here : Arrived L room s (w ∷ after)
+    here = arrives L room (fresh device) before (w ∷ after) (starts L device start (before ++ w ∷ after) f l)
+
+    is-returned : w .result .reason ≡ replySeen p c .returned
+    is-returned = replied L here .0 ∙ ap (λ (r : Reply). r .returned) agrees
+
+    is-filled : w .result .answer ≡ replySeen p c .written ++ drop (length (replySeen p c .written)) (w .input .buffer)
+    is-filled = replied L here .1 ∙ ap (λ (r : Reply). r .written ++ drop (length (r .written)) (w .input .buffer)) agrees
+
+    accepts : ((w .result .reason ≡ 0) ⊎ (w .result .reason ≡ 23)) ↔ (accepted (shows p) c ≡ true)
+    unfolding replyAfter
+    accepts =
+        subst (λ (r : ℕ). ((r ≡ 0) ⊎ (r ≡ 23)) ↔ (accepted (shows p) c ≡ true)) (sym (replied L here .0))
+        (agreement room device calls (callOf (w .input)) .acceptance)
+
+    is-read : (q : Query) → c ≡ READ q → accepted (shows p) c ≡ true →
+        let asked = readSeen (p .control .rows) q (present (p .effects)) in
+        w .result .answer ≡ (0 ∷ 0 ∷ bytesOf 2 (length asked) ++ concat asked) ++ drop (4 + length (concat asked)) (w .input .buffer)
+    is-read q e a =
+        let asked : List (List ℕ) = readSeen (p .control .rows) q (present (p .effects)) in
+        let b : replySeen p c .written ≡ 0 ∷ 0 ∷ bytesOf 2 (length asked) ++ concat asked =
+        ap (λ (x : Command). replySeen p x .written) e ∙ read-bytes p q (subst (λ (x : Command). accepted (shows p) x ≡ true) e a) in
+        is-filled ∙ ap (λ (x : List ℕ). x ++ drop (length x) (w .input .buffer)) b
+        ∙ ap (λ (n : ℕ). (0 ∷ 0 ∷ bytesOf 2 (length asked) ++ concat asked) ++ drop n (w .input .buffer)) (head-length 0 0 (length asked) (concat asked))
+
+    -- the count in the answer's head
+    counts : (c ≡ cramped → ⊥) → int 2 2 (w .result .answer) ≡ length (answer s c .records)
+    counts n =
+        ap (int 2 2) (replied L here .1 ∙ ap (λ (b : List ℕ). b ++ drop (length b) (w .input .buffer)) (written-whole s c n))
+        ∙ count-read (answer s c) _ (answer-sized s c (call-formed room (callOf (w .input))) (sound room device calls) .1)
+
+    takes-effect : (h : Head) (atomicity : ℕ) (earlier : List Update) (u : Update) (later : List Update)
+        → c ≡ WRITE h atomicity (earlier ++ u ∷ later)
+        → ((length earlier < int 2 2 (w .result .answer)) × (pairAt (length earlier) (w .result .answer) ≡ 0 ∷ 0 ∷ []))
+        ↔ (accepted (shows p) c && tookEffect (noteUpdates p (h .role) earlier) (h .role) u ≡ true)
+    unfolding replyAfter pastOf
+    takes-effect h atomicity earlier u later e = go (accepted (shows p) c) refl
+      where
+        us : List Update
+        us = earlier ++ u ∷ later
+
+        T : Bool
+        T = tookEffect (noteUpdates p (h .role) earlier) (h .role) u
+
+        write : (x : Command) → x ≡ WRITE h atomicity us → x ≡ cramped → ⊥
+        write x q z = let w : _≡_ {A = ℕ} 0 1 = cc in omega arith
+
+        -- a pair for each update where the WRITE is accepted, and none where it is refused
+        number : int 2 2 (w .result .answer) ≡ (if accepted (shows p) c then length us else 0)
+        number =
+            counts (write c e) ∙ ap (λ (x : Command). length (answer s x .records)) e ∙ write-count s h atomicity us
+            ∙ ap₂ (λ (t : State) (x : Command). if accepted t x then length us else 0) (fresh-shows device (commandsOf room calls)) (sym e)
+
+        go : (b : Bool) → accepted (shows p) c ≡ b
+            → ((length earlier < int 2 2 (w .result .answer)) × (pairAt (length earlier) (w .result .answer) ≡ 0 ∷ 0 ∷ [])) ↔ (b && T ≡ true)
+        go true a =
+            let n : length (replySeen p c .written) ≡ 4 + 2 * length us =
+            ap (λ (x : Command). length (replySeen p x .written)) e
+            ∙ write-length p h atomicity us (subst (λ (x : Command). accepted (shows p) x ≡ true) e a) in
+            let k : length us ≡ length earlier + suc (length later) = length-append earlier (u ∷ later) in
+            let m : int 2 2 (w .result .answer) ≡ length us = number ∙ (rw a) in
+            let b : pairAt (length earlier) (w .result .answer) ≡ pairAt (length earlier) (reply s c .written) =
+            ap (pairAt (length earlier)) is-filled
+            ∙ pair-in (length earlier) (replySeen p c .written) _ (omega arith)
+            ∙ ap (λ (r : Reply). pairAt (length earlier) (r .written)) (sym agrees) in
+            let i = agreement room device calls (callOf (w .input)) .updates h atomicity earlier u later e a in
+            (λ z. i .0 (sym b ∙ z .1), λ t. (omega arith, b ∙ i .1 t))
+        go false a =
+            let m : int 2 2 (w .result .answer) ≡ 0 = number ∙ (rw a) in
+            (λ z. absurd (let l = z .0 in omega (arith, l)), λ t. absurd (false≢true t))
+
+  -- a READ in its stead and after it
+  reads-alike : ((role id : ℕ) → Gives role id c → Held role id (eventsOf room device calls) → ⊥)
+      → (q : Query) (x y : Step A) → requested start (x .input) ≡ READ q → y .input ≡ x .input
+      → Trace L start (before ++ x ∷ []) → Trace L start (before ++ w ∷ y ∷ [])
+      → (x .result .reason ≡ y .result .reason) × (x .result .answer ≡ y .result .answer)
+  reads-alike n q x y e i lx ly =
+      let same : reply s (READ q) ≡ reply (next s c) (READ q) = authority room device calls (callOf (w .input)) .unchanged n q in
+      let ax = replied L (arrives L room (fresh device) before (x ∷ []) (starts L device start (before ++ x ∷ []) f lx)) in
+      let ay = replied L (onward L (arrives L room (fresh device) before (w ∷ y ∷ []) (starts L device start (before ++ w ∷ y ∷ []) f ly))) in
+      let ey : commandOf room (callOf (y .input)) ≡ READ q = ap (λ (j : Input). commandOf room (callOf j)) i ∙ e in
+      let r : reply s (commandOf room (callOf (x .input))) ≡ reply (next s c) (commandOf room (callOf (y .input))) = ap (reply s) e ∙ same ∙ ap (reply (next s c)) (sym ey) in (
+        ax .0 ∙ ap (λ (t : Reply). t .returned) r ∙ sym (ay .0),
+        ax .1 ∙ ap₂ (λ (t : Reply) (j : Input). t .written ++ drop (length (t .written)) (j .buffer)) r (sym i) ∙ sym (ay .1),
+      )
+
+-- ---- the claim
+
+module _ {A : Type 0} (L : Layout A) where
+  all-lists : (device : ℕ) (start : Memory A) → Fresh L device (start .agent)
+      → (ws : List (Step A)) → Trace L start ws → ListClaim L device start ws
+  unfolding shows pastOf
+  all-lists device start f ws l = record {
+    returned = λ p. is-returned L device start f (p .before) (p .call) (p .after) (there p);
+    filled = λ p. is-filled L device start f (p .before) (p .call) (p .after) (there p);
+    acceptance = λ p. accepts L device start f (p .before) (p .call) (p .after) (there p);
+    reads = λ p. is-read L device start f (p .before) (p .call) (p .after) (there p);
+    described = λ p. presence room′ device (callsOf (p .before));
+    shortest = λ p. are-shortest (callsOf (p .before));
+    updates = λ p. takes-effect L device start f (p .before) (p .call) (p .after) (there p);
+    authority = λ p. authority room′ device (callsOf (p .before)) (callOf (p .call .input)) .given;
+    unchanged = λ p. reads-alike L device start f (p .before) (p .call);
+  }
+    where
+      room′ : ℕ
+      room′ = length (start .store)
+
+      there : (p : Place ws) → Trace L start (p .before ++ p .call ∷ p .after)
+      there p = subst (Trace L start) (p .whole) l
+
+      are-shortest : (calls : List Call) → EveryStored (present (pastOf room′ device calls .effects))
+      are-shortest calls =
+          subst (λ (s : State). EveryStored (s .tables .entries)) (fresh-shows device (commandsOf room′ calls))
+          (sound room′ device calls .tables .shortest)
+
+  -- two memories of one state, with stores of one length
+  both : (m n : Memory A) (i : Input) (x y : Result A) (s : State) → Sound s → Represents L m s → Represents L n s
+      → length (m .store) ≡ length (n .store) → Contract L m i x → Contract L n i y
+      → (x .reason ≡ y .reason) × (x .answer ≡ y .answer)
+      × Represents L (x .memory) (next s (requested m i)) × Represents L (y .memory) (next s (requested m i))
+  both m n i x y s k em en l mx my =
+      let ox = mx s k em in
+      let oy : Correct L s (requested m i) n (i .buffer) y = rw l (my s k en) in
+      (ox .returned ∙ sym (oy .returned), ox .filled ∙ sym (oy .filled), ox .state, oy .state)
+
+  -- All that is requested of a layout, and of `free` alone: what a memory represents is told by its record and the bytes used.
+  pub demand-3-of : FreeBytes L → Demand3 L
+  demand-3-of f = record {
+    lists = all-lists;
+    free = λ m n i x y s k e a l u. both m n i x y s k e
+        (record { control = ap (L .control) (sym a) ∙ e .control; tables = f m n (s .tables) a u (e .tables) }) l;
+  }

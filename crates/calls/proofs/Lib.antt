@@ -1,0 +1,2 @@
+-- Lists of calls, for any layout.
+pub mod Demand3
