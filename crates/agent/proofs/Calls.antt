@@ -25,9 +25,8 @@ use Rattle.frames.specs.Meaning.{queryOf}
 use Rattle.agent.specs.declared.Agent.{Agent}
 use Rattle.agent.specs.declared.Called.{Called}
 use Rattle.agent.specs.Meaning.{Flat, memory, input, result}
-use Rattle.calls.specs.Contract as contract
-use Rattle.calls.specs.Contract.{Contract}
-use Rattle.agent.specs.Handlers.{atTables, Invariant, Correct, queryIn, Named}
+use Rattle.calls.specs.Contract.{Correct, Contract}
+use Rattle.agent.specs.Handlers.{atTables, Invariant, queryIn, Named}
 
 -- ---- 2 is tested first
 
@@ -38,7 +37,7 @@ long-enough room space e =
     (leb-true 57_344 space (s .0), leb-true 56_320 room (s .1))
 
 -- no list of calls leaves a count over 256
-pub no-stray : (a : Agent) (store : List ℕ) (t : Tables) → Invariant a store t → 256 < a .count → ⊥
+pub no-stray : (a : Agent) (store : List ℕ) (t : Tables) → Invariant (memory a store) t → 256 < a .count → ⊥
 no-stray a store t k h =
     omega (arith, k .sound .tables .few, parts-count (a .count) 220 store, ap (λ (x : Tables). length (x .entries)) (k .holds))
 
@@ -48,11 +47,11 @@ requested frame store d = commandOf (length store) (record { frame = frame; buff
 
 module _ (a : Agent) (frame store d : List ℕ) where
   -- the contract asks for the rules in every state that the memory represents: its control is the record's
-  pub all-met : (r : Called) (store′ out : List ℕ) → ((t : Tables) → Invariant a store t → Correct a t (requested frame store d) store d r store′ out)
+  pub all-met : (r : Called) (store′ out : List ℕ) → ((t : Tables) → Invariant (memory a store) t → Correct Flat (atTables a t) (requested frame store d) (memory a store) d (result r store′ out))
       → Contract Flat (memory a store) (input frame d) (result r store′ out)
   all-met r store′ out h s k rep =
       let e : atTables a (s .tables) ≡ s = ap (λ (c : Control). record { control = c; tables = s .tables }) (rep .control) in
-      subst (λ (x : State). contract.Correct Flat x (requested frame store d) (memory a store) d (result r store′ out)) e
+      subst (λ (x : State). Correct Flat x (requested frame store d) (memory a store) d (result r store′ out)) e
       (h (s .tables) (record { holds = rep .tables; sound = subst Sound (sym e) k }))
 
   -- ---- 2
@@ -61,7 +60,7 @@ module _ (a : Agent) (frame store d : List ℕ) where
   unfolding commandOf
   is-cramped e = rw e
 
-  pub nothing-done : (t : Tables) → Flat .holds (memory a store) t → Correct a t cramped store d (record { agent = a; reason = 2 }) store d
+  pub nothing-done : (t : Tables) → Flat .holds (memory a store) t → Correct Flat (atTables a t) cramped (memory a store) d (result (record { agent = a; reason = 2 }) store d)
   unfolding next nextControl nextTables reply replyOf answer
   nothing-done t h = record { state = record { control = refl; tables = h }; returned = refl; filled = refl; room = refl; beyond = refl; untouched = λ z. refl }
 

@@ -34,9 +34,9 @@ use Rattle.entry_store.specs.Read.{keyReason, queryReason, readIn, Reads}
 use Rattle.agent.specs.declared.Agent.{Agent}
 use Rattle.agent.specs.declared.Called.{Called}
 use Rattle.agent.specs.declared.Wrote.{Wrote}
-use Rattle.calls.specs.Contract.{Represents}
-use Rattle.agent.specs.Meaning.{controlOf, Flat, memory}
-use Rattle.agent.specs.Handlers.{atTables, Correct, elected, configured, wrote, unchanged, Handles, HandlesAnyStore}
+use Rattle.calls.specs.Contract.{Represents, Correct}
+use Rattle.agent.specs.Meaning.{controlOf, Flat, memory, result}
+use Rattle.agent.specs.Handlers.{atTables, elected, configured, wrote, unchanged, Handles, HandlesAnyStore}
 use Rattle.control.specs.Events.{turn}
 use Rattle.answers.proofs.Answers.{replies, fills}
 
@@ -45,15 +45,15 @@ abbrev pub flat : Agent → List ℕ → State
 flat a store = atTables a (tablesIn (a .count) store)
 
 pub flat-handles : (a : Agent) (c : Command) (store d : List ℕ) (r : Called) (store′ out : List ℕ)
-    → (Sound (flat a store) → Correct a (tablesIn (a .count) store) c store d r store′ out) → Handles a c store d r store′ out
+    → (Sound (flat a store) → Correct Flat (atTables a (tablesIn (a .count) store)) c (memory a store) d (result r store′ out)) → Handles (memory a store) c d (result r store′ out)
 flat-handles a c store d r store′ out h t k =
-    subst (λ (x : Tables). Correct a x c store d r store′ out) (k .holds)
+    subst (λ (x : Tables). Correct Flat (atTables a x) c (memory a store) d (result r store′ out)) (k .holds)
     (h (subst (λ (x : Tables). Sound (atTables a x)) (sym (k .holds)) (k .sound)))
 
 -- a command that leaves the store as it is
 module _ (a : Agent) (t : Tables) (c : Command) (store d : List ℕ) (r : Called) (out : List ℕ) (roomy : c ≡ cramped → ⊥) where
   pub store-stays : (x : Answer) → answer (atTables a t) c ≡ x → Represents Flat (memory (r .agent) store) (next (atTables a t) c)
-      → r .reason ≡ x .reason → out ≡ splice d 0 (answerBytes x) → Correct a t c store d r store out
+      → r .reason ≡ x .reason → out ≡ splice d 0 (answerBytes x) → Correct Flat (atTables a t) c (memory a store) d (result r store out)
   store-stays x told s e o = record {
     state = s;
     returned = replies (atTables a t) c x told e;
@@ -65,7 +65,7 @@ module _ (a : Agent) (t : Tables) (c : Command) (store d : List ℕ) (r : Called
 
   -- a refusal that leaves the agent as it is
   pub refusal-correct : (reason : ℕ) → Flat .holds (memory a store) t → next (atTables a t) c ≡ atTables a t → answer (atTables a t) c ≡ plain reason
-      → r ≡ unchanged a reason → out ≡ splice d 0 (answerBytes (plain reason)) → Correct a t c store d r store out
+      → r ≡ unchanged a reason → out ≡ splice d 0 (answerBytes (plain reason)) → Correct Flat (atTables a t) c (memory a store) d (result r store out)
   refusal-correct reason h stays told e f =
       let here : Represents Flat (memory (r .agent) store) (next (atTables a t) c) = rw (e, stays) (record { control = refl; tables = h }) in
       store-stays (plain reason) told here (ap (λ (b : Called). b .reason) e) f
@@ -121,7 +121,7 @@ turn-answered a t (READ q) h = absurd h
 -- ---- refusals of the other commands: the record as it was, and a head alone
 
 module _ (a : Agent) (t : Tables) (store d out : List ℕ) (here : Flat .holds (memory a store) t) where
-  pub malformed-correct : out ≡ splice d 0 (answerBytes (plain 1)) → Correct a t malformed store d (unchanged a 1) store out
+  pub malformed-correct : out ≡ splice d 0 (answerBytes (plain 1)) → Correct Flat (atTables a t) malformed (memory a store) d (result (unchanged a 1) store out)
   unfolding next nextControl nextTables answer
   malformed-correct f =
       refusal-correct a t malformed store d (unchanged a 1) out (λ z. let w : _≡_ {A = ℕ} 0 1 = cc in omega arith) 1 here refl refl refl f
@@ -131,20 +131,20 @@ module _ (a : Agent) (t : Tables) (store d out : List ℕ) (here : Flat .holds (
     no {m} e = ne-eqb m 0 (λ z. n (sym e ∙ z))
 
     pub configure-refused : (h : Head) (rows : List (List ℕ)) → configureReason (controlOf a) h rows ≡ reason
-        → Correct a t (CONFIGURE h rows) store d (unchanged a reason) store out
+        → Correct Flat (atTables a t) (CONFIGURE h rows) (memory a store) d (result (unchanged a reason) store out)
     unfolding next nextControl nextTables answer refusal
     configure-refused h rows e =
         let z : eqb (configureReason (controlOf a) h rows) 0 ≡ false = no e in
         refusal-correct a t (CONFIGURE h rows) store d (unchanged a reason) out (λ z. let w : _≡_ {A = ℕ} 0 1 = cc in omega arith) reason here (rw z) (rw e) refl f
 
     pub write-refused : (h : Head) (atomicity : ℕ) (us : List Update) → writeReason (controlOf a) h atomicity ≡ reason
-        → Correct a t (WRITE h atomicity us) store d (unchanged a reason) store out
+        → Correct Flat (atTables a t) (WRITE h atomicity us) (memory a store) d (result (unchanged a reason) store out)
     unfolding next nextControl nextTables answer refusal
     write-refused h atomicity us e =
         let z : eqb (writeReason (controlOf a) h atomicity) 0 ≡ false = no e in
         refusal-correct a t (WRITE h atomicity us) store d (unchanged a reason) out (λ z. let w : _≡_ {A = ℕ} 0 1 = cc in omega arith) reason here (rw z) (rw (z, e)) refl f
 
-    pub read-refused : (q : Query) → readReason (controlOf a) q ≡ reason → Correct a t (READ q) store d (unchanged a reason) store out
+    pub read-refused : (q : Query) → readReason (controlOf a) q ≡ reason → Correct Flat (atTables a t) (READ q) (memory a store) d (result (unchanged a reason) store out)
     unfolding next nextControl nextTables answer refusal
     read-refused q e =
         let z : eqb (readReason (controlOf a) q) 0 ≡ false = no e in
@@ -155,7 +155,7 @@ module _ (a : Agent) (t : Tables) (store d out : List ℕ) (here : Flat .holds (
 module _ (a : Agent) (h : Head) (rows : List (List ℕ)) where
   pub was-configured : (t : Tables) (store d out : List ℕ) (read : Rows) → configureReason (controlOf a) h rows ≡ 0
       → rowsOf read ≡ map row.rowOf rows → out ≡ splice d 0 (answerBytes (plain 0))
-      → Correct a t (CONFIGURE h rows) store d (configured a read) store out
+      → Correct Flat (atTables a t) (CONFIGURE h rows) (memory a store) d (result (configured a read) store out)
   unfolding next nextControl nextTables answer refusal parts
   was-configured t store d out read e l o =
       store-stays a t (CONFIGURE h rows) store d (configured a read) out (λ z. let w : _≡_ {A = ℕ} 0 1 = cc in omega arith) (plain 0) (rw e)
@@ -175,7 +175,7 @@ module _ (a : Agent) (h : Head) (atomicity : ℕ) where
       → BatchApplied (controlOf a .rows) (h .role) (a .count) store store′ us w
       → r .count ≡ w .count → r .reason ≡ (if w .failed then 23 else 0)
       → out ≡ splice d 0 (answerBytes (record { reason = r .reason; records = map pairOf (batchOf (flat a store) h us .reasons) }))
-      → Correct a (tablesIn (a .count) store) (WRITE h atomicity us) store d (wrote a r) store′ out
+      → Correct Flat (atTables a (tablesIn (a .count) store)) (WRITE h atomicity us) (memory a store) d (result (wrote a r) store′ out)
   unfolding next nextControl nextTables answer refusal
   was-written us store store′ d out r w e b c q o =
       let told : r .reason ≡ headOf (batchOf (flat a store) h us .reasons) = q ∙ head-told (every (eqb 0) (batchOf (flat a store) h us .reasons)) (b .failed) in
@@ -232,7 +232,7 @@ module _ (a : Agent) (q : Query) where
 
   pub was-read : (store d out : List ℕ) → readReason (controlOf a) q ≡ 0
       → out ≡ splice d 0 (answerBytes (record { reason = 0; records = shown (flat a store) q }))
-      → Correct a (tablesIn (a .count) store) (READ q) store d (unchanged a 0) store out
+      → Correct Flat (atTables a (tablesIn (a .count) store)) (READ q) (memory a store) d (result (unchanged a 0) store out)
   unfolding next nextControl nextTables answer refusal
   was-read store d out e o =
       store-stays a (tablesIn (a .count) store) (READ q) store d (unchanged a 0) out (λ z. let w : _≡_ {A = ℕ} 0 1 = cc in omega arith) (record { reason = 0; records = shown (flat a store) q })

@@ -30,8 +30,8 @@ use Rattle.agent.specs.declared.Agent.{Agent}
 use Rattle.agent.specs.declared.Called.{Called}
 use Rattle.agent.specs.declared.Wrote.{Wrote}
 use Rattle.agent.specs.Meaning.{controlOf, Flat, memory, input, result}
-use Rattle.calls.specs.Contract.{Contract}
-use Rattle.agent.specs.Handlers.{atTables, Invariant, Correct, elected, configured, wrote, unchanged}
+use Rattle.calls.specs.Contract.{Correct, Contract}
+use Rattle.agent.specs.Handlers.{atTables, Invariant, elected, configured, wrote, unchanged}
 use Rattle.answers.specs.Answered.{answered, unread}
 use Rattle.control.specs.Events.{isEvent, turn, Elects}
 use Rattle.control.specs.Configuring.{isConfigure, verdict, rowsAsked}
@@ -126,12 +126,12 @@ pub refuse-met : (a : Agent) (frame store d : List ℕ) (reason : ℕ) (out : Li
     → reason ≡ unread (length store) (length d) → out ≡ answered 4 (plain reason) d → Contract Flat (memory a store) (input frame d) (result (unchanged a reason) store out)
 refuse-met a frame store d reason out means v o = all-met a frame store d (unchanged a reason) store out (λ t k. by-room (length store) (length d) (short t k) (long t k))
   where
-    short : (t : Tables) → Invariant a store t → roomy (length store) (length d) ≡ false → Correct a t (requested frame store d) store d (unchanged a reason) store out
+    short : (t : Tables) → Invariant (memory a store) t → roomy (length store) (length d) ≡ false → Correct Flat (atTables a t) (requested frame store d) (memory a store) d (result (unchanged a reason) store out)
     short t k z =
         let e : reason ≡ 2 = v ∙ (rw z) in
         rw (is-cramped a frame store d z, e, unwritten 4 (plain reason) d e o) (nothing-done a frame store d t (k .holds))
 
-    long : (t : Tables) → Invariant a store t → roomy (length store) (length d) ≡ true → Correct a t (requested frame store d) store d (unchanged a reason) store out
+    long : (t : Tables) → Invariant (memory a store) t → roomy (length store) (length d) ≡ true → Correct Flat (atTables a t) (requested frame store d) (memory a store) d (result (unchanged a reason) store out)
     long t k z =
         let e : reason ≡ 1 = v ∙ (rw z) in
         let p = long-enough (length store) (length d) z in
@@ -145,15 +145,15 @@ module _ (a : Agent) (c : frames.Command) (frame store d : List ℕ) where
   asks = given c frame (length store) (length d)
 
   -- a WRITE or a READ is tested for 2 first
-  pub serve-short : (t : Tables) → Invariant a store t → roomy (length store) (length d) ≡ false → Correct a t (onEntries asks) store d (unchanged a 2) store d
+  pub serve-short : (t : Tables) → Invariant (memory a store) t → roomy (length store) (length d) ≡ false → Correct Flat (atTables a t) (onEntries asks) (memory a store) d (result (unchanged a 2) store d)
   serve-short t h z = rw z (nothing-done a frame store d t (h .holds))
 
   -- and then obeyed
   pub serve-long : roomy (length store) (length d) ≡ true → (k : Command) → givenBy c frame ≡ k → {t : Tables} {r : Called} {store′ out : List ℕ}
-      → Correct a t (onEntries k) store d r store′ out → Correct a t (onEntries asks) store d r store′ out
+      → Correct Flat (atTables a t) (onEntries k) (memory a store) d (result r store′ out) → Correct Flat (atTables a t) (onEntries asks) (memory a store) d (result r store′ out)
   serve-long z k e {t} {r} {store′} {out} h =
       let g : asks ≡ k = rw z e in
-      subst (λ (x : Command). Correct a t (onEntries x) store d r store′ out) (sym g) h
+      subst (λ (x : Command). Correct Flat (atTables a t) (onEntries x) (memory a store) d (result r store′ out)) (sym g) h
 
   module _ (means : commandOf c frame ≡ readFrame frame) (there : stands c frame ≡ true) where
     is-asked : asks ≡ requested frame store d
@@ -163,15 +163,15 @@ module _ (a : Agent) (c : frames.Command) (frame store d : List ℕ) where
     is-frame : roomy (length store) (length d) ≡ true → asks ≡ commandOf c frame
     is-frame z = rw z (given-there c frame there)
 
-    as-asked : (r : Called) {store′ out : List ℕ} → ((t : Tables) → Invariant a store t → Correct a t asks store d r store′ out)
+    as-asked : (r : Called) {store′ out : List ℕ} → ((t : Tables) → Invariant (memory a store) t → Correct Flat (atTables a t) asks (memory a store) d (result r store′ out))
         → Contract Flat (memory a store) (input frame d) (result r store′ out)
     as-asked r {store′} {out} y =
-        all-met a frame store d r store′ out (λ t k. subst (λ (x : Command). Correct a t x store d r store′ out) is-asked (y t k))
+        all-met a frame store d r store′ out (λ t k. subst (λ (x : Command). Correct Flat (atTables a t) x (memory a store) d (result r store′ out)) is-asked (y t k))
 
     pub serve-met : (r : Wrote) (store′ out : List ℕ) → isEvent c ≡ false → isConfigure c ≡ false
-        → Serves a c frame store d r store′ out → Contract Flat (memory a store) (input frame d) (result (wrote a r) store′ out)
+        → Serves c (memory a store) (input frame d) (result (wrote a r) store′ out) → Contract Flat (memory a store) (input frame d) (result (wrote a r) store′ out)
     serve-met r store′ out e n h =
-        as-asked (wrote a r) (λ t k. subst (λ (x : Command). Correct a t x store d (wrote a r) store′ out) (same (roomy (length store) (length d))) (h t k))
+        as-asked (wrote a r) (λ t k. subst (λ (x : Command). Correct Flat (atTables a t) x (memory a store) d (result (wrote a r) store′ out)) (same (roomy (length store) (length d))) (h t k))
       where
         same : (b : Bool) → onEntries (if b then givenBy c frame else cramped) ≡ (if b then givenBy c frame else cramped)
         same true = rw (given-there c frame there) (on-entries c frame e n)
@@ -188,8 +188,8 @@ module _ (a : Agent) (c : frames.Command) (frame store d : List ℕ) where
       told : roomy (length store) (length d) ≡ true → reason ≡ verdict (a .device) (controlOf a .streams) (commandOf c frame)
       told z = v ∙ ap (verdict (a .device) (controlOf a .streams)) (is-frame z)
 
-      refused-by : (t : Tables) → Invariant a store t → (reason ≡ 0 → ⊥) → (k : Command) → OnRows k → reason ≡ verdict (a .device) (controlOf a .streams) k
-          → 57_344 ≤ length d → Correct a t k store d (unchanged a reason) store out
+      refused-by : (t : Tables) → Invariant (memory a store) t → (reason ≡ 0 → ⊥) → (k : Command) → OnRows k → reason ≡ verdict (a .device) (controlOf a .streams) k
+          → 57_344 ≤ length d → Correct Flat (atTables a t) k (memory a store) d (result (unchanged a reason) store out)
       unfolding answer refusal configureReason
       refused-by t i n (CONFIGURE h rows) k e p =
           let x : eqb reason 2 ≡ false = ap (λ (m : ℕ). eqb m 2) e ∙ not-2 (atTables a t) (CONFIGURE h rows) (λ z. subst OnRows z k) in
@@ -197,7 +197,7 @@ module _ (a : Agent) (c : frames.Command) (frame store d : List ℕ) where
 
       -- where nothing refuses it, and the rows are those that it asks for
       configured-by : (t : Tables) (rows : Rows) → reason ≡ 0 → (k : Command) → OnRows k → reason ≡ verdict (a .device) (controlOf a .streams) k
-          → rowsOf rows ≡ rowsAsked k → 57_344 ≤ length d → Correct a t k store d (configured a rows) store out
+          → rowsOf rows ≡ rowsAsked k → 57_344 ≤ length d → Correct Flat (atTables a t) k (memory a store) d (result (configured a rows) store out)
       unfolding configureReason
       configured-by t rows z (CONFIGURE h rs) k e l p =
           let n : configureReason (controlOf a) h rs ≡ 0 = sym e ∙ z in
@@ -207,20 +207,20 @@ module _ (a : Agent) (c : frames.Command) (frame store d : List ℕ) where
       pub configure-refused-met : (reason ≡ 0 → ⊥) → Contract Flat (memory a store) (input frame d) (result (unchanged a reason) store out)
       configure-refused-met n = as-asked (unchanged a reason) (λ t k. by-room (length store) (length d) (short t k) (long t k))
         where
-          short : (t : Tables) → Invariant a store t → roomy (length store) (length d) ≡ false → Correct a t asks store d (unchanged a reason) store out
+          short : (t : Tables) → Invariant (memory a store) t → roomy (length store) (length d) ≡ false → Correct Flat (atTables a t) asks (memory a store) d (result (unchanged a reason) store out)
           short t k z =
               rw (z, short-2 z, unwritten 4 (plain reason) d (short-2 z) o) (nothing-done a frame store d t (k .holds))
 
-          long : (t : Tables) → Invariant a store t → roomy (length store) (length d) ≡ true → Correct a t asks store d (unchanged a reason) store out
+          long : (t : Tables) → Invariant (memory a store) t → roomy (length store) (length d) ≡ true → Correct Flat (atTables a t) asks (memory a store) d (result (unchanged a reason) store out)
           long t k z = rw (is-frame z) (refused-by t k n (commandOf c frame) (on-rows c frame test) (told z) (long-enough (length store) (length d) z .0))
 
       pub configured-met : reason ≡ 0 → (rows : Rows) → rowsOf rows ≡ rowsAsked (givenBy c frame) → Contract Flat (memory a store) (input frame d) (result (configured a rows) store out)
       configured-met z rows l = as-asked (configured a rows) (λ t k. by-room (length store) (length d) (short t) (long t))
         where
-          short : (t : Tables) → roomy (length store) (length d) ≡ false → Correct a t asks store d (configured a rows) store out
+          short : (t : Tables) → roomy (length store) (length d) ≡ false → Correct Flat (atTables a t) asks (memory a store) d (result (configured a rows) store out)
           short t y = absurd (let w : _≡_ {A = ℕ} 0 2 = sym z ∙ short-2 y in omega arith)
 
-          long : (t : Tables) → roomy (length store) (length d) ≡ true → Correct a t asks store d (configured a rows) store out
+          long : (t : Tables) → roomy (length store) (length d) ≡ true → Correct Flat (atTables a t) asks (memory a store) d (result (configured a rows) store out)
           long t y =
               rw (is-frame y)
               (configured-by t rows z (commandOf c frame) (on-rows c frame test) (told y) (l ∙ ap rowsAsked (given-there c frame there))
@@ -231,7 +231,7 @@ module _ (a : Agent) (c : frames.Command) (frame store d : List ℕ) where
     module _ (out : List ℕ) (r : arbitration.Outcome) (test : isEvent c ≡ true) (h : Elects (a .device) (a .streams) c (length store) (length d) r)
         (o : out ≡ answered 644 (heard (outcomeOf r)) d) where
       -- under 2 nothing is done
-      none-told : (t : Tables) → Invariant a store t → outcomeOf r ≡ leftAs (controlOf a .streams) 2 → Correct a t cramped store d (elected a r) store out
+      none-told : (t : Tables) → Invariant (memory a store) t → outcomeOf r ≡ leftAs (controlOf a .streams) 2 → Correct Flat (atTables a t) cramped (memory a store) d (result (elected a r) store out)
       unfolding next nextControl nextTables reply replyOf answer
       none-told t k w = record {
         state = record { control = ap (λ (q : streams.Outcome). withStreams (controlOf a) (q .after)) w; tables = k .holds };
@@ -243,7 +243,7 @@ module _ (a : Agent) (c : frames.Command) (frame store d : List ℕ) where
       }
 
       event-by : (k : Command) → OnStreams k → outcomeOf r ≡ turn (a .device) (controlOf a .streams) k → 57_344 ≤ length d
-          → (t : Tables) → Invariant a store t → Correct a t k store d (elected a r) store out
+          → (t : Tables) → Invariant (memory a store) t → Correct Flat (atTables a t) k (memory a store) d (result (elected a r) store out)
       event-by k on w p t =
           let n : eqb (outcomeOf r .reason) 2 ≡ false =
           ap (λ (z : streams.Outcome). eqb (z .reason) 2) w ∙ ap (λ (z : Answer). eqb (z .reason) 2) (sym (turn-answered a t k on)) ∙ not-2 (atTables a t) k (λ z. subst OnStreams z on) in
@@ -252,10 +252,10 @@ module _ (a : Agent) (c : frames.Command) (frame store d : List ℕ) where
       pub event-met : Contract Flat (memory a store) (input frame d) (result (elected a r) store out)
       event-met = as-asked (elected a r) (λ t k. by-room (length store) (length d) (short t k) (long t k))
         where
-          short : (t : Tables) → Invariant a store t → roomy (length store) (length d) ≡ false → Correct a t asks store d (elected a r) store out
+          short : (t : Tables) → Invariant (memory a store) t → roomy (length store) (length d) ≡ false → Correct Flat (atTables a t) asks (memory a store) d (result (elected a r) store out)
           short t k z = rw z (none-told t k (h ∙ (rw z)))
 
-          long : (t : Tables) → Invariant a store t → roomy (length store) (length d) ≡ true → Correct a t asks store d (elected a r) store out
+          long : (t : Tables) → Invariant (memory a store) t → roomy (length store) (length d) ≡ true → Correct Flat (atTables a t) asks (memory a store) d (result (elected a r) store out)
           long t k z =
               let e : outcomeOf r ≡ turn (a .device) (controlOf a .streams) (commandOf c []) = h ∙ (rw z) in
               let w = e ∙ ap (turn (a .device) (controlOf a .streams)) (event-alone c frame test) in

@@ -15,22 +15,25 @@ use Rattle.entry_store.specs.Read.{keyIn}
 use Rattle.agent.specs.declared.Agent.{Agent}
 use Rattle.agent.specs.declared.Called.{Called}
 use Rattle.agent.specs.declared.Wrote.{Wrote}
-use Rattle.calls.specs.Contract as contract
+use Rattle.calls.specs.Contract.{Memory, Result, Correct}
 use Rattle.agent.specs.Meaning.{controlOf, Flat, memory, result}
 
 -- the state of an agent that holds the tables t
 abbrev pub atTables : Agent → Tables → State
 atTables a t = record { control = controlOf a; tables = t }
 
--- what every list of calls leaves of the record and the store: they hold tables that are sound under the record's rows
-pub record Invariant (a : Agent) (store : List ℕ) (t : Tables) : Type 0 where
-  pub holds : Flat .holds (memory a store) t
-  pub sound : Sound (atTables a t)
+-- The *invariant*, which every list of calls leaves: the memory holds the tables t, which are sound under the record's rows.
+pub record Invariant (m : Memory Agent) (t : Tables) : Type 0 where
+  pub holds : Flat .holds m t
+  pub sound : Sound (atTables (m .agent) t)
 
--- what a command leaves, where the agent a with this store, which holds t, and answer buffer hands back r, store′ and answer′
-abbrev pub Correct : Agent → Tables → rules.Command → List ℕ → List ℕ → Called → List ℕ → List ℕ → Type 0
-Correct a t c store answer r store′ answer′ =
-    contract.Correct Flat (atTables a t) c (memory a store) answer (result r store′ answer′)
+-- A handler of the command c is correct: whichever tables the memory m holds, its result r is correct.
+abbrev pub Handles : Memory Agent → rules.Command → List ℕ → Result Agent → Type 0
+Handles m c buffer r = (t : Tables) → Invariant m t → Correct Flat (atTables (m .agent) t) c m buffer r
+
+-- and so is one that is not given the store, and leaves any store as it is
+abbrev pub HandlesAnyStore : Agent → rules.Command → Called → List ℕ → List ℕ → Type 0
+HandlesAnyStore a c r buffer answer = (store : List ℕ) → Handles (memory a store) c buffer (result r store answer)
 
 -- what a READ asks for, where its bytes from the table on are these
 abbrev pub queryIn : Query → List ℕ → rules.Query
@@ -57,11 +60,3 @@ wrote a r = record { agent = record { device = a .device; streams = a .streams; 
 -- READ, and every refusal but of an arbitration
 abbrev pub unchanged : Agent → ℕ → Called
 unchanged a reason = record { agent = a; reason = reason }
-
--- a command that is given the store
-abbrev pub Handles : Agent → rules.Command → List ℕ → List ℕ → Called → List ℕ → List ℕ → Type 0
-Handles a c store answer r store′ answer′ = (t : Tables) → Invariant a store t → Correct a t c store answer r store′ answer′
-
--- a command that is not given the store, and so leaves any store as it is
-abbrev pub HandlesAnyStore : Agent → rules.Command → Called → List ℕ → List ℕ → Type 0
-HandlesAnyStore a c r answer answer′ = (store : List ℕ) (t : Tables) → Invariant a store t → Correct a t c store answer r store answer′

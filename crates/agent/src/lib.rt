@@ -103,7 +103,7 @@ fn write(
     answer: &mut [u8],
 ) -> Wrote
     requires { ⌜ (n ≤ 64) × (length (now updates) ≡ 221 * n) × (56320 ≤ length (now store)) × (132 ≤ length (now answer)) ⌝ }
-    ensures { λ r. ⌜ Handles agent (rules.WRITE (headOf head) atomicity (updatesIn n (now (updates .entry)))) (now (store .entry)) (now (answer .entry)) (wrote agent r) (now (store .exit)) (now (answer .exit)) ⌝ }
+    ensures { λ r. ⌜ Handles (memory agent (now (store .entry))) (rules.WRITE (headOf head) atomicity (updatesIn n (now (updates .entry)))) (now (answer .entry)) (result (wrote agent r) (now (store .exit)) (now (answer .exit))) ⌝ }
 {
     let streams = agent.streams;
     let rows = agent.rows;
@@ -148,7 +148,7 @@ fn read_reason(here: bool, role: u8, unconfigured: bool) -> u8
 // Writes the entries requested for from byte 4 on, and before them the head; the reason. The query stands in 149 bytes, from its table on.
 fn read(agent: Agent, query: Query, bytes: &[u8], store: &[u8], answer: &mut [u8]) -> u8
     requires { ⌜ (length (now bytes) ≡ 149) × (220 * agent .count ≤ length (now store)) × (57344 ≤ length (now answer)) ⌝ }
-    ensures { λ r. ⌜ (Named (queryIn query (now (bytes .entry))) → Handles agent (rules.READ (queryIn query (now (bytes .entry)))) (now (store .entry)) (now (answer .entry)) (unchanged agent r) (now (store .entry)) (now (answer .exit))) ⌝ }
+    ensures { λ r. ⌜ (Named (queryIn query (now (bytes .entry))) → Handles (memory agent (now (store .entry))) (rules.READ (queryIn query (now (bytes .entry)))) (now (answer .entry)) (result (unchanged agent r) (now (store .entry)) (now (answer .exit)))) ⌝ }
 {
     let rows = agent.rows;
     let here = query.device == agent.device;
@@ -192,7 +192,7 @@ fn refuse_entries(agent: Agent, answer: &mut [u8]) -> Wrote
 // Handles a WRITE or a READ; any other command is refused under 1.
 fn obey(agent: Agent, command: Command, frame: &[u8], store: &mut [u8], answer: &mut [u8]) -> Wrote
     requires { ⌜ (stands command (now frame) ≡ true) × (agent .count ≤ 256) × (56320 ≤ length (now store)) × (57344 ≤ length (now answer)) ⌝ }
-    ensures { λ r. ⌜ Handles agent (onEntries (commandOf command (now (frame .entry)))) (now (store .entry)) (now (answer .entry)) (wrote agent r) (now (store .exit)) (now (answer .exit)) ⌝ }
+    ensures { λ r. ⌜ Handles (memory agent (now (store .entry))) (onEntries (commandOf command (now (frame .entry)))) (now (answer .entry)) (result (wrote agent r) (now (store .exit)) (now (answer .exit))) ⌝ }
 {
     match command {
         Command::Open(_) => refuse_entries(agent, answer),
@@ -218,7 +218,7 @@ pub fn serve(
     store: &mut [u8],
     answer: &mut [u8],
 ) -> Wrote
-    ensures { λ r. ⌜ Serves agent command (now (frame .entry)) (now (store .entry)) (now (answer .entry)) r (now (store .exit)) (now (answer .exit)) ⌝ }
+    ensures { λ r. ⌜ Serves command (memory agent (now (store .entry))) (input (now (frame .entry)) (now (answer .entry))) (result (wrote agent r) (now (store .exit)) (now (answer .exit))) ⌝ }
 {
     let count = agent.count;
     if answers::cramped(store.len(), answer.len()) {

@@ -80,7 +80,7 @@ module _ {A : Type 0} (L : Layout A) where
 
 -- ---- one call of a list
 
--- a pair stands in what is written, whatever stands behind it
+-- a pair is found in what is written, whatever follows it
 pair-in : (i : ℕ) (b rest : List ℕ) → 4 + 2 * i + 2 ≤ length b → pairAt i (b ++ rest) ≡ pairAt i b
 unfolding pairAt
 pair-in i b rest h =

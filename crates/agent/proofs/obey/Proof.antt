@@ -14,6 +14,7 @@ use Rattle.frames.specs.declared.Command.{Command}
 use Rattle.frames.specs.Meaning.{commandOf, stands}
 use Rattle.frames.proofs.Standing.{write-stands, read-stands}
 use Rattle.entry_store.specs.Batch.{updatesIn}
+use Rattle.agent.specs.Meaning.{memory, result}
 use Rattle.agent.specs.Handlers.{wrote, unchanged, Handles}
 use Rattle.agent.specs.Parts.{onEntries}
 use Rattle.agent.proofs.Calls.{query-there, query-named}
@@ -98,7 +99,7 @@ returns : tie.Need-returns
 returns c =
     let a = c .before .before .before .before .before .before .before .before .before .args in
     let r = c .before .before .refuse-entries in
-    subst (λ (k : Command). Handles (a .agent) (onEntries (commandOf k (now (a .frame)))) (now (a .store)) (now (a .answer)) (wrote (a .agent) (r .result)) (now (a .store)) (r .last .1 .0))
+    subst (λ (k : Command). Handles (memory (a .agent) (now (a .store))) (onEntries (commandOf k (now (a .frame)))) (now (a .answer)) (result (wrote (a .agent) (r .result)) (now (a .store)) (r .last .1 .0)))
     (sym (c .before .before .before .before .enum-told .given .1)) (r .ensures (now (a .store)))
 
 same-length-2 : tie.Need-same-length-2
@@ -108,7 +109,7 @@ returns-2 : tie.Need-returns-2
 returns-2 c =
     let a = c .before .before .before .before .before .before .before .before .before .args in
     let r = c .before .before .refuse-entries2 in
-    subst (λ (k : Command). Handles (a .agent) (onEntries (commandOf k (now (a .frame)))) (now (a .store)) (now (a .answer)) (wrote (a .agent) (r .result)) (now (a .store)) (r .last .1 .0))
+    subst (λ (k : Command). Handles (memory (a .agent) (now (a .store))) (onEntries (commandOf k (now (a .frame)))) (now (a .answer)) (result (wrote (a .agent) (r .result)) (now (a .store)) (r .last .1 .0)))
     (sym (c .before .before .before .before .enum-told2 .given .1)) (r .ensures (now (a .store)))
 
 same-length-3 : tie.Need-same-length-3
@@ -118,7 +119,7 @@ returns-3 : tie.Need-returns-3
 returns-3 c =
     let a = c .before .before .before .before .before .before .before .before .before .args in
     let r = c .before .before .refuse-entries3 in
-    subst (λ (k : Command). Handles (a .agent) (onEntries (commandOf k (now (a .frame)))) (now (a .store)) (now (a .answer)) (wrote (a .agent) (r .result)) (now (a .store)) (r .last .1 .0))
+    subst (λ (k : Command). Handles (memory (a .agent) (now (a .store))) (onEntries (commandOf k (now (a .frame)))) (now (a .answer)) (result (wrote (a .agent) (r .result)) (now (a .store)) (r .last .1 .0)))
     (sym (c .before .before .before .before .enum-told3 .given .1)) (r .ensures (now (a .store)))
 
 same-length-4 : tie.Need-same-length-4
@@ -128,7 +129,7 @@ returns-4 : tie.Need-returns-4
 returns-4 c =
     let a = c .before .before .before .before .before .before .before .before .before .args in
     let r = c .before .before .refuse-entries4 in
-    subst (λ (k : Command). Handles (a .agent) (onEntries (commandOf k (now (a .frame)))) (now (a .store)) (now (a .answer)) (wrote (a .agent) (r .result)) (now (a .store)) (r .last .1 .0))
+    subst (λ (k : Command). Handles (memory (a .agent) (now (a .store))) (onEntries (commandOf k (now (a .frame)))) (now (a .answer)) (result (wrote (a .agent) (r .result)) (now (a .store)) (r .last .1 .0)))
     (sym (c .before .before .before .before .enum-told4 .given .1)) (r .ensures (now (a .store)))
 
 same-length-5 : tie.Need-same-length-5
@@ -147,8 +148,8 @@ returns-5 c =
     let v = c .before .before .before .before .before .before .before .before .before .command .given in
     let left = r .last .1 .1 .1 .1 .1 .0 in
     let out = r .last .1 .1 .1 .1 .1 .1 .0 in
-    subst (λ (k : Command). Handles (a .agent) (onEntries (commandOf k f)) s d (wrote (a .agent) (r .result)) left out) (sym (v .1))
-    (subst (λ (l : List ℕ). Handles (a .agent) (rules.WRITE (headOf (v .0 .0)) (v .0 .1 .0) (updatesIn (v .0 .1 .1 .0) l)) s d (wrote (a .agent) (r .result)) left out)
+    subst (λ (k : Command). Handles (memory (a .agent) s) (onEntries (commandOf k f)) d (result (wrote (a .agent) (r .result)) left out)) (sym (v .1))
+    (subst (λ (l : List ℕ). Handles (memory (a .agent) s) (rules.WRITE (headOf (v .0 .0)) (v .0 .1 .0) (updatesIn (v .0 .1 .1 .0) l)) d (result (wrote (a .agent) (r .result)) left out))
     (rest-all 29 f) (r .ensures))
 
 same-length-7 : tie.Need-same-length-7
@@ -170,8 +171,8 @@ returns-6 c =
     let y = query-fits (c .before .before .before .before .before .before .before) in
     let n : length f - 10 ≡ 149 = omega (arith, y .0) in
     let b : take (length f - 10) (drop 10 f) ≡ part 10 149 f = ap (λ (n : ℕ). take n (drop 10 f)) n in
-    subst (λ (k : Command). Handles (a .agent) (onEntries (commandOf k f)) s d (unchanged (a .agent) (r .result)) s out) (sym (v .1))
-    (subst (λ (x : rules.Query). Handles (a .agent) (rules.READ x) s d (unchanged (a .agent) (r .result)) s out) (query-there q f _ b) (r .ensures (query-named q f _ (y .0) (y .1) (y .2) b)))
+    subst (λ (k : Command). Handles (memory (a .agent) s) (onEntries (commandOf k f)) d (result (unchanged (a .agent) (r .result)) s out)) (sym (v .1))
+    (subst (λ (x : rules.Query). Handles (memory (a .agent) s) (rules.READ x) d (result (unchanged (a .agent) (r .result)) s out)) (query-there q f _ b) (r .ensures (query-named q f _ (y .0) (y .1) (y .2) b)))
 
 pub obey-spec : {M : Type 1} → statement M
 obey-spec =

@@ -578,7 +578,7 @@ module _ {M : Type 1} (𝓤 : URA M) (H : Heap 𝓤) (A : Atoms 𝓤) (W : Given
           move t (4 ∷ 5 ∷ 6 ∷ 7 ∷ 8 ∷ 9 ∷ []) $ group t 6 $ use1 W (raw (Serve 𝓤 H A at-mem run .pre (to-serve c w)) ⊛ FR) (asks-serve is c w read) $ split t $
           calls-at t fm (Serve 𝓤 H A at-mem run) (callees .met-sv) (to-serve c w) (and-then t (gets t 6 here ty tt refl) (and-then t (gets t 6 here ty tt refl) (and-then t (gets t 6 here ty tt refl) (and-then t (gets t 6 here ty tt refl) (and-then t (gets t 6 here ty tt refl) (no-more t)))))) (λ w₂.
           use1 W (later (some (λ (r : Wrote). ((t₁ ⊛ t₂ ⊛ t₃ ⊛ ‵ ftrue) ⊛ ‵ (U.the-row .own r (w₂ ∷ []))) ⊛ raw (ensured 𝓤 H A sv.ended (sv.clauses 𝓤 H A at-mem run) (κ₁, (κ₂, (κ₃, tt))) (to-serve c w .0 .3) tt r)))) (id⊢ 𝓤 _) $ await t tt $ pick t (λ r.
-          split t $ move t (1 ∷ []) $ use1 W (some (λ (zs : Unit {0} × (Unit {0} × (Unit {0} × (List ℕ × (List ℕ × Unit {0}))))). ‵ (lasts sv.ended (κ₁, (κ₂, (κ₃, tt))) (to-serve c w .0 .3) zs) ⊛ raw (fact 𝓤 (Serves h c (xf .now) (xs .now) (xa .now) r (zs .1 .1 .1 .0) (zs .1 .1 .1 .1 .0))))) (id⊢ 𝓤 _) $ pick t (λ zs. split t $ move t (1 ∷ []) $ heard t (Serves h c (xf .now) (xs .now) (xa .now) r (zs .1 .1 .1 .0) (zs .1 .1 .1 .1 .0)) (λ serves.
+          split t $ move t (1 ∷ []) $ use1 W (some (λ (zs : Unit {0} × (Unit {0} × (Unit {0} × (List ℕ × (List ℕ × Unit {0}))))). ‵ (lasts sv.ended (κ₁, (κ₂, (κ₃, tt))) (to-serve c w .0 .3) zs) ⊛ raw (fact 𝓤 (Serves c (memory h (xs .now)) (input (xf .now) (xa .now)) (result (wrote h r) (zs .1 .1 .1 .0) (zs .1 .1 .1 .1 .0)))))) (id⊢ 𝓤 _) $ pick t (λ zs. split t $ move t (1 ∷ []) $ heard t (Serves c (memory h (xs .now)) (input (xf .now) (xa .now)) (result (wrote h r) (zs .1 .1 .1 .0) (zs .1 .1 .1 .1 .0))) (λ serves.
           fsplit t $ drop t $ fsplit t $ drop t $ fsplit t $ drop t $ fsplit t $ fsplit t $ move t (1 ∷ []) $ feqL t (λ ls. move t (1 ∷ []) $ fsplit t $ fsplit t $ move t (1 ∷ []) $ feqL t (λ la. move t (3 ∷ []) $ split t $ move t (1 ∷ []) $ facts t U.the-row (Is U.the-row) (shows 𝓤 H A U.the-row) r (w₂ ∷ []) (λ got.
           -- [the tokens; the answer's last list; …; the store's; what the frame owns; the record's cell; the open borrow; obs; auth; the locals]
           lands-in t 9 here ty tt (ap only (LL.tells U.the-type U′.the-laws r _ got)) (LL.lawful U.the-type U′.the-laws 𝓤 H A W .typed r _ got .0) $
