@@ -86,6 +86,28 @@ fn slots_rule(row: Row, slots: &[u8]) -> bool
     true
 }
 
+// Whether a field of this kind asks for a priority.
+fn needs_priority(kind: u8) -> bool
+    ensures { λ r. ⌜ r ≡ between 3 5 kind ⌝ }
+{
+    match kind {
+        // Omitted: a slot may be, no field is.
+        0 => false,
+        // Exact.
+        1 => false,
+        // Lpm.
+        2 => false,
+        // Ternary.
+        3 => true,
+        // Range.
+        4 => true,
+        // Optional.
+        5 => true,
+        // Unknown.
+        6..=255 => false,
+    }
+}
+
 // Whether a field is ternary, range or optional.
 fn has_priority(row: Row) -> bool
     ensures { λ r. ⌜ r ≡ some-of (λ f. between 3 5 (f .kind)) (rowOf row .fields) ⌝ }
@@ -97,7 +119,7 @@ fn has_priority(row: Row) -> bool
             return false;
         }
         let field = row.fields[i];
-        if 3 <= field.kind && field.kind <= 5 {
+        if needs_priority(field.kind) {
             return true;
         }
         i += 1;

@@ -62,7 +62,24 @@ impl Field {
     pub fn allowed(self) -> bool
         ensures { λ r. ⌜ r ≡ rules.fieldAllowed (fieldOf self) ⌝ }
     {
-        width_allowed(self.width) && 1 <= self.kind && self.kind <= 5
+        let kind = self.kind;
+        let wide = width_allowed(self.width);
+        match kind {
+            // Omitted: a slot may be, no field is.
+            0 => false,
+            // Exact.
+            1 => wide,
+            // Lpm.
+            2 => wide,
+            // Ternary.
+            3 => wide,
+            // Range.
+            4 => wide,
+            // Optional.
+            5 => wide,
+            // Unknown.
+            6..=255 => false,
+        }
     }
 }
 

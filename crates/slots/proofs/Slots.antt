@@ -2,15 +2,16 @@
 use Prim.Native.Nat.{ℕ, _+_, _*_, _^_, _≤_, _<_}
 use native.Mathlib.Omega.{arith}
 use native.Mathlib.Decide.{ℕ-discrete}
-use mathlib.Core.Path.{_≡_}
-use mathlib.Core.Bool.{true, false, not}
+use mathlib.Core.Path.{_≡_, refl, sym, _∙_}
+use mathlib.Core.Bool.{Bool, true, false, not, _&&_, and-true}
 use mathlib.Core.Logic.{_⊎_, ⊎-elim}
-use mathlib.Core.List.{List}
+use mathlib.Core.List.{List, [], _∷_}
 use lib.Dec.{leb, eqb}
 use borrow.Author.Tests.{le-leb, lt-leb, eq-eqb, ne-eqb}
-use Rattle.rules.specs.Bytes.{allZero}
+use Rattle.rules.specs.Bytes.{if_then_else_, allZero}
 use Rattle.rules.specs.Row.{Field}
 use Rattle.rules.specs.Value.{value, isValue, fits}
+use Rattle.rules.proofs.Tests.{clash}
 use Rattle.rules.specs.Key.{kind, value1, value2, slotFormed, slotFits, slotRule, prefixOnly, bitsWithin, lpmRule, ternaryRule, rangeRule}
 
 -- ---- the rules of the kinds, over numbers
@@ -45,80 +46,95 @@ module _ (width x y : ℕ) where
   pub bounds-above : leb x y ≡ true → eqb x 0 ≡ false → true ≡ rangeRule width x y
   bounds-above e z = rw (e, z)
 
+-- 35 zero bytes begin with kind 0
+pub not-zeros : (s : List ℕ) → (kind s ≡ 0 → ⊥) → allZero s ≡ false
+not-zeros [] n = absurd (n refl)
+not-zeros (b ∷ bs) n = rw (ne-eqb 0 b (λ e. n (sym e)))
+
+pub zeros-kind : (s : List ℕ) → allZero s ≡ true → kind s ≡ 0
+zeros-kind s z = elim (ℕ-discrete (kind s) 0) [
+  | yes o ↦ o
+  | no n ↦ clash z (not-zeros s n)
+]
+
 module _ (f : Field) (s : List ℕ) where
-  -- ---- an omitted slot: 17 asks for zeros, 18 and 19 ask nothing
+  -- ---- 17, by the field's kind
 
-  pub omitted-exact : kind s ≡ 0 → f .kind ≡ 1 → false ≡ slotFormed f s
+  pub kind-none : f .kind ≡ 0 → allZero s ≡ slotFormed f s
   unfolding slotFormed
-  omitted-exact o k = rw (eq-eqb (kind s) 0 o, eq-eqb (f .kind) 1 k)
+  kind-none k = rw k elim (ℕ-discrete (kind s) 0) [
+    | yes o ↦ rw (eq-eqb (kind s) 0 o)
+    | no n ↦ rw (ne-eqb (kind s) 0 n) (not-zeros s n)
+  ]
 
-  pub omitted-other : kind s ≡ 0 → (f .kind ≡ 1 → ⊥) → allZero s ≡ slotFormed f s
+  -- exact is not omitted
+  pub kind-exact : f .kind ≡ 1 → (eqb (kind s) (f .kind) && isValue (value1 s) && allZero (value2 s)) ≡ slotFormed f s
   unfolding slotFormed
-  omitted-other o k = rw (eq-eqb (kind s) 0 o, ne-eqb (f .kind) 1 k)
+  kind-exact k = rw k elim (ℕ-discrete (kind s) 0) [
+    | yes o ↦ rw o
+    | no n ↦ rw (ne-eqb (kind s) 0 n)
+  ]
 
-  pub omitted-fits : kind s ≡ 0 → true ≡ slotFits f s
+  -- the others are omitted, or have the values that are due; o says whether the slot is all zeros
+  module _ {o : Bool} (zeros : o ≡ allZero s) where
+    pub left-out : 1 < f .kind → o ≡ true → o ≡ slotFormed f s
+    unfolding slotFormed
+    left-out k z =
+        let none : kind s ≡ 0 = zeros-kind s (sym zeros ∙ z) in
+        zeros ∙ (rw (eq-eqb (kind s) 0 none, ne-eqb (f .kind) 1 (λ e. omega arith)))
+
+    pub kind-two : 1 < f .kind → (f .kind ≡ 5 → ⊥) → o ≡ false
+        → (eqb (kind s) (f .kind) && isValue (value1 s) && isValue (value2 s)) ≡ slotFormed f s
+    unfolding slotFormed
+    kind-two a b z = rw (ne-eqb (f .kind) 1 (λ e. omega arith), ne-eqb (f .kind) 5 b) elim (ℕ-discrete (kind s) 0) [
+      | yes e ↦ rw (sym zeros ∙ z, e, ne-eqb 0 (f .kind) (λ q. omega arith))
+      | no n ↦ rw (ne-eqb (kind s) 0 n)
+    ]
+
+    pub kind-optional : f .kind ≡ 5 → o ≡ false
+        → (eqb (kind s) (f .kind) && isValue (value1 s) && allZero (value2 s)) ≡ slotFormed f s
+    unfolding slotFormed
+    kind-optional k z = rw k elim (ℕ-discrete (kind s) 0) [
+      | yes e ↦ rw (sym zeros ∙ z, e)
+      | no n ↦ rw (ne-eqb (kind s) 0 n)
+    ]
+
+  -- ---- 18, by the field's kind
+
+  pub first-alone : (f .kind ≡ 3 → ⊥) → (f .kind ≡ 4 → ⊥)
+      → (if eqb (kind s) 0 then true else fits (f .width) (value1 s)) ≡ slotFits f s
   unfolding slotFits
-  omitted-fits o = rw (eq-eqb (kind s) 0 o)
+  first-alone a b = rw (ne-eqb (f .kind) 3 a, ne-eqb (f .kind) 4 b, and-true (fits (f .width) (value1 s)))
 
-  pub omitted-passes : kind s ≡ 0 → true ≡ slotRule f s
+  pub second-too : (f .kind ≡ 3) ⊎ (f .kind ≡ 4)
+      → (if eqb (kind s) 0 then true else fits (f .width) (value1 s) && fits (f .width) (value2 s)) ≡ slotFits f s
+  unfolding slotFits
+  second-too = ⊎-elim (λ e. rw e) (λ e. rw e)
+
+  -- ---- 19, by the field's kind
+
+  pub no-rule : (f .kind ≡ 2 → ⊥) → (f .kind ≡ 3 → ⊥) → (f .kind ≡ 4 → ⊥) → true ≡ slotRule f s
+  unfolding slotRule
+  no-rule a b d = rw (ne-eqb (f .kind) 2 a, ne-eqb (f .kind) 3 b, ne-eqb (f .kind) 4 d) (go (eqb (kind s) 0))
+    where
+      go : (o : Bool) → true ≡ (if o then true else true)
+      go true = refl
+      go false = refl
+
+  pub omitted-passes : kind s ≡ 0 → eqb (kind s) 0 ≡ slotRule f s
   unfolding slotRule
   omitted-passes o = rw (eq-eqb (kind s) 0 o)
 
-  module _ (n : kind s ≡ 0 → ⊥) where
-    -- ---- any other slot: 17
-
-    pub other-kind : (kind s ≡ f .kind → ⊥) → false ≡ slotFormed f s
-    unfolding slotFormed
-    other-kind k = rw (ne-eqb (kind s) 0 n, ne-eqb (kind s) (f .kind) k)
-
-    pub first-unformed : kind s ≡ f .kind → isValue (value1 s) ≡ false → false ≡ slotFormed f s
-    unfolding slotFormed
-    first-unformed k v = rw (ne-eqb (kind s) 0 n, eq-eqb (kind s) (f .kind) k, v)
-
-    pub one-value : kind s ≡ f .kind → isValue (value1 s) ≡ true → (f .kind ≡ 1) ⊎ (f .kind ≡ 5)
-        → allZero (value2 s) ≡ slotFormed f s
-    unfolding slotFormed
-    one-value k v one =
-        rw (ne-eqb (kind s) 0 n, eq-eqb (kind s) (f .kind) k, v) (⊎-elim (λ e. rw e) (λ e. rw e) one)
-
-    pub two-values : kind s ≡ f .kind → isValue (value1 s) ≡ true → (f .kind ≡ 1 → ⊥) → (f .kind ≡ 5 → ⊥)
-        → isValue (value2 s) ≡ slotFormed f s
-    unfolding slotFormed
-    two-values k v a b = rw (ne-eqb (kind s) 0 n, eq-eqb (kind s) (f .kind) k, v, ne-eqb (f .kind) 1 a, ne-eqb (f .kind) 5 b)
-
-    -- ---- 18
-
-    pub first-over : fits (f .width) (value1 s) ≡ false → false ≡ slotFits f s
-    unfolding slotFits
-    first-over v = rw (ne-eqb (kind s) 0 n, v)
-
-    pub second-fits : fits (f .width) (value1 s) ≡ true → 3 ≤ f .kind → f .kind < 5 → fits (f .width) (value2 s) ≡ slotFits f s
-    unfolding slotFits
-    second-fits v a b = rw (ne-eqb (kind s) 0 n, v) elim (ℕ-discrete (f .kind) 3) [
-      | yes e ↦ rw e
-      | no m ↦ (let e : f .kind ≡ 4 = omega arith in rw e)
-    ]
-
-    pub first-alone : fits (f .width) (value1 s) ≡ true → (f .kind ≡ 3 → ⊥) → (f .kind ≡ 4 → ⊥) → true ≡ slotFits f s
-    unfolding slotFits
-    first-alone v a b = rw (ne-eqb (kind s) 0 n, v, ne-eqb (f .kind) 3 a, ne-eqb (f .kind) 4 b)
-
-    -- ---- 19
-
-    pub no-rule : (f .kind ≡ 2 → ⊥) → (f .kind ≡ 3 → ⊥) → (f .kind ≡ 4 → ⊥) → true ≡ slotRule f s
+  -- of the numbers of the values of a present slot
+  module _ (n : kind s ≡ 0 → ⊥) (x y : ℕ) (first : x ≡ value (value1 s)) (second : y ≡ value (value2 s)) where
+    pub by-lpm : f .kind ≡ 2 → lpmRule (f .width) x y ≡ slotRule f s
     unfolding slotRule
-    no-rule a b d = rw (ne-eqb (kind s) 0 n, ne-eqb (f .kind) 2 a, ne-eqb (f .kind) 3 b, ne-eqb (f .kind) 4 d)
+    by-lpm k = rw (ne-eqb (kind s) 0 n, k, first, second)
 
-    -- of the numbers of its values
-    module _ (x y : ℕ) (first : x ≡ value (value1 s)) (second : y ≡ value (value2 s)) where
-      pub by-lpm : f .kind ≡ 2 → lpmRule (f .width) x y ≡ slotRule f s
-      unfolding slotRule
-      by-lpm k = rw (ne-eqb (kind s) 0 n, k, first, second)
+    pub by-ternary : f .kind ≡ 3 → ternaryRule x y ≡ slotRule f s
+    unfolding slotRule
+    by-ternary k = rw (ne-eqb (kind s) 0 n, k, first, second)
 
-      pub by-ternary : f .kind ≡ 3 → ternaryRule x y ≡ slotRule f s
-      unfolding slotRule
-      by-ternary k = rw (ne-eqb (kind s) 0 n, k, first, second)
-
-      pub by-range : f .kind ≡ 4 → rangeRule (f .width) x y ≡ slotRule f s
-      unfolding slotRule
-      by-range k = rw (ne-eqb (kind s) 0 n, k, first, second)
+    pub by-range : f .kind ≡ 4 → rangeRule (f .width) x y ≡ slotRule f s
+    unfolding slotRule
+    by-range k = rw (ne-eqb (kind s) 0 n, k, first, second)

@@ -1,11 +1,47 @@
-// One slot of a key against its field: 17, 18 and 19 (document 01, "Configuration and entries").
+// One slot of a key against its field: 17, 18 and 19, each by the field's kind (document 01, "Configuration and entries").
 ghost use mathlib.Core.Path.{_≡_};
+ghost use mathlib.Core.Bool.{true, _&&_};
 ghost use lib.ListN.{length};
-ghost use Rattle.rules.specs.Key.{slotFormed, slotFits, lpmRule, ternaryRule, rangeRule, slotRule};
+ghost use lib.Dec.{eqb};
+ghost use Rattle.rules.specs.Bytes.{if_then_else_, allZero};
+ghost use Rattle.rules.specs.Value.{value, isValue, fits as below};
+ghost use Rattle.rules.specs.Key.{omitted as none, kind as kindOf, value1, value2, slotFormed, slotFits, lpmRule, ternaryRule, rangeRule, slotRule};
 ghost use Rattle.numbers.specs.Whole.{wholeOf};
 ghost use Rattle.rows.specs.Meaning.{fieldOf};
 use numbers::Number;
 use rows::Field;
+
+// An omitted slot is 35 zero bytes.
+fn omitted(slot: &[u8]) -> bool
+    requires { ⌜ length (now slot) ≡ 35 ⌝ }
+    ensures { λ r. ⌜ r ≡ allZero (now (slot .entry)) ⌝ }
+{
+    slot[0] == 0 && buffers::all_zero(slot)
+}
+
+// A present slot has its field's kind and a first value.
+fn present(kind: u8, slot: &[u8]) -> bool
+    requires { ⌜ length (now slot) ≡ 35 ⌝ }
+    ensures { λ r. ⌜ r ≡ (eqb (kindOf (now (slot .entry))) kind && isValue (value1 (now (slot .entry)))) ⌝ }
+{
+    slot[0] == kind && values::formed(&slot[1..18])
+}
+
+// Present with one value: the second is unused, 17 zero bytes.
+fn one_value(kind: u8, slot: &[u8]) -> bool
+    requires { ⌜ length (now slot) ≡ 35 ⌝ }
+    ensures { λ r. ⌜ r ≡ (eqb (kindOf (now (slot .entry))) kind && isValue (value1 (now (slot .entry))) && allZero (value2 (now (slot .entry)))) ⌝ }
+{
+    present(kind, slot) && buffers::all_zero(&slot[18..35])
+}
+
+// Present with two values.
+fn two_values(kind: u8, slot: &[u8]) -> bool
+    requires { ⌜ length (now slot) ≡ 35 ⌝ }
+    ensures { λ r. ⌜ r ≡ (eqb (kindOf (now (slot .entry))) kind && isValue (value1 (now (slot .entry))) && isValue (value2 (now (slot .entry)))) ⌝ }
+{
+    present(kind, slot) && values::formed(&slot[18..35])
+}
 
 // 17. A slot's kind is its field's kind or 0, which exact does not allow; the second value is unused for exact and optional.
 pub fn slot_formed(field: Field, slot: &[u8]) -> bool
@@ -13,22 +49,38 @@ pub fn slot_formed(field: Field, slot: &[u8]) -> bool
     ensures { λ r. ⌜ r ≡ slotFormed (fieldOf field) (now (slot .entry)) ⌝ }
 {
     let kind = field.kind;
-    if slot[0] == 0 {
-        return match kind {
-            1 => false,
-            0 | 2..=255 => buffers::all_zero(slot),
-        };
-    }
-    if slot[0] != kind {
-        return false;
-    }
-    if !values::formed(&slot[1..18]) {
-        return false;
-    }
     match kind {
-        1 | 5 => buffers::all_zero(&slot[18..35]),
-        0 | 2..=4 | 6..=255 => values::formed(&slot[18..35]),
+        // No field is of the kind that omits a slot.
+        0 => omitted(slot),
+        // Exact: present.
+        1 => one_value(kind, slot),
+        // Lpm: omitted, or a value and a prefix length.
+        2 => omitted(slot) || two_values(kind, slot),
+        // Ternary: omitted, or a value and a mask.
+        3 => omitted(slot) || two_values(kind, slot),
+        // Range: omitted, or two bounds.
+        4 => omitted(slot) || two_values(kind, slot),
+        // Optional: omitted or present.
+        5 => omitted(slot) || one_value(kind, slot),
+        // Unknown: no field is, by 14.
+        6..=255 => omitted(slot) || two_values(kind, slot),
     }
+}
+
+// The first value, where the slot is present, is below 2 to the width.
+fn first_fits(width: u8, slot: &[u8]) -> bool
+    requires { ⌜ length (now slot) ≡ 35 ⌝ }
+    ensures { λ r. ⌜ r ≡ (if eqb (kindOf (now (slot .entry))) none then true else below width (value1 (now (slot .entry)))) ⌝ }
+{
+    slot[0] == 0 || values::fits(&slot[1..18], width)
+}
+
+// Both values are.
+fn both_fit(width: u8, slot: &[u8]) -> bool
+    requires { ⌜ length (now slot) ≡ 35 ⌝ }
+    ensures { λ r. ⌜ r ≡ (if eqb (kindOf (now (slot .entry))) none then true else below width (value1 (now (slot .entry))) && below width (value2 (now (slot .entry)))) ⌝ }
+{
+    slot[0] == 0 || values::fits(&slot[1..18], width) && values::fits(&slot[18..35], width)
 }
 
 // 18. Every value but a prefix length is below 2 to the field's width.
@@ -38,15 +90,21 @@ pub fn slot_fits(field: Field, slot: &[u8]) -> bool
 {
     let kind = field.kind;
     let width = field.width;
-    if slot[0] == 0 {
-        return true;
-    }
-    if !values::fits(&slot[1..18], width) {
-        return false;
-    }
     match kind {
-        3 | 4 => values::fits(&slot[18..35], width),
-        0..=2 | 5..=255 => true,
+        // No field is of the kind that omits a slot.
+        0 => first_fits(width, slot),
+        // Exact: one value.
+        1 => first_fits(width, slot),
+        // Lpm: the second is a prefix length.
+        2 => first_fits(width, slot),
+        // Ternary: the second is a mask.
+        3 => both_fit(width, slot),
+        // Range: two bounds.
+        4 => both_fit(width, slot),
+        // Optional: one value.
+        5 => first_fits(width, slot),
+        // Unknown: no field is, by 14.
+        6..=255 => first_fits(width, slot),
     }
 }
 
@@ -92,22 +150,43 @@ fn range_rule(width: u8, x: Number, y: Number) -> bool
     true
 }
 
-// 19. The rules of the kinds.
+// The number of a slot's first value.
+fn first(slot: &[u8]) -> Number
+    requires { ⌜ length (now slot) ≡ 35 ⌝ }
+    ensures { λ r. ⌜ wholeOf r ≡ value (value1 (now (slot .entry))) ⌝ }
+{
+    Number::of_value(&slot[1..18])
+}
+
+// The number of its second.
+fn second(slot: &[u8]) -> Number
+    requires { ⌜ length (now slot) ≡ 35 ⌝ }
+    ensures { λ r. ⌜ wholeOf r ≡ value (value2 (now (slot .entry))) ⌝ }
+{
+    Number::of_value(&slot[18..35])
+}
+
+// 19. The rules of the kinds, of a slot that is present.
 pub fn slot_rule(field: Field, slot: &[u8]) -> bool
     requires { ⌜ length (now slot) ≡ 35 ⌝ }
     ensures { λ r. ⌜ r ≡ slotRule (fieldOf field) (now (slot .entry)) ⌝ }
 {
     let kind = field.kind;
     let width = field.width;
-    if slot[0] == 0 {
-        return true;
-    }
-    let x = Number::of_value(&slot[1..18]);
-    let y = Number::of_value(&slot[18..35]);
     match kind {
-        2 => lpm_rule(width, x, y),
-        3 => ternary_rule(x, y),
-        4 => range_rule(width, x, y),
-        0 | 1 | 5..=255 => true,
+        // No field is of the kind that omits a slot.
+        0 => true,
+        // Exact: no rule more.
+        1 => true,
+        // Lpm.
+        2 => slot[0] == 0 || lpm_rule(width, first(slot), second(slot)),
+        // Ternary.
+        3 => slot[0] == 0 || ternary_rule(first(slot), second(slot)),
+        // Range.
+        4 => slot[0] == 0 || range_rule(width, first(slot), second(slot)),
+        // Optional: no rule more.
+        5 => true,
+        // Unknown: no field is, by 14.
+        6..=255 => true,
     }
 }

@@ -2,15 +2,11 @@
 use Prim.Native.Nat.{ℕ, _+_, _-_, min, _≤_, _<_}
 use native.Mathlib.Omega.{arith}
 use mathlib.Core.Path.{_≡_, refl, sym, ap, _∙_}
-use mathlib.Core.Bool.{Bool, true, false, _||_, and-false}
-use mathlib.Core.Logic.{⊎-elim}
+use mathlib.Core.Bool.{Bool, true, false, _||_}
 use lib.ListN.{length, drop, getD}
-use lib.Dec.{leb}
 use borrow.Author.Needs.{needs}
-use borrow.Author.Tests.{le-leb, lt-leb}
 use Rattle.rules.specs.Bytes.{between, some-of}
 use Rattle.rules.specs.Row as rules
-use Rattle.rules.proofs.Tests.{both-true}
 use Rattle.rows.specs.Meaning.{rowOf}
 use Rattle.rules.proofs.Lists.{length-mapped}
 use Rattle.checks.proofs.Alongside.{noField, fields-next, fields-none}
@@ -30,6 +26,10 @@ abbrev μ-loop : tie.MeasureT-loop
 size : (c : tie.At-loop Inv-loop μ-loop) → length (c .before .args .t1 .fields) ≡ 4
 size c = search (needs, length-mapped)
 
+-- the kind of the field at the index
+abbrev kind : tie.At-loop Inv-loop μ-loop → ℕ
+kind c = getD (c .before .args .t1 .fields) (c .loop .i) noField .kind
+
 -- no field is left
 ended : (c : tie.At-loop Inv-loop μ-loop) → min (c .before .args .t1 .«field_count») 4 ≤ c .loop .i
     → false ≡ some-of prior (rowOf (c .before .args .t1) .fields)
@@ -41,7 +41,7 @@ ended c h =
 next : (c : tie.At-loop Inv-loop μ-loop) → c .loop .i < c .before .args .t1 .«field_count» → c .loop .i < 4 →
     let row = c .before .args .t1 in
     some-of prior (rowOf row .fields)
-    ≡ (between 3 5 (getD (row .fields) (c .loop .i) noField .kind) || some-of prior (drop (c .loop .i + 1) (rowOf row .fields)))
+    ≡ (between 3 5 (kind c) || some-of prior (drop (c .loop .i + 1) (rowOf row .fields)))
 next c h g =
     let a = c .before .args in
     c .loop .inv ∙ ap (some-of prior) (fields-next (a .t1) (c .loop .i) (size c) h g)
@@ -61,11 +61,13 @@ mul-field c = search needs
 element-copy-out-field : tie.Need-element-copy-out-field Inv-loop μ-loop
 element-copy-out-field c = search needs
 
+needs-priority-requires : tie.Need-needs-priority-requires Inv-loop μ-loop
+needs-priority-requires c κs = search needs
+
 returns-2 : tie.Need-returns-2 Inv-loop μ-loop
 returns-2 c =
-    let l = c .before .before .before .before .before .before .before in
-    let k : ℕ = getD (l .before .args .t1 .fields) (l .loop .i) noField .kind in
-    let hit : between 3 5 k ≡ true = both-true (le-leb 3 k (c .before .before .if2 .taken)) (c .if3 .taken) in
+    let l = c .before .before .before .before .before in
+    let hit : between 3 5 (kind l) ≡ true = sym (c .before .needs-priority .ensures) ∙ c .if2 .taken in
     sym (rw hit at (next l (omega arith) (omega arith)))
 
 add-i : tie.Need-add-i Inv-loop μ-loop
@@ -77,9 +79,7 @@ loop-less c = search needs
 loop-again : tie.Need-loop-again Inv-loop μ-loop
 loop-again c =
     let l = c .before .before .before .before .before in
-    let k : ℕ = getD (l .before .args .t1 .fields) (l .loop .i) noField .kind in
-    let miss : between 3 5 k ≡ false =
-    ⊎-elim (λ w. rw (w .2 .left) (and-false (leb 3 k))) (λ w. rw (lt-leb 3 k (w .left))) (c .if2 .came) in
+    let miss : between 3 5 (kind l) ≡ false = sym (c .before .needs-priority .ensures) ∙ c .if2 .left in
     rw miss at (next l (omega arith) (omega arith))
 
 returns-3 : tie.Need-returns-3 Inv-loop μ-loop
@@ -96,6 +96,7 @@ has-priority-spec =
     returns
     mul-field
     element-copy-out-field
+    needs-priority-requires
     returns-2
     add-i
     loop-less

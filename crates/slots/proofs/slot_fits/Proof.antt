@@ -1,102 +1,94 @@
--- Right because it is the tests of `slotFits`, in their order. Assumes nothing.
+-- Right because each arm is what `slotFits` comes to for a field of its kind. Assumes nothing.
 use Prim.Native.Nat.{ℕ}
 use native.Mathlib.Omega.{arith}
-use mathlib.Core.Path.{_≡_, sym, _∙_}
-use mathlib.Core.Bool.{true}
+use mathlib.Core.Path.{_∙_}
 use mathlib.Core.List.{List}
 use denote.Ref.{now}
-use borrow.Author.Tests.{not-true, not-false}
 use Rattle.rules.specs.Row.{Field}
-use Rattle.rules.specs.Value.{fits}
-use Rattle.rules.specs.Key.{kind, value1}
 use Rattle.rows.specs.Meaning.{fieldOf}
-use Rattle.slots.proofs.Slots.{omitted-fits, first-over, second-fits, first-alone}
+use mathlib.Core.Logic.{inl, inr}
+use Rattle.slots.proofs.Slots.{first-alone, second-too}
 use borrow.Author.Needs.{needs}
 use Rattle.slots.proofs.slot_fits.Statement.{statement}
 use Rattle.slots.proofs.slot_fits.Tie as tie
 
--- where the first value has been tested
-abbrev F : tie.After-fits2 → Field
-F d = fieldOf (d .before .before .before .before .before .args .field)
+abbrev F : tie.Start → Field
+F t = fieldOf (t .args .field)
 
-abbrev S : tie.After-fits2 → List ℕ
-S d = now (d .before .before .before .before .before .args .slot)
+abbrev S : tie.Start → List ℕ
+S t = now (t .args .slot)
 
-present : (d : tie.After-fits2) → kind (S d) ≡ 0 → ⊥
-present d = d .before .before .if1 .left
+first-fits-requires : tie.Need-first-fits-requires
+first-fits-requires c κs = search needs
 
--- and fits
-fitting : (e : tie.Else2) → fits (F (e .before) .width) (value1 (S (e .before))) ≡ true
-fitting e = sym (e .before .fits2 .ensures) ∙ not-false (e .before .fits2 .result) (e .if2 .left)
+first-fits-requires-2 : tie.Need-first-fits-requires-2
+first-fits-requires-2 c κs = search needs
 
-shared-slice-read-if1 : tie.Need-shared-slice-read-if1
-shared-slice-read-if1 c = search needs
+first-fits-requires-3 : tie.Need-first-fits-requires-3
+first-fits-requires-3 c κs = search needs
+
+both-fit-requires : tie.Need-both-fit-requires
+both-fit-requires c κs = search needs
+
+both-fit-requires-2 : tie.Need-both-fit-requires-2
+both-fit-requires-2 c κs = search needs
+
+first-fits-requires-4 : tie.Need-first-fits-requires-4
+first-fits-requires-4 c κs = search needs
+
+first-fits-requires-5 : tie.Need-first-fits-requires-5
+first-fits-requires-5 c κs = search needs
 
 returns : tie.Need-returns
 returns c =
-    let a = c .before .before .before .args in
-    omitted-fits (fieldOf (a .field)) (now (a .slot)) (c .if1 .taken)
-
-sub-fits : tie.Need-sub-fits
-sub-fits c = search needs
-
-part-fits-start : tie.Need-part-fits-start
-part-fits-start c = search needs
-
-part-fits-end : tie.Need-part-fits-end
-part-fits-end c = search needs
-
-fits-requires : tie.Need-fits-requires
-fits-requires c κs = search needs
+    let t = c .before .before .before in
+    c .first-fits .ensures ∙ first-alone (F t) (S t) (λ e. omega arith) (λ e. omega arith)
 
 returns-2 : tie.Need-returns-2
 returns-2 c =
-    let d = c .before in
-    first-over (F d) (S d) (present d) (sym (d .fits2 .ensures) ∙ not-true (d .fits2 .result) (c .if2 .taken))
-
-sub-fits-2 : tie.Need-sub-fits-2
-sub-fits-2 c = search needs
-
-part-fits-start-2 : tie.Need-part-fits-start-2
-part-fits-start-2 c = search needs
-
-part-fits-end-2 : tie.Need-part-fits-end-2
-part-fits-end-2 c = search needs
-
-fits-requires-2 : tie.Need-fits-requires-2
-fits-requires-2 c κs = search needs
+    let t = c .before .before .before in
+    c .first-fits2 .ensures ∙ first-alone (F t) (S t) (λ e. omega arith) (λ e. omega arith)
 
 returns-3 : tie.Need-returns-3
 returns-3 c =
-    let e = c .before .before .before .before in
-    let d = e .before in
-    c .fits3 .ensures ∙ second-fits (F d) (S d) (present d) (fitting e) (omega arith) (omega arith)
+    let t = c .before .before .before in
+    c .first-fits3 .ensures ∙ first-alone (F t) (S t) (λ e. omega arith) (λ e. omega arith)
 
 returns-4 : tie.Need-returns-4
 returns-4 c =
-    let d = c .before .before in
-    first-alone (F d) (S d) (present d) (fitting (c .before)) (λ k. omega arith) (λ k. omega arith)
+    let t = c .before .before .before in
+    c .both-fit .ensures ∙ second-too (F t) (S t) (inl (c .before .match .keys4))
 
 returns-5 : tie.Need-returns-5
 returns-5 c =
-    let e = c .before .before in
-    first-alone (F (e .before)) (S (e .before)) (present (e .before)) (fitting e) (λ k. omega arith) (λ k. omega arith)
+    let t = c .before .before .before in
+    c .both-fit2 .ensures ∙ second-too (F t) (S t) (inr (c .before .match .keys5))
+
+returns-6 : tie.Need-returns-6
+returns-6 c =
+    let t = c .before .before .before in
+    c .first-fits4 .ensures ∙ first-alone (F t) (S t) (λ e. omega arith) (λ e. omega arith)
+
+returns-7 : tie.Need-returns-7
+returns-7 c =
+    let t = c .before .before .before in
+    c .first-fits5 .ensures ∙ first-alone (F t) (S t) (λ e. omega arith) (λ e. omega arith)
 
 pub slot-fits-spec : {M : Type 1} → statement M
 slot-fits-spec =
     tie.close
     (tie.spec
-    shared-slice-read-if1
+    first-fits-requires
+    first-fits-requires-2
+    first-fits-requires-3
+    both-fit-requires
+    both-fit-requires-2
+    first-fits-requires-4
+    first-fits-requires-5
     returns
-    sub-fits
-    part-fits-start
-    part-fits-end
-    fits-requires
     returns-2
-    sub-fits-2
-    part-fits-start-2
-    part-fits-end-2
-    fits-requires-2
     returns-3
     returns-4
-    returns-5)
+    returns-5
+    returns-6
+    returns-7)
