@@ -13,12 +13,11 @@ use borrow.Author.Tests.{eqb-true, ne-eqb, ltb-true, ltb-false, not-false}
 use Rattle.rules.specs.Bytes.{if_then_else_, between}
 use Rattle.rules.specs.Reason.{first}
 use Rattle.rules.specs.Frame.{Head}
-use Rattle.rules.specs.Streams.{Stream, closed, unbound, bound, Streams, streamAt, markOf, isOpen, primary, notification, notifyAll, become, openStream, closeStream, is, leaving, closeRecords, heldElsewhere, orderOf, arbitrateReason, binds, sameOption, samePair, bindRecords, arbitrate, Outcome}
+use Rattle.rules.specs.Streams.{Stream, closed, unbound, bound, Streams, streamAt, markOf, isOpen, primary, notifyAll, become, openStream, closeStream, is, leaving, closeRecords, heldElsewhere, orderOf, arbitrateReason, binds, sameOption, samePair, bindRecords, arbitrate, Outcome}
 use Rattle.rules.proofs.Tests.{clash, or-false, and-true}
 use Rattle.rules.proofs.Orders.{first-clear}
 use Rattle.arbitration.specs.Meaning.{recordsOf, leftAs, closedUnder}
 use Rattle.arbitration.specs.declared.Notify.{Notify}
-use Rattle.arbitration.specs.declared.Notify.the-variants.{Only, All}
 
 -- equal events notify alike
 pub told-as : (n : Notify) {o o′ : Outcome} → o ≡ o′ → recordsOf n (o .after) ≡ o .records → recordsOf n (o′ .after) ≡ o′ .records
@@ -152,22 +151,10 @@ module _ (e : Streams) (s : ℕ) where
     unfolding arbitrate
     arbitrate-closes {r} p four zero = rw (← p, ne-eqb r 0 zero, closing r p four zero)
 
-    -- e′ is the record with the stream bound, and the pair of the role is the same or not
-    pub arbitrate-binds : {e′ : Streams} → e′ ≡ binds e s h → 0 ≡ arbitrateReason device e s h
-        → {b : Bool} → b ≡ samePair e (binds e s h) (h .role) → {n : Notify} → n ≡ (if b then Only (h .role) s else All (h .role))
-        → record { after = e′; reason = 0; records = recordsOf n e′ } ≡ arbitrate device e s h
-    unfolding arbitrate bindRecords recordsOf
-    arbitrate-binds d p {b} q m = rw (d, m, ← p, ← q) (go b)
-      where
-        go : (b : Bool) → _≡_ {A = Outcome}
-            (record { after = binds e s h; reason = 0; records = recordsOf (if b then Only (h .role) s else All (h .role)) (binds e s h) })
-            (record {
-              after = binds e s h;
-              reason = 0;
-              records = if b then notification (binds e s h) (h .role) s ∷ [] else notifyAll (binds e s h) (h .role);
-            })
-        go true = refl
-        go false = refl
+    pub arbitrate-binds : 0 ≡ arbitrateReason device e s h
+        → record { after = binds e s h; reason = 0; records = bindRecords e (binds e s h) s (h .role) } ≡ arbitrate device e s h
+    unfolding arbitrate
+    arbitrate-binds p = rw (← p)
 
     -- e′ is the record that it leaves, and n tells who is to be notified
     pub arbitrate-leaves : (n : Notify) {r : ℕ} {e′ : Streams} → e′ ≡ arbitrate device e s h .after → r ≡ arbitrateReason device e s h

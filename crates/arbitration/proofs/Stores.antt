@@ -119,7 +119,7 @@ module _ (self : Streams) (size : length (self .streams) ≡ 32) (s : ℕ) where
               let w = heard-within e s device (headOf h) (sized self size) er (λ q. omega arith) in
               rw (mod-eq-of-lt w)
               (bound-stored self s h (set (self .marks) (h .role % 8) v) x ex (raised-at (self .marks) marks (h .role) (h .id) v ev))
-              ∙ ap (λ (o : rules.Outcome). o .after) (arbitrate-binds e s device (headOf h) refl (sym zero ∙ er) refl refl)
+              ∙ ap (λ (o : rules.Outcome). o .after) (arbitrate-binds e s device (headOf h) (sym zero ∙ er))
           go false z nz true y ny ex ev =
               mark-same ev (put-same ex) ∙ ap (λ (o : rules.Outcome). o .after) (arbitrate-refused e s device (headOf h) (sym (y refl) ∙ er))
           go false z nz false y ny ex ev =

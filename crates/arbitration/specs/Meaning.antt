@@ -60,6 +60,11 @@ SamePairOf t s h seen =
     (e : rules.Streams) → s < 32 → Shows seen e s (h .role) (idOf (h .id)) → seen .clash ≡ false
     → t ≡ rules.samePair e (rules.binds e s (headOf h)) (h .role)
 
+-- n tells who is to be notified of an accepted ARBITRATE of stream s: of every record before it and after it, where t says whether
+-- the pair of role r is the same in both
+abbrev pub ToldOf : Notify → Bool → ℕ → ℕ → Type 0
+ToldOf n t r s = (e e′ : rules.Streams) → t ≡ rules.samePair e e′ r → recordsOf n e′ ≡ rules.bindRecords e e′ s r
+
 -- n tells who is to be notified of an ARBITRATE of stream s in the record e, on every device on which reason is its reason
 abbrev pub HeardOf : Notify → ℕ → rules.Streams → ℕ → frame.Head → Type 0
 HeardOf n reason e s h =

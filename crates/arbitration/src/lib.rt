@@ -3,11 +3,11 @@
 ghost use mathlib.Core.Path.{_≡_};
 ghost use Prim.Native.Nat.{_≤_};
 ghost use lib.ListN.{length, take};
-ghost use Rattle.rules.specs.Bytes.{if_then_else_, concat};
+ghost use Rattle.rules.specs.Bytes.{concat};
 ghost use Rattle.rules.specs.Streams as rules;
 ghost use Rattle.buffers.specs.Splice.{splice};
 ghost use Rattle.election.specs.Meaning.{idOf, headOf, bindingOf, primaryOf};
-ghost use Rattle.arbitration.specs.Meaning.{streamsOf, recordsOf, outcomeOf, Shows, ReasonOf, SamePairOf, HeardOf};
+ghost use Rattle.arbitration.specs.Meaning.{streamsOf, recordsOf, outcomeOf, Shows, ReasonOf, SamePairOf, ToldOf, HeardOf};
 use election::Binding;
 use election::ElectionId;
 use election::Head;
@@ -111,7 +111,7 @@ fn same_pair(stream: u8, head: Head, seen: Survey) -> bool
 
 // Who is to be notified of an accepted ARBITRATE: the sender where that pair is the same, otherwise all streams of the role.
 fn told(role: u8, stream: u8, same: bool) -> Notify
-    ensures { λ r. ⌜ r ≡ (if same then Notify.Only role stream else Notify.All role) ⌝ }
+    ensures { λ r. ⌜ ToldOf r same role stream ⌝ }
 {
     if same {
         return Notify::Only(role, stream);

@@ -1,5 +1,5 @@
 -- Right because each reason fixes what the rules' ARBITRATE leaves, and the walk showed what the sender is. Assumes nothing.
-use mathlib.Core.Path.{refl, sym, ap, _∙_}
+use mathlib.Core.Path.{sym, ap, _∙_}
 use borrow.Author.Needs.{needs}
 use Rattle.rules.specs.Streams as rules
 use Rattle.election.specs.Meaning.{headOf}
@@ -31,7 +31,8 @@ returns-2 c = λ device p.
     let q = sym (t .if2 .taken) ∙ p in
     let i = heard-within e (a .stream) device h (w .streams) p (l .if1 .left) in
     let f = w .clash ∙ accepted-alone e (a .stream) device h q in
-    told-as (c .told .result) (arbitrate-binds e (a .stream) device h refl q (c .before .same-pair .ensures e i w f) (c .told .ensures)) refl
+    told-as (c .told .result) (arbitrate-binds e (a .stream) device h q)
+    (c .told .ensures e (rules.binds e (a .stream) h) (c .before .same-pair .ensures e i w f))
 
 leaving-requires : tie.Need-leaving-requires
 leaving-requires c κs = c .before .before .pre .own
