@@ -11,6 +11,7 @@ pub mod Formed
 pub mod Streams
 pub mod Shortest
 pub mod Numbers
+pub mod Checked
 pub mod Tables
 pub mod Sound
 pub mod Refused

@@ -1,8 +1,8 @@
--- No update breaks what is sound of the entries: an INSERT passes 15, 20, 22 and 24, a MODIFY keeps every key, a DELETE only
--- takes away. Assumes nothing.
+-- No update breaks what is sound of the entries: an INSERT passes 15, 20, 22 and 24, a MODIFY keeps every key, both store what
+-- passed 17 to 19, and a DELETE only takes away. Assumes nothing.
 use Prim.Native.Nat.{ℕ, suc, _+_, _≤_, _<_}
 use mathlib.Core.Path.{_≡_, refl, sym, _∙_, ap}
-use mathlib.Core.Bool.{Bool, true, false, _||_, not, false≢true}
+use mathlib.Core.Bool.{Bool, true, false, _&&_, _||_, not, false≢true}
 use mathlib.Core.List.{List, [], _∷_, _++_, map}
 use native.Mathlib.Omega.{arith}
 use lib.Dec.{eqb, leb}
@@ -11,14 +11,15 @@ use borrow.Author.Tests.{eqb-true, eqb-false, eq-eqb, ne-eqb, leb-false, not-fal
 use Rattle.rules.specs.Bytes.{if_then_else_, keep, every, some-of, distinct}
 use Rattle.rules.specs.Frame.{Update}
 use Rattle.rules.specs.Row.{Row, known, rowFor}
-use Rattle.rules.specs.Key.{tableOf, keyOf, hasKey, shortKey}
-use Rattle.rules.specs.Entry.{shortEntry}
+use Rattle.rules.specs.Key.{tableOf, keyFormed, keyFits, keyRules, keyOf, hasKey, shortKey}
+use Rattle.rules.specs.Entry.{actionFormed, actionFits, passes, shortEntry}
 use Rattle.rules.specs.Update.{Tables, noEntries, inTable, stored, held, isInsert, isModify, judge, judgeBy, perform, apply, batch}
 use Rattle.rules.specs.Sound.{Stored, EveryStored, Distinct, Within, SoundTables}
-use Rattle.rules.proofs.Tests.{or-false, and-true, and-false, same-true, same-sym}
+use Rattle.rules.proofs.Tests.{or-false, and-true, and-false, both-true, same-true, same-sym}
 use Rattle.rules.proofs.Orders.{first-clear}
 use Rattle.rules.proofs.Formed.{Whole}
 use Rattle.rules.proofs.Shortest.{entry-length, entry-again, key-of-short, table-of-short, table-of-key}
+use Rattle.rules.proofs.Checked.{short-passes}
 
 abbrev of : List (List ℕ) → Tables
 of es = record { entries = es }
@@ -109,11 +110,21 @@ stored-snoc (e ∷ es) x h s = (h .0, stored-snoc es x (h .1) s)
 short-stored : (e : List ℕ) → length e ≡ 220 → Stored (shortEntry e)
 short-stored e h = record { size = entry-length e h; shortest = entry-again e h }
 
--- ---- each entry's table is known
+-- ---- each entry passes a test: its table is known, and it passes 17 to 19
 
 every-map : (p : List ℕ → Bool) (f : List ℕ → List ℕ) → ((x : List ℕ) → p (f x) ≡ p x) → (es : List (List ℕ)) → every p (map f es) ≡ every p es
 every-map p f h [] = refl
 every-map p f h (x ∷ es) = rw (h x, every-map p f h es)
+
+every-revised : (p : List ℕ → Bool) (e : List ℕ) (es : List (List ℕ)) → p e ≡ true → every p es ≡ true → every p (map (revised e) es) ≡ true
+every-revised p e [] q h = refl
+every-revised p e (x ∷ es) q h =
+    let w = and-true (p x) (every p es) h in
+    both-true (go (hasKey (keyOf e) x) (w .0)) (every-revised p e es q (w .1))
+  where
+    go : (b : Bool) → p x ≡ true → p (if b then e else x) ≡ true
+    go true w = q
+    go false w = w
 
 every-keep : (p q : List ℕ → Bool) (es : List (List ℕ)) → every p es ≡ true → every p (keep q es) ≡ true
 every-keep p q [] h = refl
@@ -237,6 +248,23 @@ row-table id (r ∷ rows) k = go (eqb (r .table) id) refl k (λ h. row-table id 
 
 -- ---- one update, and a batch
 
+-- an update that is refused under no reason passed 17 to 19, and what is stored of it passes them
+passed : (rows : List Row) (role : ℕ) (t : Tables) (u : Update) → judge rows role t u ≡ 0
+    → passes (rowFor (tableOf (u .entry)) rows) (u .entry) ≡ true
+unfolding judge judgeBy passes
+passed rows role t u j =
+    let e : List ℕ = u .entry in
+    let row : Row = rowFor (tableOf e) rows in
+    let c = first-clear _ refl j .1 .1 .1 in
+    let formed : keyFormed row e && actionFormed row e ≡ true = not-false _ (c .0) in
+    let fit : keyFits row e && actionFits row e ≡ true = not-false _ (c .1 .0) in
+    let rules : keyRules row e ≡ true = not-false _ (c .1 .1 .0) in
+    both-true (both-true formed fit) rules
+
+short-passed : (rows : List Row) (role : ℕ) (t : Tables) (u : Update) → length (u .entry) ≡ 220 → judge rows role t u ≡ 0
+    → passes (rowFor (tableOf (shortEntry (u .entry))) rows) (shortEntry (u .entry)) ≡ true
+short-passed rows role t u l j = rw (table-of-short (u .entry) l) (short-passes _ (u .entry) l (passed rows role t u j))
+
 module _ (rows : List Row) (apart : distinct (map (λ (r : Row). r .table) rows) ≡ true) where
   -- an INSERT that is refused under no reason
   insert-sound : (role : ℕ) (t : Tables) (u : Update) → length (u .entry) ≡ 220 → judge rows role t u ≡ 0 → isInsert (u .type) ≡ true
@@ -258,16 +286,19 @@ module _ (rows : List Row) (apart : distinct (map (λ (r : Row). r .table) rows)
         known-tables = every-snoc _ (t .entries) (shortEntry e) (ok .known-tables) (rw in-table has-row);
         within = within-snoc rows (t .entries) (shortEntry e) apart (rw in-table has-row)
             (rw in-table (rw (row-table (tableOf e) rows has-row) at room)) (ok .within);
+        checked = every-snoc _ (t .entries) (shortEntry e) (ok .checked) (short-passed rows role t u l j);
       }
 
-  modify-sound : (t : Tables) (e : List ℕ) → Stored e → SoundTables rows t → SoundTables rows (of (map (revised e) (t .entries)))
+  modify-sound : (t : Tables) (e : List ℕ) → Stored e → passes (rowFor (tableOf e) rows) e ≡ true → SoundTables rows t
+      → SoundTables rows (of (map (revised e) (t .entries)))
   unfolding held
-  modify-sound t e s ok = record {
+  modify-sound t e s q ok = record {
     few = omega (arith, length-map (t .entries) (revised e), ok .few);
     shortest = stored-map e (t .entries) s (ok .shortest);
     distinct = distinct-map e (t .entries) (ok .distinct);
     known-tables = every-map _ (revised e) (λ x. ap (λ id. known id rows) (table-revised e x)) (t .entries) ∙ ok .known-tables;
     within = within-less rows t _ (λ id. omega (arith, count-map (inTable id) (revised e) (λ x. ap (λ i. eqb i id) (table-revised e x)) (t .entries))) (ok .within);
+    checked = every-revised _ e (t .entries) q (ok .checked);
   }
 
   delete-sound : (t : Tables) (p : List ℕ → Bool) → SoundTables rows t → SoundTables rows (of (keep p (t .entries)))
@@ -278,6 +309,7 @@ module _ (rows : List Row) (apart : distinct (map (λ (r : Row). r .table) rows)
     distinct = distinct-keep p (t .entries) (ok .distinct);
     known-tables = every-keep _ p (t .entries) (ok .known-tables);
     within = within-less rows t _ (λ id. count-keep (inTable id) p (t .entries)) (ok .within);
+    checked = every-keep _ p (t .entries) (ok .checked);
   }
 
   pub apply-sound : (role : ℕ) (t : Tables) (u : Update) → length (u .entry) ≡ 220 → SoundTables rows t → SoundTables rows (apply (judge rows role t u) u t)
@@ -295,7 +327,7 @@ module _ (rows : List Row) (apart : distinct (map (λ (r : Row). r .table) rows)
                 keep (λ (old : List ℕ). not (hasKey (keyOf e) old)) (t .entries);
           } else t)
       go true true c p q = insert-sound role t u l (eqb-true _ _ p) q ok
-      go true false true p q = modify-sound t e (short-stored (u .entry) l) ok
+      go true false true p q = modify-sound t e (short-stored (u .entry) l) (short-passed rows role t u l (eqb-true _ _ p)) ok
       go true false false p q = delete-sound t _ ok
       go false b c p q = ok
 
@@ -310,4 +342,4 @@ none-within [] = tt
 none-within (r ∷ rows) = (omega arith, none-within rows)
 
 pub none-sound : (rows : List Row) → SoundTables rows noEntries
-none-sound rows = record { few = omega arith; shortest = tt; distinct = tt; known-tables = refl; within = none-within rows }
+none-sound rows = record { few = omega arith; shortest = tt; distinct = tt; known-tables = refl; within = none-within rows; checked = refl }

@@ -7,9 +7,9 @@ use Prim.Native.Nat.{ℕ, _≤_, _<_}
 use lib.ListN.{length}
 use Rattle.rules.specs.Bytes.{every}
 use Rattle.rules.specs.Streams.{bound, Streams, streamAt, markOf}
-use Rattle.rules.specs.Row.{Row, rowsAllowed, known}
+use Rattle.rules.specs.Row.{Row, rowsAllowed, known, rowFor}
 use Rattle.rules.specs.Key.{tableOf, keyOf}
-use Rattle.rules.specs.Entry.{shortEntry}
+use Rattle.rules.specs.Entry.{passes, shortEntry}
 use Rattle.rules.specs.Update.{Tables, stored, held}
 use Rattle.rules.specs.Call.{State}
 
@@ -49,6 +49,8 @@ pub record SoundTables (rows : List Row) (t : Tables) : Type 0 where
   pub distinct : Distinct (t .entries)
   pub known-tables : every (λ (e : List ℕ). known (tableOf e) rows) (t .entries) ≡ true
   pub within : Within rows t
+  -- what is stored passes 17, 18 and 19 by the row in force of its table
+  pub checked : every (λ (e : List ℕ). passes (rowFor (tableOf e) rows) e) (t .entries) ≡ true
 
 pub record Sound (s : State) : Type 0 where
   pub streams : SoundStreams (s .control .streams)
