@@ -3,16 +3,16 @@
 use Prim.Native.Nat.{ℕ, zero, suc, _+_, _*_, _-_, _≤_}
 use mathlib.Core.Path.{_≡_, refl, sym, ap, ap₂, _∙_}
 use mathlib.Core.Bool.{Bool, true, false, _&&_, _||_, not}
-use mathlib.Core.List.{List, [], _∷_, _++_, map}
+use mathlib.Core.List.{List, [], _∷_, map}
 use native.Mathlib.Omega.{arith}
-use lib.Dec.{eqb, ltb}
+use lib.Dec.{eqb}
 use lib.ListN.{length, take, drop, replicate}
 use lib.Seq.{drop-at}
 use borrow.Author.Tests.{eqb-true, le-leb}
-use Rattle.rules.specs.Bytes.{if_then_else_, between, every, byte, parts, number, allZero}
+use Rattle.rules.specs.Bytes.{if_then_else_, every, byte, parts, number, allZero}
 use Rattle.rules.specs.Row.{Field, Row}
-use Rattle.rules.specs.Value.{value, isValue, fits, stripped, padded, short}
-use Rattle.rules.specs.Key.{omitted, exact, lpm, ternary, range, optional, kind, value1, value2, slotFormed, slotFits, lpmRule, ternaryRule, rangeRule, slotRule, alongside, alongsideAll, priorityOf, slots, keyFormed, keyFits, priorityRule, keyRules, shortSlot}
+use Rattle.rules.specs.Value.{isValue, fits, stripped, padded, short}
+use Rattle.rules.specs.Key.{omitted, exact, optional, kind, value1, value2, slotFormed, slotFits, slotRule, alongside, alongsideAll, keyFormed, keyFits, priorityRule, keyRules, shortSlot}
 use Rattle.rules.specs.Entry.{actionIn, parameters, hasAction, widthsOf, actionFormed, actionFits, passes, shortEntry}
 use Rattle.rules.proofs.Tests.{and-true, both-true, every-append, every-part}
 use Rattle.rules.proofs.Shortest.{first-length, others-fit, stripped-some, digits, digits-length, short-unused, value-of-short, value1-length, value2-length, kind-of-short, value1-of-short, value2-of-short, slots-fit, slots-of-entry, priority-of-short, parameters-fit, action-of-short, parameters-of-short}
@@ -65,7 +65,7 @@ padded-value bs some few =
 value-kept : (v : List ℕ) → length v ≡ 17 → isValue v ≡ true → isValue (short v) ≡ true
 value-kept v h due =
     ap isValue (short-value v due)
-    ∙ padded-value (stripped (digits v)) (stripped-some (digits v)) (digits-length v h)
+    ∙ padded-value (stripped (digits v)) (stripped-some (digits v)) (digits-length v (omega arith))
 
 fits-same : (width : ℕ) (v : List ℕ) → fits width (short v) ≡ fits width v
 unfolding fits

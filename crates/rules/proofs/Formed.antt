@@ -10,7 +10,7 @@ use lib.ListN.{length, drop, length-take, length-drop, length-append, length-map
 use lib.Seq.{take-at}
 use borrow.Author.Tests.{eqb-true, leb-true}
 use Rattle.rules.specs.Bytes.{if_then_else_, byte, part, parts, int, number, allZero}
-use Rattle.rules.specs.Frame.{Update, Command, cramped, malformed, OPEN, CLOSE, ARBITRATE, CONFIGURE, WRITE, READ, updateOf, queryOf, flagFits, streamFits, streamFormed, arbitrateFormed, configureFormed, writeFormed, readFormed, configureOf, writeOf, byCommand, readFrame}
+use Rattle.rules.specs.Frame.{Update, Command, cramped, malformed, OPEN, CLOSE, ARBITRATE, CONFIGURE, WRITE, READ, headAt, updateOf, queryOf, flagFits, streamFits, streamFormed, arbitrateFormed, configureFormed, writeFormed, readFormed, configureOf, writeOf, readFrame}
 use Rattle.rules.specs.Key.{tableOf}
 use Rattle.rules.specs.Call.{Call, roomy, commandOf}
 use Rattle.rules.proofs.Tests.{and-true}
@@ -65,6 +65,30 @@ module _ (P : Command → Type 0) where
   choose true x y h k = h refl
   choose false x y h k = k
 
+  -- what holds of a malformed frame, and of each command where its frame passes, holds of what the reader hands on
+  pub read-law : (f : List ℕ) → P malformed → (streamFormed f ≡ true → P (OPEN (byte 1 f)) × P (CLOSE (byte 1 f)))
+      → (arbitrateFormed f ≡ true → P (ARBITRATE (byte 1 f) (headAt 2 f)))
+      → (configureFormed (byte 27 f) f ≡ true → P (configureOf (byte 27 f) f))
+      → (writeFormed (byte 28 f) f ≡ true → P (writeOf (byte 28 f) f))
+      → (readFormed f ≡ true → P (READ (queryOf f))) → P (readFrame f)
+  unfolding readFrame
+  read-law [] bad stream arbitrate configure write read = bad
+  read-law (c ∷ operands) bad stream arbitrate configure write read =
+      choose (eqb c 0x01) _ _ (λ h. choose (streamFormed f) _ _ (λ e. stream e .0) bad)
+      (choose (eqb c 0x02) _ _ (λ h. choose (streamFormed f) _ _ (λ e. stream e .1) bad)
+      (choose (eqb c 0x03) _ _ (λ h. choose (arbitrateFormed f) _ _ arbitrate bad)
+      (choose (eqb c 0x04) _ _ (λ h. choose (configureFormed (byte 27 f) f) _ _ configure bad)
+      (choose (eqb c 0x05) _ _ (λ h. choose (writeFormed (byte 28 f) f) _ _ write bad)
+      (choose (eqb c 0x06) _ _ (λ h. choose (readFormed f) _ _ read bad) bad)))))
+    where
+      f : List ℕ
+      f = c ∷ operands
+
+  -- and of the command of a call
+  pub call-law : (room : ℕ) (c : Call) → P cramped → P (readFrame (c .frame)) → P (commandOf room c)
+  unfolding commandOf
+  call-law room c short read = choose (roomy room (c .buffer)) _ _ (λ h. read) short
+
 stream-fits : (f : List ℕ) → streamFormed f ≡ true → byte 1 f ≤ 31
 unfolding streamFormed
 stream-fits f h = leb-true (byte 1 f) 31 (and-true (eqb (length f) 2) (streamFits f) h .1)
@@ -108,23 +132,13 @@ query-fits f h =
       one-named (byte 14 f) (int 10 4 f) (allZero (part 15 144 f)) (a .1),
     )
 
-by-command : (c : ℕ) (f : List ℕ) → Formed (byCommand c f)
-by-command c f =
-    choose Formed (eqb c 0x01) _ _ (λ h. choose Formed (streamFormed f) _ _ (stream-fits f) tt)
-    (choose Formed (eqb c 0x02) _ _ (λ h. choose Formed (streamFormed f) _ _ (stream-fits f) tt)
-    (choose Formed (eqb c 0x03) _ _ (λ h. choose Formed (arbitrateFormed f) _ _ (arbitrate-fits f) tt)
-    (choose Formed (eqb c 0x04) _ _ (λ h. choose Formed (configureFormed (byte 27 f) f) _ _ (rows-fit (byte 27 f) f) tt)
-    (choose Formed (eqb c 0x05) _ _ (λ h. choose Formed (writeFormed (byte 28 f) f) _ _ (updates-fit (byte 28 f) f) tt)
-    (choose Formed (eqb c 0x06) _ _ (λ h. choose Formed (readFormed f) _ _ (query-fits f) tt) tt)))))
-
 pub frame-formed : (f : List ℕ) → Formed (readFrame f)
-unfolding readFrame
-frame-formed [] = tt
-frame-formed (c ∷ operands) = by-command c (c ∷ operands)
+frame-formed f =
+    read-law Formed f tt (λ h. (stream-fits f h, stream-fits f h)) (arbitrate-fits f) (rows-fit (byte 27 f) f)
+    (updates-fit (byte 28 f) f) (query-fits f)
 
 pub call-formed : (room : ℕ) (c : Call) → Formed (commandOf room c)
-unfolding commandOf
-call-formed room c = choose Formed (roomy room (c .buffer)) _ _ (λ h. frame-formed (c .frame)) tt
+call-formed room c = call-law Formed room c tt (frame-formed (c .frame))
 
 pub calls-formed : (room : ℕ) (cs : List Call) → EveryFormed (map (commandOf room) cs)
 calls-formed room [] = tt

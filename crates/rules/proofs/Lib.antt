@@ -23,3 +23,5 @@ pub mod OneKey
 pub mod Primary
 pub mod Members
 pub mod Presence
+pub mod OfBytes
+pub mod Keys

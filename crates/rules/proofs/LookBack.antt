@@ -101,6 +101,16 @@ module _ (role : ℕ) where
           × (map pairOf (batch (p .control .rows) role t us .reasons) ≡ pairsSeen (noteUpdate p role u) role us)
           × (every (eqb 0) (batch (p .control .rows) role t us .reasons) ≡ not (someFailed (noteUpdate p role u) role us))
 
+pub batch-shows : (p : Past) (role : ℕ) (us : List Update)
+    → batch (p .control .rows) role (shows p .tables) us .tables ≡ shows (noteUpdates p role us) .tables
+batch-shows p role us = batched role p us .0
+
+-- a batch changes no row
+pub batch-control : (p : Past) (role : ℕ) (us : List Update) → noteUpdates p role us .control ≡ p .control
+unfolding noteUpdates noteUpdate
+batch-control p role [] = refl
+batch-control p role (u ∷ us) = batch-control (noteUpdate p role u) role us
+
 -- ---- READ
 
 keep-none : (es : List (List ℕ)) → keep (λ (e : List ℕ). false) es ≡ []
@@ -184,10 +194,15 @@ rows-seen q (row ∷ rows) es = go (asked (q .role) (q .table) row) refl (rows-s
     go true h ih = narrowed-append one k mine (all q rows es) ∙ ap₂ _++_ (sym (seen ∙ ap (λ (b : Bool). if b then narrowed one k mine else []) h)) ih
     go false h ih = ih ∙ ap (λ l. l ++ readSeen rows q es) (sym (seen ∙ ap (λ (b : Bool). if b then narrowed one k mine else []) h))
 
+-- the records of a READ
+pub shown-seen : (p : Past) (q : Query) → shown (shows p) q ≡ readSeen (p .control .rows) q (present (p .effects))
+unfolding shown shows
+shown-seen p q = rows-seen q (p .control .rows) (present (p .effects))
+
 -- ---- a call
 
 answers-agree : (p : Past) (c : Command) → answer (shows p) c ≡ answerSeen p c
-unfolding answer answerSeen shows shown
+unfolding answer answerSeen shows
 answers-agree p cramped = refl
 answers-agree p malformed = refl
 answers-agree p (OPEN n) = refl
@@ -207,7 +222,7 @@ answers-agree p (WRITE h atomicity us) = rw (b .1, b .2) (go (someFailed p (h .r
     go : (t : Bool) → told (if not t then 0 else 23) ≡ told (if t then 23 else 0)
     go true = refl
     go false = refl
-answers-agree p (READ q) = rw (rows-seen q (p .control .rows) (present (p .effects)))
+answers-agree p (READ q) = rw (shown-seen p q)
 
 -- what is left of the entries, and of the whole agent
 unnoted : (b : Bool) (effects : List Effect) → present effects ≡ present (if b then effects else effects)

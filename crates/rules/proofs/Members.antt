@@ -2,12 +2,12 @@
 -- that orders them cannot run both ways. Assumes nothing.
 use Prim.Native.Nat.{ℕ}
 use mathlib.Core.Path.{_≡_, refl, sym, _∙_, ap, ap₂, subst}
-use mathlib.Core.Bool.{Bool, true, false, _||_}
+use mathlib.Core.Bool.{Bool, true, false, _||_, false≢true}
 use mathlib.Core.Logic.{_⊎_, inl, inr, ⊎-elim, _↔_}
 use mathlib.Core.List.{List, [], _∷_, _++_, map}
-use Rattle.rules.specs.Bytes.{if_then_else_, keep, some-of}
+use Rattle.rules.specs.Bytes.{if_then_else_, keep, every, some-of}
 use Rattle.rules.specs.Presence.{In, Ordered}
-use Rattle.rules.proofs.Tests.{clash, or-false, some-append}
+use Rattle.rules.proofs.Tests.{clash, or-false, and-true, some-append}
 
 -- ---- tests along a list
 
@@ -49,6 +49,25 @@ crossed p q (z ∷ s) x r [] y v e a b c d =
 crossed p q (z ∷ s) x r (w ∷ u) y v e a b c d = crossed p q s x r u y v (cc) a b c d
 
 -- ---- members
+
+pub in-every : (p : List ℕ → Bool) (l : List (List ℕ)) (e : List ℕ) → In e l → every p l ≡ true → p e ≡ true
+in-every p [] e i h = absurd i
+in-every p (x ∷ l) e (inl q) h = ap p q ∙ and-true (p x) (every p l) h .0
+in-every p (x ∷ l) e (inr i) h = in-every p l e i (and-true (p x) (every p l) h .1)
+
+pub in-some : (p : List ℕ → Bool) (l : List (List ℕ)) (e : List ℕ) → In e l → p e ≡ true → some-of p l ≡ true
+in-some p [] e i t = absurd i
+in-some p (x ∷ l) e (inl q) t = rw (sym (ap p q) ∙ t)
+in-some p (x ∷ l) e (inr i) t = or-true (p x) (some-of p l) (in-some p l e i t)
+
+pub some-in : (p : List ℕ → Bool) (l : List (List ℕ)) → some-of p l ≡ true → (e : List ℕ) × In e l × (p e ≡ true)
+some-in p [] h = absurd (false≢true h)
+some-in p (x ∷ l) h = go (p x) refl h (λ k. some-in p l k)
+  where
+    go : (b : Bool) → p x ≡ b → b || some-of p l ≡ true → (some-of p l ≡ true → (e : List ℕ) × In e l × (p e ≡ true))
+        → (e : List ℕ) × In e (x ∷ l) × (p e ≡ true)
+    go true t k ih = (x, inl refl, t)
+    go false t k ih = let r = ih k in (r .0, inr (r .1), r .2)
 
 pub in-none : (p : List ℕ → Bool) (l : List (List ℕ)) (e : List ℕ) → In e l → some-of p l ≡ false → p e ≡ false
 in-none p [] e i n = absurd i

@@ -1,14 +1,14 @@
--- Laws of an order of refusals: one serves where a call is accepted, one where a reason cannot be given, and one where the order is
+-- Laws of an order of refusals: one serves where a call is accepted, one where a reason cannot be given, and two where the order is
 -- taken in two parts.
 -- Assumes nothing.
 use Prim.Native.Nat.{ℕ, _<_}
 use mathlib.Core.Path.{_≡_, refl}
-use mathlib.Core.Bool.{Bool, true, false, _&&_, not}
+use mathlib.Core.Bool.{Bool, true, false, _&&_, not, true≢false}
 use mathlib.Core.List.{List, [], _∷_, _++_}
 use native.Mathlib.Omega.{arith}
 use lib.Dec.{eqb, ltb}
 use borrow.Author.Tests.{eqb-false, ne-eqb, ltb-true, not-true}
-use Rattle.rules.specs.Bytes.{if_then_else_}
+use Rattle.rules.specs.Bytes.{if_then_else_, every}
 use Rattle.rules.specs.Reason.{first}
 use Rattle.rules.proofs.Tests.{and-true}
 
@@ -48,6 +48,20 @@ first-avoids r (c ∷ cs) pos a e =
     go : (b : Bool) → (c .1 ≡ r → ⊥) → (first cs ≡ r → ⊥) → (if b then c .1 else first cs) ≡ r → ⊥
     go true n ih h = n h
     go false n ih h = ih h
+
+-- a test that every reason of the order passes
+pub first-passes : (p : ℕ → Bool) (cs : List (Bool × ℕ)) → every (λ (c : Bool × ℕ). p (c .1)) cs ≡ true
+    → eqb (first cs) 0 ≡ false → p (first cs) ≡ true
+unfolding first
+first-passes p [] h n = absurd (true≢false n)
+first-passes p (c ∷ cs) h n =
+    let q = and-true (p (c .1)) (every (λ (c : Bool × ℕ). p (c .1)) cs) h in
+    go (c .0) n (q .0) (λ m. first-passes p cs (q .1) m)
+  where
+    go : (b : Bool) → eqb (if b then c .1 else first cs) 0 ≡ false → p (c .1) ≡ true
+        → (eqb (first cs) 0 ≡ false → p (first cs) ≡ true) → p (if b then c .1 else first cs) ≡ true
+    go true m t ih = t
+    go false m t ih = ih m
 
 -- the later conditions are asked where none of the earlier ones holds
 pub first-more : (cs ds : List (Bool × ℕ)) → positive cs ≡ true → first (cs ++ ds) ≡ (if eqb (first cs) 0 then first ds else first cs)

@@ -16,9 +16,10 @@ use Rattle.rules.specs.Row.{Row}
 use Rattle.rules.specs.Key.{hasKey, shortKey}
 use Rattle.rules.specs.Update.{Tables, inTable, held, judge, apply, batch}
 use Rattle.rules.specs.Answer.{Answer, answerBytes, replyOf}
-use Rattle.rules.specs.Call.{State, Call, fresh, refusal, accepted, plain, pairOf, headOf, batchOf, asked, gathered, shown, answer, commandOf, reply, run}
+use Rattle.rules.specs.Call.{State, fresh, refusal, accepted, plain, pairOf, headOf, batchOf, asked, gathered, shown, answer, commandOf, reply, run}
 use Rattle.rules.specs.Agreement.{commandsOf, replyAfter}
 use Rattle.rules.specs.Sound.{EveryStored, Within, Sound}
+use Rattle.rules.specs.Sizes.{AnswerFits}
 use Rattle.rules.proofs.Formed.{EveryLength, Formed, call-formed}
 use Rattle.rules.proofs.Tables.{keep-fewer}
 use Rattle.rules.proofs.Sound.{sizes-fit, sound}
@@ -248,7 +249,7 @@ reply-fits s c f ok = go (eqb (answer s c .reason) 2)
     go false = omega (arith, answer-small s c f ok)
 
 -- after every list of calls
-pub answer-fits : (room device : ℕ) (before : List Call) (c : Call) → length (replyAfter room device before c .written) ≤ 56_324
+pub answer-fits : AnswerFits
 unfolding replyAfter
 answer-fits room device before c =
     reply-fits (run (fresh device) (commandsOf room before)) (commandOf room c) (call-formed room c) (sound room device before)

@@ -140,6 +140,38 @@ every-snoc : (p : List ℕ → Bool) (es : List (List ℕ)) (x : List ℕ) → e
 every-snoc p [] x h q = rw q
 every-snoc p (e ∷ es) x h q = let w = and-true (p e) (every p es) h in rw (w .0) (every-snoc p es x (w .1) q)
 
+-- and so after an update, and after a batch, where what they would store passes it
+module _ (p : List ℕ → Bool) where
+  apply-every : (r : ℕ) (u : Update) (t : Tables) → p (shortEntry (u .entry)) ≡ true → every p (t .entries) ≡ true
+      → every p (apply r u t .entries) ≡ true
+  unfolding apply perform
+  apply-every r u t q h = go (eqb r 0) (isInsert (u .type)) (isModify (u .type))
+    where
+      e : List ℕ
+      e = shortEntry (u .entry)
+
+      go : (a b c : Bool)
+          → every p ((if a then record {
+            entries =
+                if b then t .entries ++ (e ∷ []) else
+                if c then map (revised e) (t .entries) else
+                keep (λ (old : List ℕ). not (hasKey (keyOf e) old)) (t .entries);
+          } else t) .entries) ≡ true
+      go true true c = every-snoc p (t .entries) e h q
+      go true false true = every-revised p e (t .entries) q h
+      go true false false = every-keep p _ (t .entries) h
+      go false b c = h
+
+  pub batch-every : (rows : List Row) (role : ℕ) (t : Tables) (us : List Update)
+      → every (λ (u : Update). p (shortEntry (u .entry))) us ≡ true → every p (t .entries) ≡ true
+      → every p (batch rows role t us .tables .entries) ≡ true
+  unfolding batch
+  batch-every rows role t [] q h = h
+  batch-every rows role t (u ∷ us) q h =
+      let w = and-true (p (shortEntry (u .entry))) (every (λ (u : Update). p (shortEntry (u .entry))) us) q in
+      let r : ℕ = judge rows role t u in
+      batch-every rows role (apply r u t) us (w .1) (apply-every r u t (w .0) h)
+
 -- ---- no table holds more than its size
 
 -- the number of entries of a list that pass a test

@@ -1,4 +1,4 @@
--- What is claimed of looking back: after every list of calls, refused ones included, each call answers what looking back over
+-- The rules agree with looking back: after every list of calls, refused ones included, each call answers what looking back over
 -- the list yields (document 01, "Looking back"). Assumes nothing.
 use mathlib.Core.Path.{_≡_}
 use mathlib.Core.Bool.{true}
@@ -26,6 +26,8 @@ pastOf room device before = lookBack (nothing device) (commandsOf room before)
 unfoldable pub pairAt : ℕ → List ℕ → List ℕ
 pairAt i bytes = take 2 (drop (4 + 2 * i) bytes)
 
+-- The law is the claim about lists of calls, `Demand3` (crate `calls`, specs/Claim.antt). This is a part of its proof, stated of the
+-- rules alone: of a call c after the calls `before`, from a fresh agent and with a store of `room` bytes.
 pub record Agreement (room device : ℕ) (before : List Call) (c : Call) : Type 0 where
   -- the rules and looking back agree on what is returned, and on every byte written
   pub replies : replyAfter room device before c ≡ replySeen (pastOf room device before) (commandOf room c)

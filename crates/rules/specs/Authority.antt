@@ -84,7 +84,8 @@ Gives role id (CONFIGURE h rows) = (h .role ≡ role) × (h .id ≡ id)
 Gives role id (WRITE h atomicity us) = (h .role ≡ role) × (h .id ≡ id)
 Gives role id (READ q) = ⊥
 
--- Of a call c after the calls `before`, from a fresh agent and with a store of `room` bytes:
+-- The law is the claim about lists of calls, `Demand3` (crate `calls`, specs/Claim.antt). This is a part of its proof, stated of the
+-- rules alone: of a call c after the calls `before`, from a fresh agent and with a store of `room` bytes.
 pub record Authority (room device : ℕ) (before : List Call) (c : Call) : Type 0 where
   -- an accepted CONFIGURE, and an accepted WRITE, which every update that takes effect stands in, gave the live primary's id
   pub given : (role id : ℕ) → Gives role id (commandOf room c)

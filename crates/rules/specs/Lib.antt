@@ -14,6 +14,8 @@ pub mod LookBack
 pub mod Agreement
 pub mod Presence
 pub mod Authority
+pub mod Keys
+pub mod Sizes
 pub mod Sound
 pub mod Refused
 pub mod Sample
