@@ -1,6 +1,8 @@
 -- What is proved of the rules: the worked cases first, so that a wrong definition meets a false case.
 pub mod Computing
 pub mod Bench
+pub mod StreamCases
+pub mod EntryCases
 pub mod Cases
 pub mod Table
 pub mod Listed

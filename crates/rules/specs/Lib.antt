@@ -20,4 +20,6 @@ pub mod Sound
 pub mod Refused
 pub mod Sample
 pub mod Bench
+pub mod StreamCases
+pub mod EntryCases
 pub mod Cases

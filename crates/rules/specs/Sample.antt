@@ -5,12 +5,32 @@ use Prim.Native.Nat.{ℕ}
 use lib.ListN.{replicate, length, take}
 use Rattle.rules.specs.Bytes.{concat}
 use Rattle.rules.specs.Frame.{Command}
+use Rattle.rules.specs.Key.{exact}
 use Rattle.rules.specs.Answer.{Reply}
 use Rattle.rules.specs.Call.{State, fresh, commandOf, reply, next, run}
 
--- n, below 256, as 16 bytes
+-- ---- ids
+
+-- table ids 0200000n, action ids 0100000n
+abbrev pub table# : ℕ → List ℕ
+table# n = 0x02 ∷ 0 ∷ 0 ∷ n ∷ []
+
+abbrev pub action# : ℕ → List ℕ
+action# n = 0x01 ∷ 0 ∷ 0 ∷ n ∷ []
+
+-- election ids of 16 bytes: n, below 256
 abbrev pub id16 : ℕ → List ℕ
 id16 n = replicate 15 0 ++ (n ∷ [])
+
+-- 64 one bits, 1 followed by 64 zero bits, and 128 one bits
+abbrev pub ones64 : List ℕ
+ones64 = replicate 8 0 ++ replicate 8 0xFF
+
+abbrev pub over64 : List ℕ
+over64 = replicate 7 0 ++ (1 ∷ replicate 8 0)
+
+abbrev pub ones128 : List ℕ
+ones128 = replicate 16 0xFF
 
 -- ---- frames
 
@@ -25,6 +45,10 @@ by r n = headBy 1 r 1 n
 -- and with none
 abbrev pub unset : ℕ → List ℕ
 unset r = headBy 1 r 0 0
+
+-- of device 1 and role 0, with the 16 bytes of an id
+abbrev pub byLong : List ℕ → List ℕ
+byLong id = take 10 (by 0 0) ++ id
 
 abbrev pub open! : ℕ → List ℕ
 open! s = 0x01 ∷ s ∷ []
@@ -45,22 +69,23 @@ write! h atomicity us = 0x05 ∷ h ++ (atomicity ∷ length us ∷ concat us)
 abbrev pub read! : ℕ → ℕ → List ℕ → ℕ → List ℕ → List ℕ
 read! d r table only key = 0x06 ∷ replicate 7 0 ++ (d ∷ r ∷ table ++ (only ∷ key))
 
--- READ by role 0 of all entries of every table
+-- READ by a role of all entries of a table
+abbrev pub readFrom : ℕ → List ℕ → List ℕ
+readFrom r table = read! 1 r table 0 (replicate 144 0)
+
+-- by role 0 of all entries of every table
 abbrev pub readAll! : List ℕ
-readAll! = read! 1 0 (replicate 4 0) 0 (replicate 144 0)
+readAll! = readFrom 0 (replicate 4 0)
+
+-- by role 0 of the entry of a key in table 1
+abbrev pub readOne : List ℕ → List ℕ
+readOne k = read! 1 0 (table# 1) 1 k
 
 -- ---- rows
 
 -- n bytes: these, cut there or with zeros after them
 abbrev pub filled : ℕ → List ℕ → List ℕ
 filled n bs = take n (bs ++ replicate n 0)
-
--- table ids 0200000n, action ids 0100000n
-abbrev pub table# : ℕ → List ℕ
-table# n = 0x02 ∷ 0 ∷ 0 ∷ n ∷ []
-
-abbrev pub action# : ℕ → List ℕ
-action# n = 0x01 ∷ 0 ∷ 0 ∷ n ∷ []
 
 abbrev pub field : ℕ → ℕ → List ℕ
 field kind width = kind ∷ width ∷ []
@@ -77,6 +102,10 @@ rowWith n owner size fields actions =
 -- with one field, and action 1 without parameters
 abbrev pub row : ℕ → ℕ → ℕ → ℕ → ℕ → List ℕ
 row n owner size kind width = rowWith n owner size (field kind width ∷ []) (action 1 [] ∷ [])
+
+-- rows that break 14, by a size of 0
+abbrev pub sizeless : List (List ℕ)
+sizeless = row 1 0 0 exact 8 ∷ []
 
 -- ---- entries and updates
 
@@ -120,6 +149,10 @@ entryWith n k action values = table# n ++ k ++ action# action ++ filled 68 (conc
 -- with an action without parameters
 abbrev pub entry : ℕ → List ℕ → ℕ → List ℕ
 entry n k action = entryWith n k action []
+
+-- an entry of table n with the exact value v, of one byte, and action a
+abbrev pub item : ℕ → ℕ → ℕ → List ℕ
+item n v a = entry n (key 0 exact (val1 v) none17) a
 
 abbrev pub insert! : List ℕ → List ℕ
 insert! e = 1 ∷ e
@@ -177,9 +210,12 @@ ok = bytes 0 0 0 []
 abbrev pub refused : ℕ → ℕ → Reply
 refused reason code = bytes reason code 0 []
 
--- the notification of a stream: role, status, and the mark as a set id
+-- the notification of a stream: role, status, and the mark as a set id, of 16 bytes or below 256
+abbrev pub toldLong : ℕ → ℕ → ℕ → List ℕ → List ℕ
+toldLong s role status mark = s ∷ role ∷ status ∷ 1 ∷ mark
+
 abbrev pub told : ℕ → ℕ → ℕ → ℕ → List ℕ
-told s role status mark = s ∷ role ∷ status ∷ 1 ∷ id16 mark
+told s role status mark = toldLong s role status (id16 mark)
 
 -- the pair of an update that took effect
 abbrev pub done : List ℕ

@@ -1,0 +1,484 @@
+-- Worked cases of configurations (14), updates (17 to 19) and entries: whole frames, and the whole answers that document 01 gives
+-- them, written out. Assumes nothing.
+use mathlib.Core.List.{List, [], _∷_, _++_, map}
+use Prim.Native.Nat.{ℕ, _+_, _-_}
+use lib.ListN.{take, drop, set, replicate}
+use Rattle.rules.specs.Key.{omitted, exact, lpm, ternary, range, optional}
+use Rattle.rules.specs.Answer.{Reply}
+use Rattle.rules.specs.Sample.{table#, ones64, over64, ones128, by, open!, close!, arbitrate!, configure!, write!, readFrom, readAll!, readOne, field, action, rowWith, row, sizeless, val, val1, val2, val3, none17, slot, keyWith, key, entryWith, entry, item, insert!, modify!, delete!, leading, configured, bytes, ok, refused, told, done, Each, InTurn, batch!, all}
+
+-- ---- configuration and entries
+
+-- a WRITE by the primary of role 0
+abbrev send : List (List ℕ) → List ℕ
+send us = write! (by 0 5) 0 us
+
+-- tables 2 and 1, in this order, of owners 1 and 0, each of size 2, with an exact field and two actions
+abbrev tables : List (List ℕ)
+tables = map (λ (n : ℕ). rowWith n (n - 1) 2 (field exact 8 ∷ []) (action 1 [] ∷ action 2 [] ∷ [])) (2 ∷ 1 ∷ [])
+
+-- and both full, their entries inserted in turn
+abbrev stocked : List (List ℕ)
+stocked =
+    configured tables
+    ++ (send (insert! (item 1 1 1) ∷ insert! (item 2 1 1) ∷ insert! (item 1 2 1) ∷ insert! (item 2 2 1) ∷ []) ∷ [])
+
+-- what a READ of all then shows: by configuration row and then in order of insertion
+abbrev stock : Reply
+stock = bytes 0 0 4 (item 2 1 1 ∷ item 2 2 1 ∷ item 1 1 1 ∷ item 1 2 1 ∷ [])
+
+-- table 1 with a ternary, a range, an lpm and an optional field of width 16, and action 1 with four parameters of width 16
+abbrev four16 : List ℕ
+four16 =
+    rowWith 1 0 4 (map (λ (k : ℕ). field k 16) (ternary ∷ range ∷ lpm ∷ optional ∷ [])) (action 1 (replicate 4 16) ∷ [])
+
+-- a key of it, each value with a zero byte before it, and in shortest form
+abbrev keyPadded : List ℕ
+keyPadded =
+    keyWith 1
+    (slot ternary (val2 0 5) (val2 0 7)
+    ∷ slot range (val2 0 1) (val2 0 2)
+    ∷ slot lpm (val3 0 0x0A 0) (val2 0 8)
+    ∷ slot optional (val2 0 9) none17
+    ∷ [])
+
+abbrev keyShortest : List ℕ
+keyShortest =
+    keyWith 1
+    (slot ternary (val1 5) (val1 7)
+    ∷ slot range (val1 1) (val1 2)
+    ∷ slot lpm (val2 0x0A 0) (val1 8)
+    ∷ slot optional (val1 9) none17
+    ∷ [])
+
+-- each sees those before it and succeeds or fails alone; a DELETE's action is checked too
+abbrev mixed : List (List ℕ × List ℕ)
+mixed =
+    (modify! (item 1 1 2), 21 ∷ 5 ∷ [])
+    ∷ (insert! (item 1 1 1), done)
+    ∷ (insert! (item 1 1 1), 20 ∷ 6 ∷ [])
+    ∷ (modify! (item 1 1 2), done)
+    ∷ (insert! (item 1 2 1), done)
+    ∷ (delete! (item 1 2 3), 17 ∷ 3 ∷ [])
+    ∷ (delete! (item 1 2 1), done)
+    ∷ (delete! (item 1 2 1), 21 ∷ 5 ∷ [])
+    ∷ []
+
+pub record Entries : Type 0 where
+  -- Keys are compared as numbers, and stored in shortest form: 0007 is 07, so it is stored already, is read, and deletes it.
+  pub padded : InTurn (configured (row 1 0 4 exact 16 ∷ []))
+      ((send (insert! (item 1 7 1) ∷ []), bytes 0 0 1 (done ∷ []))
+      ∷ (send (insert! (entry 1 (key 0 exact (val2 0 7) none17) 1) ∷ []), bytes 23 2 1 ((20 ∷ 6 ∷ []) ∷ []))
+      ∷ (readOne (key 0 exact (val2 0 7) none17), bytes 0 0 1 (item 1 7 1 ∷ []))
+      ∷ (send (delete! (entry 1 (key 0 exact (val2 0 7) none17) 1) ∷ []), bytes 0 0 1 (done ∷ []))
+      ∷ (readAll!, ok)
+      ∷ [])
+  -- zero is one byte 00
+  pub zero : InTurn (configured (row 1 0 4 exact 16 ∷ []))
+      ((send (insert! (entry 1 (key 0 exact (val3 0 0 0) none17) 1) ∷ []), bytes 0 0 1 (done ∷ []))
+      ∷ (readAll!, bytes 0 0 1 (item 1 0 1 ∷ []))
+      ∷ [])
+  -- The same of both values of every slot (mask, upper bound and prefix length among them) and of every parameter, in an entry
+  -- that is inserted and in one that is modified.
+  pub shortened : InTurn (configured (four16 ∷ []))
+      ((send (insert! (entryWith 1 keyPadded 1 (map (val2 0) (1 ∷ 2 ∷ 3 ∷ 4 ∷ []))) ∷ []), bytes 0 0 1 (done ∷ []))
+      ∷ (readAll!, bytes 0 0 1 (entryWith 1 keyShortest 1 (map val1 (1 ∷ 2 ∷ 3 ∷ 4 ∷ [])) ∷ []))
+      ∷ (send (insert! (entryWith 1 keyShortest 1 (map val1 (1 ∷ 2 ∷ 3 ∷ 4 ∷ []))) ∷ []), bytes 23 2 1 ((20 ∷ 6 ∷ []) ∷ []))
+      ∷ (send (modify! (entryWith 1 keyPadded 1 (map (val3 0 0) (5 ∷ 6 ∷ 0 ∷ 8 ∷ []))) ∷ []), bytes 0 0 1 (done ∷ []))
+      ∷ (readOne keyPadded, bytes 0 0 1 (entryWith 1 keyShortest 1 (map val1 (5 ∷ 6 ∷ 0 ∷ 8 ∷ [])) ∷ []))
+      ∷ (send (delete! (entryWith 1 keyPadded 1 (map val1 (1 ∷ 2 ∷ 3 ∷ 4 ∷ []))) ∷ []), bytes 0 0 1 (done ∷ []))
+      ∷ (readAll!, ok)
+      ∷ [])
+  -- READ needs no primary. Table 0 is every table the role may write, for role 3 none; a named table must be known, by all its
+  -- bytes, and the role's.
+  pub owners : Each stocked
+      ((readAll!, stock)
+      ∷ (readFrom 1 (replicate 4 0), bytes 0 0 2 (item 2 1 1 ∷ item 2 2 1 ∷ []))
+      ∷ (readFrom 1 (table# 2), bytes 0 0 2 (item 2 1 1 ∷ item 2 2 1 ∷ []))
+      ∷ (readFrom 1 (table# 1), refused 16 7)
+      ∷ (readFrom 0 (table# 2), bytes 0 0 2 (item 2 1 1 ∷ item 2 2 1 ∷ []))
+      ∷ (readFrom 3 (replicate 4 0), ok)
+      ∷ (readFrom 0 (set (table# 1) 2 1), refused 15 5)
+      ∷ [])
+  -- Role 7 is the last: it has a primary and a mark, and writes and reads the tables that it owns. Role 8 is 6.
+  pub last-role : InTurn (configured (row 1 7 4 exact 8 ∷ row 2 6 4 exact 8 ∷ []) ++ map open! (2 ∷ 3 ∷ 4 ∷ []))
+      ((arbitrate! 2 (by 7 6), bytes 0 0 1 (told 2 7 0 6 ∷ []))
+      ∷ (arbitrate! 3 (by 7 4), bytes 0 0 1 (told 3 7 6 6 ∷ []))
+      ∷ (arbitrate! 4 (by 8 6), refused 6 5)
+      ∷ (write! (by 7 6) 0 (insert! (item 1 7 1) ∷ insert! (item 2 7 1) ∷ []), bytes 23 2 2 (done ∷ (16 ∷ 7 ∷ []) ∷ []))
+      ∷ (write! (by 8 6) 0 [], refused 6 5)
+      ∷ (readFrom 7 (replicate 4 0), bytes 0 0 1 (item 1 7 1 ∷ []))
+      ∷ (readFrom 7 (table# 1), bytes 0 0 1 (item 1 7 1 ∷ []))
+      ∷ (readFrom 7 (table# 2), refused 16 7)
+      ∷ (readFrom 8 (replicate 4 0), refused 6 5)
+      ∷ (configure! (by 7 6) (row 1 7 4 exact 8 ∷ []), refused 11 7)
+      ∷ (configure! (by 8 6) (row 1 7 4 exact 8 ∷ []), refused 6 5)
+      ∷ (close! 2, bytes 0 0 1 (told 3 7 5 6 ∷ []))
+      ∷ [])
+  -- an absent key gives none
+  pub one : Each stocked
+      ((readOne (key 0 exact (val1 2) none17), bytes 0 0 1 (item 1 2 1 ∷ []))
+      ∷ (readOne (key 0 exact (val1 3) none17), ok)
+      ∷ [])
+  -- MODIFY replaces the action in its place
+  pub modified : InTurn stocked
+      ((send (modify! (item 2 1 2) ∷ []), bytes 0 0 1 (done ∷ []))
+      ∷ (readAll!, bytes 0 0 4 (item 2 1 2 ∷ item 2 2 1 ∷ item 1 1 1 ∷ item 1 2 1 ∷ []))
+      ∷ [])
+  -- A full table takes an entry again once one is deleted, also in the same batch; the entry is the table's last then.
+  pub full : InTurn stocked
+      ((send (insert! (item 2 3 1) ∷ []), bytes 23 2 1 ((22 ∷ 8 ∷ []) ∷ []))
+      ∷ (send (delete! (item 2 1 1) ∷ insert! (item 2 1 1) ∷ []), bytes 0 0 2 (done ∷ done ∷ []))
+      ∷ (readAll!, bytes 0 0 4 (item 2 2 1 ∷ item 2 1 1 ∷ item 1 1 1 ∷ item 1 2 1 ∷ []))
+      ∷ [])
+  pub batch : InTurn (configured tables) (batch! (by 0 5) 23 2 8 mixed ∷ (readAll!, bytes 0 0 1 (item 1 1 2 ∷ [])) ∷ [])
+  -- n 0
+  pub no-updates : Each stocked ((send [], ok) ∷ [])
+  -- CONFIGURE empties the tables, also with the rows in force; a refused one does not
+  pub emptied : InTurn stocked ((configure! (by 0 5) tables, ok) ∷ (readAll!, ok) ∷ [])
+  pub kept : InTurn stocked ((configure! (by 0 5) sizeless, refused 14 3) ∷ (readAll!, stock) ∷ [])
+
+-- ---- 14
+
+-- a row that is allowed, and that row with other fields or actions; each is 53 bytes: table id 4, owner 1, size 2,
+-- field count 1 (at 7), fields 8, action count 1 (at 16), actions 36 (id 4, parameter count 1, widths 4)
+abbrev good : List ℕ
+good = rowWith 1 7 4 (field exact 128 ∷ []) (action 1 (128 ∷ []) ∷ [])
+
+abbrev withFields : List (List ℕ) → List ℕ
+withFields fields = rowWith 1 7 4 fields (action 1 (128 ∷ []) ∷ [])
+
+abbrev withActions : List (List ℕ) → List ℕ
+withActions actions = rowWith 1 7 4 (field exact 128 ∷ []) actions
+
+-- and a row whose fields, actions and widths are all used: the second field is at 10, the fourth at 14; the actions after the
+-- first are at 26, 35 and 44
+abbrev fullRow : List ℕ
+fullRow = rowWith 1 7 4 (replicate 4 (field exact 8)) (map (λ (n : ℕ). action n (replicate 4 8)) (1 ∷ 2 ∷ 3 ∷ 4 ∷ []))
+
+-- seven other rows, and CONFIGURE with a row after the first n of them; their sizes add to 252
+abbrev others : List (List ℕ)
+others = map (λ (n : ℕ). row n 0 36 exact 8) (2 ∷ 3 ∷ 4 ∷ 5 ∷ 6 ∷ 7 ∷ 8 ∷ [])
+
+abbrev placed : ℕ → List ℕ → List ℕ
+placed n r = configure! (by 0 5) (take n others ++ (r ∷ drop n others))
+
+abbrev allowedRows : List (List ℕ)
+allowedRows =
+    good
+    ∷ fullRow
+    ∷ withFields (field lpm 1 ∷ field ternary 8 ∷ field range 8 ∷ field optional 8 ∷ [])
+    ∷ withActions (action 0 (1 ∷ 8 ∷ 8 ∷ 8 ∷ []) ∷ action 1 [] ∷ action 2 [] ∷ action 3 [] ∷ [])
+    ∷ []
+
+abbrev refusedRows : List (List ℕ)
+refusedRows =
+    -- table id not 02 in its top byte or repeated
+    set good 0 0x01
+    ∷ set good 0 0x03
+    ∷ set good 3 2
+    -- owner over 7
+    ∷ set good 4 8
+    -- size 0; sizes adding to over 256
+    ∷ set good 6 0
+    ∷ set good 6 5
+    -- field count not 1 to 4
+    ∷ withFields []
+    ∷ withFields (replicate 5 (field exact 8))
+    -- kind not 1 to 5: of the first, second and fourth field
+    ∷ set good 8 0
+    ∷ set good 8 6
+    ∷ set fullRow 10 0
+    ∷ set fullRow 14 6
+    -- width not 1 to 128: of these fields
+    ∷ set good 9 0
+    ∷ set good 9 129
+    ∷ set fullRow 11 129
+    ∷ set fullRow 15 0
+    -- and of parameters: the only one, the second, the first of the second action, the last of the fourth
+    ∷ set good 22 0
+    ∷ set good 22 129
+    ∷ set fullRow 23 0
+    ∷ set fullRow 31 129
+    ∷ set fullRow 52 0
+    -- action count not 1 to 4
+    ∷ withActions []
+    ∷ withActions (map (λ (n : ℕ). action n []) (1 ∷ 2 ∷ 3 ∷ 4 ∷ 5 ∷ []))
+    -- action id not 01 in its top byte: the first, the second and the fourth
+    ∷ set good 17 0x00
+    ∷ set good 17 0x02
+    ∷ set fullRow 26 0x02
+    ∷ set fullRow 44 0x00
+    -- or repeated in the row: the first as the second, the second as the fourth
+    ∷ withActions (action 1 [] ∷ action 1 [] ∷ [])
+    ∷ set fullRow 47 2
+    -- parameters over 4: in the first action, in the second
+    ∷ withActions (action 1 (replicate 5 8) ∷ [])
+    ∷ set fullRow 30 5
+    -- unused part nonzero: second and fourth field, second and fourth width, second and fourth action
+    ∷ set good 10 1
+    ∷ set good 15 1
+    ∷ set good 23 1
+    ∷ set good 25 1
+    ∷ set good 26 1
+    ∷ set good 52 1
+    -- and the first width of a second action without parameters
+    ∷ set (withActions (action 1 [] ∷ action 2 [] ∷ [])) 31 1
+    ∷ []
+
+pub record Configurations : Type 0 where
+  pub allowed : Each leading (all ok (map (placed 1) allowedRows))
+  -- as the first of eight rows, as the second, and as the last
+  pub first-row : Each leading (all (refused 14 3) (map (placed 0) refusedRows))
+  pub second-row : Each leading (all (refused 14 3) (map (placed 1) refusedRows))
+  pub last-row : Each leading (all (refused 14 3) (map (placed 7) refusedRows))
+  -- size 256 and size 257
+  pub sizes : Each leading
+      ((configure! (by 0 5) (set (row 1 0 0 exact 8) 5 1 ∷ []), ok)
+      ∷ (configure! (by 0 5) (set (row 1 0 1 exact 8) 5 1 ∷ []), refused 14 3)
+      ∷ [])
+
+-- ---- 17, 18 and 19
+
+-- the pairs of updates that are refused
+abbrev is17 : List ℕ
+is17 = 17 ∷ 3 ∷ []
+
+abbrev is18 : List ℕ
+is18 = 18 ∷ 11 ∷ []
+
+abbrev is19 : List ℕ
+is19 = 19 ∷ 3 ∷ []
+
+-- a table of each kind, under the kind's number: one field of width 8, action 1, and action 2 with a parameter of width 4
+abbrev kindRow : ℕ → List ℕ
+kindRow k = rowWith k 0 9 (field k 8 ∷ []) (action 1 [] ∷ action 2 (4 ∷ []) ∷ [])
+
+abbrev kinds : List (List ℕ)
+kinds = configured (map kindRow (exact ∷ lpm ∷ ternary ∷ range ∷ optional ∷ []))
+
+-- INSERT into the table of a kind: a priority and the two values of the slot
+abbrev put : ℕ → ℕ → List ℕ → List ℕ → List ℕ
+put k priority a b = insert! (entry k (key priority k a b) 1)
+
+-- with the slot omitted
+abbrev without : ℕ → ℕ → List ℕ
+without k priority = insert! (entry k (key priority omitted none17 none17) 1)
+
+-- into the table of exact, with action 2 and these parameters
+abbrev putWith : List (List ℕ) → List ℕ
+putWith values = insert! (entryWith exact (key 0 exact (val1 7) none17) 2 values)
+
+-- into the table of ternary, with a priority of 4 bytes
+abbrev putAt : List ℕ → List ℕ
+putAt priority = insert! (entry ternary (priority ++ drop 4 (key 0 ternary (val1 5) (val1 7))) 1)
+
+abbrev length17 : List ℕ
+length17 = 17 ∷ replicate 16 0
+
+abbrev allowedUpdates : List (List ℕ)
+allowedUpdates =
+    put exact 0 (val1 0xFF) none17
+    ∷ put lpm 0 (val1 0xA0) (val1 3)
+    ∷ put lpm 0 (val1 0xA1) (val1 8)
+    ∷ without lpm 0
+    ∷ put ternary 1 (val1 5) (val1 7)
+    ∷ putAt (0x7F ∷ 0xFF ∷ 0xFF ∷ 0xFF ∷ [])
+    ∷ without ternary 1
+    ∷ put range 1 (val1 7) (val1 7)
+    ∷ put range 1 (val1 0) (val1 0xFE)
+    ∷ put range 1 (val1 1) (val1 0xFF)
+    ∷ without range 1
+    ∷ put optional 1 (val1 0) none17
+    ∷ without optional 1
+    ∷ putWith (val1 0x0F ∷ [])
+    ∷ []
+
+abbrev refused17 : List (List ℕ)
+refused17 =
+    -- slot kind not allowed
+    insert! (entry exact (key 0 lpm (val1 7) (val1 8)) 1)
+    ∷ insert! (entry lpm (key 0 exact (val1 7) none17) 1)
+    ∷ insert! (entry ternary (key 1 6 (val1 5) (val1 7)) 1)
+    ∷ without exact 0
+    -- value of length 0 where one is due
+    ∷ put exact 0 none17 none17
+    ∷ put lpm 0 none17 (val1 8)
+    ∷ put lpm 0 (val1 7) none17
+    ∷ put ternary 1 none17 (val1 7)
+    ∷ put ternary 1 (val1 5) none17
+    ∷ put range 1 none17 (val1 7)
+    ∷ put range 1 (val1 0) none17
+    ∷ put optional 1 none17 none17
+    ∷ putWith []
+    -- length over 16
+    ∷ put exact 0 length17 none17
+    ∷ put lpm 0 (val1 7) length17
+    ∷ putWith (length17 ∷ [])
+    -- nonzero padding
+    ∷ put exact 0 (set (val1 7) 16 1) none17
+    ∷ put ternary 1 (val1 5) (set (val1 7) 2 1)
+    ∷ putWith (set (val1 7) 16 1 ∷ [])
+    -- action not the row's
+    ∷ insert! (item exact 7 3)
+    -- unused part nonzero: omitted slot, second value of exact and optional, unused slots, parameter values past the count
+    ∷ insert! (entry lpm (key 0 omitted none17 (val1 0)) 1)
+    ∷ put exact 0 (val1 7) (val1 0)
+    ∷ put optional 1 (val1 7) (val1 0)
+    ∷ insert! (entry exact (keyWith 0 (slot exact (val1 7) none17 ∷ slot exact (val1 7) none17 ∷ [])) 1)
+    ∷ insert! (entry exact (set (key 0 exact (val1 7) none17) 143 1) 1)
+    ∷ insert! (entryWith exact (key 0 exact (val1 7) none17) 1 (val1 0 ∷ []))
+    ∷ putWith (val1 7 ∷ val1 7 ∷ [])
+    ∷ putWith (val1 7 ∷ none17 ∷ none17 ∷ set none17 16 1 ∷ [])
+    ∷ []
+
+abbrev refused18 : List (List ℕ)
+refused18 =
+    put exact 0 (val2 1 0) none17
+    ∷ put lpm 0 (val2 1 0) (val1 8)
+    ∷ put ternary 1 (val2 1 0) (val1 0xFF)
+    ∷ put ternary 1 (val1 5) (val2 1 7)
+    ∷ put range 1 (val2 1 0) (val2 1 1)
+    ∷ put range 1 (val1 0) (val2 1 0)
+    ∷ put optional 1 (val2 1 0) none17
+    ∷ putWith (val1 0x10 ∷ [])
+    ∷ []
+
+abbrev refused19 : List (List ℕ)
+refused19 =
+    -- prefix length 0, 9 and 0108, which is no 18; bits below the prefix
+    put lpm 0 (val1 0) (val1 0)
+    ∷ put lpm 0 (val1 0) (val1 9)
+    ∷ put lpm 0 (val1 0) (val2 1 8)
+    ∷ put lpm 0 (val1 0xA0) (val1 2)
+    -- mask 0; a value bit outside it
+    ∷ put ternary 1 (val1 0) (val1 0)
+    ∷ put ternary 1 (val1 8) (val1 7)
+    -- first over second; the whole range
+    ∷ put range 1 (val1 2) (val1 1)
+    ∷ put range 1 (val1 0) (val1 0xFF)
+    -- priority 0 or 2,147,483,648 where a field is ternary, range or optional, also with its slot omitted
+    ∷ put ternary 0 (val1 5) (val1 7)
+    ∷ put range 0 (val1 1) (val1 2)
+    ∷ put optional 0 (val1 7) none17
+    ∷ without ternary 0
+    ∷ putAt (0x80 ∷ 0 ∷ 0 ∷ 0 ∷ [])
+    -- another priority than 0 where none is
+    ∷ put exact 1 (val1 7) none17
+    ∷ put lpm 1 (val1 0) (val1 8)
+    ∷ without lpm 1
+    ∷ []
+
+-- INSERT of two slots, an exact and a ternary one being due
+abbrev putBoth : ℕ → List ℕ → List ℕ → List ℕ
+putBoth priority a b = insert! (entry 1 (keyWith priority (a ∷ b ∷ [])) 1)
+
+abbrev bothSlots : List (List ℕ × List ℕ)
+bothSlots =
+    (putBoth 0 (slot exact (val2 1 0) none17) (slot range (val1 1) (val1 2)), is17)
+    ∷ (putBoth 1 (slot ternary (val1 5) (val1 7)) (slot exact (val1 7) none17), is17)
+    ∷ (putBoth 0 (slot exact (val1 7) none17) (slot ternary (val2 1 0) (val1 7)), is18)
+    ∷ (putBoth 1 (slot exact (val1 7) none17) (slot ternary (val1 8) (val1 7)), is19)
+    ∷ (putBoth 1 (slot exact (val1 7) none17) (slot ternary (val1 5) (val1 7)), done)
+    ∷ (putBoth 1 (slot exact (val1 7) none17) (slot omitted none17 none17), done)
+    ∷ []
+
+-- table 1 with exact fields and parameters of widths 1 to 4, and INSERT of these values into it, of one byte each
+abbrev widths : List ℕ
+widths = 1 ∷ 2 ∷ 3 ∷ 4 ∷ []
+
+abbrev byWidths : List ℕ
+byWidths = rowWith 1 0 9 (map (field exact) widths) (action 1 widths ∷ [])
+
+abbrev putAll : List ℕ → List ℕ → List ℕ
+putAll xs ys =
+    insert! (entryWith 1 (keyWith 0 (map (λ (x : ℕ). slot exact (val1 x) none17) xs)) 1 (map val1 ys))
+
+-- One value is more than its width allows; the last exact slot is omitted, the last parameter of length 0; and each value is as
+-- large as its width allows.
+abbrev eachWidth : List (List ℕ × List ℕ)
+eachWidth =
+    (putAll (2 ∷ 3 ∷ 7 ∷ 15 ∷ []) (1 ∷ 3 ∷ 7 ∷ 15 ∷ []), is18)
+    ∷ (putAll (1 ∷ 4 ∷ 7 ∷ 15 ∷ []) (1 ∷ 3 ∷ 7 ∷ 15 ∷ []), is18)
+    ∷ (putAll (1 ∷ 3 ∷ 8 ∷ 15 ∷ []) (1 ∷ 3 ∷ 7 ∷ 15 ∷ []), is18)
+    ∷ (putAll (1 ∷ 3 ∷ 7 ∷ 16 ∷ []) (1 ∷ 3 ∷ 7 ∷ 15 ∷ []), is18)
+    ∷ (putAll (1 ∷ 3 ∷ 7 ∷ 15 ∷ []) (2 ∷ 3 ∷ 7 ∷ 15 ∷ []), is18)
+    ∷ (putAll (1 ∷ 3 ∷ 7 ∷ 15 ∷ []) (1 ∷ 4 ∷ 7 ∷ 15 ∷ []), is18)
+    ∷ (putAll (1 ∷ 3 ∷ 7 ∷ 15 ∷ []) (1 ∷ 3 ∷ 8 ∷ 15 ∷ []), is18)
+    ∷ (putAll (1 ∷ 3 ∷ 7 ∷ 15 ∷ []) (1 ∷ 3 ∷ 7 ∷ 16 ∷ []), is18)
+    ∷ (putAll (1 ∷ 3 ∷ 7 ∷ []) (1 ∷ 3 ∷ 7 ∷ 15 ∷ []), is17)
+    ∷ (putAll (1 ∷ 3 ∷ 7 ∷ 15 ∷ []) (1 ∷ 3 ∷ 7 ∷ []), is17)
+    ∷ (putAll (1 ∷ 3 ∷ 7 ∷ 15 ∷ []) (1 ∷ 3 ∷ 7 ∷ 15 ∷ []), done)
+    ∷ []
+
+-- tables of lpm, ternary and range, of width 1 under the kind's number, and of width 128 under 10 more
+abbrev narrowAndWide : List (List ℕ)
+narrowAndWide = map (λ (k : ℕ). row k 0 9 k 1) (lpm ∷ ternary ∷ range ∷ []) ++ map (λ (k : ℕ). row (10 + k) 0 9 k 128) (lpm ∷ ternary ∷ range ∷ [])
+
+-- INSERT into a table of width 128
+abbrev putWide : ℕ → ℕ → List ℕ → List ℕ → List ℕ
+putWide k priority a b = insert! (entry (10 + k) (key priority k (val a) (val b)) 1)
+
+-- the highest of 128 bits, the others, and all but the lowest
+abbrev top : List ℕ
+top = 0x80 ∷ replicate 15 0
+
+abbrev notTop : List ℕ
+notTop = 0x7F ∷ replicate 15 0xFF
+
+abbrev even : List ℕ
+even = replicate 15 0xFF ++ (0xFE ∷ [])
+
+abbrev ends : List (List ℕ × List ℕ)
+ends =
+    -- width 1: prefix length 1 only, and the whole range is 0 to 1
+    (put lpm 0 (val1 1) (val1 1), done)
+    ∷ (put lpm 0 (val1 0) (val1 0), is19)
+    ∷ (put lpm 0 (val1 0) (val1 2), is19)
+    ∷ (put ternary 1 (val1 1) (val1 1), done)
+    ∷ (put ternary 1 (val1 2) (val1 1), is18)
+    ∷ (put range 1 (val1 0) (val1 0), done)
+    ∷ (put range 1 (val1 1) (val1 1), done)
+    ∷ (put range 1 (val1 0) (val1 1), is19)
+    -- width 128: prefix lengths 1 to 128, and the bits below them
+    ∷ (putWide lpm 0 top (1 ∷ []), done)
+    ∷ (putWide lpm 0 notTop (1 ∷ []), is19)
+    ∷ (putWide lpm 0 even (127 ∷ []), done)
+    ∷ (putWide lpm 0 ones128 (127 ∷ []), is19)
+    ∷ (putWide lpm 0 ones128 (128 ∷ []), done)
+    ∷ (putWide lpm 0 (0 ∷ []) (129 ∷ []), is19)
+    -- a value bit outside the mask: bit 8, 64 or 127; and within it
+    ∷ (putWide ternary 1 (1 ∷ 0 ∷ []) (0xFF ∷ []), is19)
+    ∷ (putWide ternary 1 (1 ∷ 0 ∷ []) (1 ∷ 0xFF ∷ []), done)
+    ∷ (putWide ternary 1 over64 ones64, is19)
+    ∷ (putWide ternary 1 over64 over64, done)
+    ∷ (putWide ternary 1 top notTop, is19)
+    ∷ (putWide ternary 1 top top, done)
+    ∷ (putWide ternary 1 (0 ∷ []) top, done)
+    -- the whole range and one less at either end; first over second
+    ∷ (putWide range 1 (0 ∷ []) ones128, is19)
+    ∷ (putWide range 1 (0 ∷ []) even, done)
+    ∷ (putWide range 1 (1 ∷ []) ones128, done)
+    ∷ (putWide range 1 ones64 over64, done)
+    ∷ (putWide range 1 over64 ones64, is19)
+    ∷ []
+
+pub record Updates : Type 0 where
+  pub allowed : Each kinds (batch! (by 0 5) 0 0 14 (all done allowedUpdates) ∷ [])
+  pub seventeen : Each kinds (batch! (by 0 5) 23 2 28 (all is17 refused17) ∷ [])
+  pub eighteen : Each kinds (batch! (by 0 5) 23 2 8 (all is18 refused18) ∷ [])
+  pub nineteen : Each kinds (batch! (by 0 5) 23 2 16 (all is19 refused19) ∷ [])
+  -- every slot is looked at for 17, then every one for 18, then for 19
+  pub both-slots : Each (configured (rowWith 1 0 4 (field exact 8 ∷ field ternary 8 ∷ []) (action 1 [] ∷ []) ∷ []))
+      (batch! (by 0 5) 23 2 6 bothSlots ∷ [])
+  -- and every slot and parameter by its own width
+  pub each-width : Each (configured (byWidths ∷ [])) (batch! (by 0 5) 23 2 11 eachWidth ∷ [])
+  -- the rules of lpm, ternary and range at the widths 1 and 128
+  pub narrow-and-wide : Each (configured narrowAndWide) (batch! (by 0 5) 23 2 26 ends ∷ [])
+  -- 128 one bits fit a width of 128 and not one of 127
+  pub widest : Each (configured (row 1 0 4 exact 128 ∷ row 2 0 4 exact 127 ∷ []))
+      (batch! (by 0 5) 23 2 2
+      ((insert! (entry 1 (key 0 exact (val ones128) none17) 1), done)
+      ∷ (insert! (entry 2 (key 0 exact (val ones128) none17) 1), is18)
+      ∷ [])
+      ∷ [])
