@@ -3,6 +3,7 @@
 use mathlib.Core.List.{List, [], _∷_, _++_, map}
 use Prim.Native.Nat.{ℕ, _+_, _-_}
 use lib.ListN.{take, drop, set, replicate}
+use Rattle.rules.specs.Bytes.{concat}
 use Rattle.rules.specs.Key.{omitted, exact, lpm, ternary, range, optional}
 use Rattle.rules.specs.Answer.{Reply}
 use Rattle.rules.specs.Sample.{table#, ones64, over64, ones128, by, open!, close!, arbitrate!, configure!, write!, readFrom, readAll!, readOne, field, action, rowWith, row, sizeless, val, val1, val2, val3, none17, slot, keyWith, key, entryWith, entry, item, insert!, modify!, delete!, leading, configured, bytes, ok, refused, told, done, Each, InTurn, batch!, all}
@@ -27,29 +28,51 @@ stocked =
 abbrev stock : Reply
 stock = bytes 0 0 4 (item 2 1 1 ∷ item 2 2 1 ∷ item 1 1 1 ∷ item 1 2 1 ∷ [])
 
--- table 1 with a ternary, a range, an lpm and an optional field of width 16, and action 1 with four parameters of width 16
+-- table 1 with an optional, a ternary, a range and an lpm field of width 16, and action 1 with four parameters of width 16
 abbrev four16 : List ℕ
 four16 =
-    rowWith 1 0 4 (map (λ (k : ℕ). field k 16) (ternary ∷ range ∷ lpm ∷ optional ∷ [])) (action 1 (replicate 4 16) ∷ [])
+    rowWith 1 0 20 (map (λ (k : ℕ). field k 16) (optional ∷ ternary ∷ range ∷ lpm ∷ [])) (action 1 (replicate 4 16) ∷ [])
 
 -- a key of it, each value with a zero byte before it, and in shortest form
 abbrev keyPadded : List ℕ
 keyPadded =
     keyWith 1
-    (slot ternary (val2 0 5) (val2 0 7)
+    (slot optional (val2 0 9) none17
+    ∷ slot ternary (val2 0 5) (val2 0 7)
     ∷ slot range (val2 0 1) (val2 0 2)
     ∷ slot lpm (val3 0 0x0A 0) (val2 0 8)
-    ∷ slot optional (val2 0 9) none17
     ∷ [])
 
 abbrev keyShortest : List ℕ
 keyShortest =
     keyWith 1
-    (slot ternary (val1 5) (val1 7)
+    (slot optional (val1 9) none17
+    ∷ slot ternary (val1 5) (val1 7)
     ∷ slot range (val1 1) (val1 2)
     ∷ slot lpm (val2 0x0A 0) (val1 8)
-    ∷ slot optional (val1 9) none17
     ∷ [])
+
+-- Keys that differ from it in one part: the priority (at 3), the first slot's kind, or a value. The values are at 6 (optional),
+-- 41 and 58 (ternary, mask), 76 and 93 (range), 111 and 128 (lpm, prefix length).
+abbrev neighbours : List (List ℕ)
+neighbours =
+    set keyShortest 3 2
+    ∷ keyWith 1 (slot omitted none17 none17 ∷ drop 39 keyShortest ∷ [])
+    ∷ set keyShortest 6 8
+    ∷ set keyShortest 41 4
+    ∷ set keyShortest 58 5
+    ∷ set keyShortest 76 0
+    ∷ set keyShortest 93 3
+    ∷ set keyShortest 111 0x0B
+    ∷ set keyShortest 128 9
+    ∷ []
+
+-- an entry of it, with parameters of one byte
+abbrev with4 : List ℕ → ℕ → ℕ → ℕ → ℕ → List ℕ
+with4 k a b c d = entryWith 1 k 1 (map val1 (a ∷ b ∷ c ∷ d ∷ []))
+
+abbrev with1234 : List ℕ → List ℕ
+with1234 k = with4 k 1 2 3 4
 
 -- each sees those before it and succeeds or fails alone; a DELETE's action is checked too
 abbrev mixed : List (List ℕ × List ℕ)
@@ -82,12 +105,19 @@ pub record Entries : Type 0 where
   -- that is inserted and in one that is modified.
   pub shortened : InTurn (configured (four16 ∷ []))
       ((send (insert! (entryWith 1 keyPadded 1 (map (val2 0) (1 ∷ 2 ∷ 3 ∷ 4 ∷ []))) ∷ []), bytes 0 0 1 (done ∷ []))
-      ∷ (readAll!, bytes 0 0 1 (entryWith 1 keyShortest 1 (map val1 (1 ∷ 2 ∷ 3 ∷ 4 ∷ [])) ∷ []))
-      ∷ (send (insert! (entryWith 1 keyShortest 1 (map val1 (1 ∷ 2 ∷ 3 ∷ 4 ∷ []))) ∷ []), bytes 23 2 1 ((20 ∷ 6 ∷ []) ∷ []))
+      ∷ (readAll!, bytes 0 0 1 (with1234 keyShortest ∷ []))
+      ∷ (send (insert! (with1234 keyShortest) ∷ []), bytes 23 2 1 ((20 ∷ 6 ∷ []) ∷ []))
       ∷ (send (modify! (entryWith 1 keyPadded 1 (map (val3 0 0) (5 ∷ 6 ∷ 0 ∷ 8 ∷ []))) ∷ []), bytes 0 0 1 (done ∷ []))
-      ∷ (readOne keyPadded, bytes 0 0 1 (entryWith 1 keyShortest 1 (map val1 (5 ∷ 6 ∷ 0 ∷ 8 ∷ [])) ∷ []))
-      ∷ (send (delete! (entryWith 1 keyPadded 1 (map val1 (1 ∷ 2 ∷ 3 ∷ 4 ∷ []))) ∷ []), bytes 0 0 1 (done ∷ []))
+      ∷ (readOne keyPadded, bytes 0 0 1 (with4 keyShortest 5 6 0 8 ∷ []))
+      ∷ (send (delete! (with1234 keyPadded) ∷ []), bytes 0 0 1 (done ∷ []))
       ∷ (readAll!, ok)
+      ∷ [])
+  -- Keys that differ in one part are two keys: all are stored, and the entry of one is read and deleted alone.
+  pub neighbours-apart : InTurn (configured (four16 ∷ []))
+      (batch! (by 0 5) 0 0 10 (all done (map (λ (k : List ℕ). insert! (with1234 k)) (keyShortest ∷ neighbours)))
+      ∷ (readOne keyShortest, bytes 0 0 1 (with1234 keyShortest ∷ []))
+      ∷ (send (delete! (with1234 keyShortest) ∷ []), bytes 0 0 1 (done ∷ []))
+      ∷ (readAll!, bytes 0 0 9 (map with1234 neighbours))
       ∷ [])
   -- READ needs no primary. Table 0 is every table the role may write, for role 3 none; a named table must be known, by all its
   -- bytes, and the role's.
@@ -177,6 +207,7 @@ refusedRows =
     set good 0 0x01
     ∷ set good 0 0x03
     ∷ set good 3 2
+    ∷ set good 3 5
     -- owner over 7
     ∷ set good 4 8
     -- size 0; sizes adding to over 256
@@ -319,8 +350,9 @@ refused17 =
     ∷ put exact 0 (set (val1 7) 16 1) none17
     ∷ put ternary 1 (val1 5) (set (val1 7) 2 1)
     ∷ putWith (set (val1 7) 16 1 ∷ [])
-    -- action not the row's
+    -- action not the row's, by its last byte and by its first
     ∷ insert! (item exact 7 3)
+    ∷ insert! (set (item exact 7 1) 148 0x02)
     -- unused part nonzero: omitted slot, second value of exact and optional, unused slots, parameter values past the count
     ∷ insert! (entry lpm (key 0 omitted none17 (val1 0)) 1)
     ∷ put exact 0 (val1 7) (val1 0)
@@ -383,6 +415,22 @@ bothSlots =
     ∷ (putBoth 1 (slot exact (val1 7) none17) (slot omitted none17 none17), done)
     ∷ []
 
+-- INSERT into the table of `four16`: the rule of the second, third or fourth slot is broken; and none is
+abbrev eachSlot : List (List ℕ × List ℕ)
+eachSlot =
+    (insert! (with1234 (set keyShortest 41 8)), is19)
+    ∷ (insert! (with1234 (set keyShortest 76 3)), is19)
+    ∷ (insert! (with1234 (set keyShortest 112 1)), is19)
+    ∷ (insert! (with1234 keyShortest), done)
+    ∷ []
+
+-- INSERT into table 2, of three exact fields and an optional one, with a priority
+abbrev lastOptional : List ℕ
+lastOptional = rowWith 2 0 4 (replicate 3 (field exact 8) ++ (field optional 8 ∷ [])) (action 1 [] ∷ [])
+
+abbrev putLast : ℕ → List ℕ
+putLast priority = insert! (entry 2 (keyWith priority (replicate 3 (slot exact (val1 7) none17))) 1)
+
 -- table 1 with exact fields and parameters of widths 1 to 4, and INSERT of these values into it, of one byte each
 abbrev widths : List ℕ
 widths = 1 ∷ 2 ∷ 3 ∷ 4 ∷ []
@@ -413,7 +461,7 @@ eachWidth =
 
 -- tables of lpm, ternary and range, of width 1 under the kind's number, and of width 128 under 10 more
 abbrev narrowAndWide : List (List ℕ)
-narrowAndWide = map (λ (k : ℕ). row k 0 9 k 1) (lpm ∷ ternary ∷ range ∷ []) ++ map (λ (k : ℕ). row (10 + k) 0 9 k 128) (lpm ∷ ternary ∷ range ∷ [])
+narrowAndWide = concat (map (λ (k : ℕ). row k 0 9 k 1 ∷ row (10 + k) 0 9 k 128 ∷ []) (lpm ∷ ternary ∷ range ∷ []))
 
 -- INSERT into a table of width 128
 abbrev putWide : ℕ → ℕ → List ℕ → List ℕ → List ℕ
@@ -465,13 +513,16 @@ ends =
 
 pub record Updates : Type 0 where
   pub allowed : Each kinds (batch! (by 0 5) 0 0 14 (all done allowedUpdates) ∷ [])
-  pub seventeen : Each kinds (batch! (by 0 5) 23 2 28 (all is17 refused17) ∷ [])
+  pub seventeen : Each kinds (batch! (by 0 5) 23 2 29 (all is17 refused17) ∷ [])
   pub eighteen : Each kinds (batch! (by 0 5) 23 2 8 (all is18 refused18) ∷ [])
   pub nineteen : Each kinds (batch! (by 0 5) 23 2 16 (all is19 refused19) ∷ [])
   -- every slot is looked at for 17, then every one for 18, then for 19
   pub both-slots : Each (configured (rowWith 1 0 4 (field exact 8 ∷ field ternary 8 ∷ []) (action 1 [] ∷ []) ∷ []))
       (batch! (by 0 5) 23 2 6 bothSlots ∷ [])
-  -- and every slot and parameter by its own width
+  -- the last slot too; and the last field asks for a priority as the others do
+  pub each-slot : Each (configured (four16 ∷ lastOptional ∷ []))
+      (batch! (by 0 5) 23 2 6 (eachSlot ++ ((putLast 0, is19) ∷ (putLast 1, done) ∷ [])) ∷ [])
+  -- every slot and every parameter by its own width
   pub each-width : Each (configured (byWidths ∷ [])) (batch! (by 0 5) 23 2 11 eachWidth ∷ [])
   -- the rules of lpm, ternary and range at the widths 1 and 128
   pub narrow-and-wide : Each (configured narrowAndWide) (batch! (by 0 5) 23 2 26 ends ∷ [])
