@@ -9,7 +9,7 @@ entries = record {
   padded = refl;
   zero = refl;
   shortened = refl;
-  neighbours-apart = refl;
+  keys-apart = refl;
   owners = refl;
   last-role = refl;
   one = refl;
@@ -17,6 +17,8 @@ entries = record {
   full = refl;
   batch = refl;
   no-updates = refl;
+  count = refl;
+  replaced = refl;
   emptied = refl;
   kept = refl;
 }

@@ -25,6 +25,7 @@ unfolding computing
 elections = record {
   play = refl;
   first-and-last = refl;
+  opened-again = refl;
   no-mark = refl;
   long-ids = refl;
   changes = refl;

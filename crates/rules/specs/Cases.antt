@@ -4,11 +4,10 @@ use mathlib.Core.Path.{_≡_}
 use mathlib.Core.List.{List, [], _∷_, _++_, map}
 use Prim.Native.Nat.{ℕ}
 use lib.ListN.{set, replicate}
-use Rattle.rules.specs.Frame.{Command}
 use Rattle.rules.specs.Key.{exact, range}
 use Rattle.rules.specs.Answer.{Reply}
-use Rattle.rules.specs.Call.{State, fresh, commandOf, reply}
-use Rattle.rules.specs.Sample.{table#, by, unset, headBy, open!, close!, arbitrate!, configure!, write!, read!, readFrom, readAll!, readOne, field, action, rowWith, row, sizeless, val1, val2, key, entryWith, item, insert!, modify!, delete!, leading, two, configured, commandIn, after, bytes, ok, refused, done, Each, InTurn, batch!, all}
+use Rattle.rules.specs.Call.{fresh, commandOf, reply}
+use Rattle.rules.specs.Sample.{table#, by, unset, headBy, open!, close!, arbitrate!, configure!, write!, read!, readFrom, readAll!, readOne, field, action, rowWith, row, sizeless, val1, val2, key, entryWith, item, insert!, modify!, delete!, leading, two, configured, commandIn, holding, bytes, ok, refused, done, Each, InTurn, batch!, all}
 use Rattle.rules.specs.StreamCases.{eight, Frames, Elections}
 use Rattle.rules.specs.EntryCases.{Entries, Configurations, Updates}
 
@@ -75,15 +74,12 @@ fromTwenty =
 abbrev stray : List (List ℕ)
 stray = insert! (item 9 7 1) ∷ []
 
--- table 1 of a size, with one entry, and n entries of table 2 in the store beside it; and an INSERT of another into table 1
-abbrev crowded : ℕ → ℕ → State
-crowded size n = record {
-  control = after (configured (row 1 0 size exact 8 ∷ row 2 0 254 exact 8 ∷ [])) .control;
-  tables = record { entries = item 1 1 1 ∷ replicate n (item 2 1 1) };
-}
-
-abbrev adding : Command
-adding = commandIn (write! (by 0 5) 0 (insert! (item 1 2 1) ∷ []))
+-- the answer to an INSERT into table 1, which is of a size and has one entry; beside it the store has n entries of table 2
+abbrev crowded : ℕ → ℕ → Reply
+crowded size n =
+    reply
+    (holding (row 1 0 size exact 8 ∷ row 2 0 254 exact 8 ∷ []) (item 1 1 1 ∷ replicate n (item 2 1 1)))
+    (commandIn (write! (by 0 5) 0 (insert! (item 1 2 1) ∷ [])))
 
 -- what a call gets where the store and the answer buffer are of these lengths
 abbrev lent : ℕ → ℕ → List ℕ → Reply
@@ -183,9 +179,8 @@ pub record Orders : Type 0 where
       ∷ [])
   -- No list of calls comes to 24: the sizes add to 256 at most, so 22 comes before it. Of tables that no list leaves: 22 (the table
   -- holds its size, and the store 256), 24 (the store alone); with 255 in the store the entry is stored.
-  pub store-full : (reply (crowded 1 255) adding ≡ bytes 23 2 1 ((22 ∷ 8 ∷ []) ∷ []))
-      × (reply (crowded 2 255) adding ≡ bytes 23 2 1 ((24 ∷ 8 ∷ []) ∷ []))
-      × (reply (crowded 2 254) adding ≡ bytes 0 0 1 (done ∷ []))
+  pub store-full : (crowded 1 255 ≡ bytes 23 2 1 ((22 ∷ 8 ∷ []) ∷ [])) × (crowded 2 255 ≡ bytes 23 2 1 ((24 ∷ 8 ∷ []) ∷ []))
+      × (crowded 2 254 ≡ bytes 0 0 1 (done ∷ []))
 
 -- ---- all of them
 

@@ -1,12 +1,14 @@
 -- Worked cases of configurations (14), updates (17 to 19) and entries: whole frames, and the whole answers that document 01 gives
 -- them, written out. Assumes nothing.
+use mathlib.Core.Path.{_≡_}
 use mathlib.Core.List.{List, [], _∷_, _++_, map}
 use Prim.Native.Nat.{ℕ, _+_, _-_}
 use lib.ListN.{take, drop, set, replicate}
 use Rattle.rules.specs.Bytes.{concat}
 use Rattle.rules.specs.Key.{omitted, exact, lpm, ternary, range, optional}
 use Rattle.rules.specs.Answer.{Reply}
-use Rattle.rules.specs.Sample.{table#, ones64, over64, ones128, by, open!, close!, arbitrate!, configure!, write!, readFrom, readAll!, readOne, field, action, rowWith, row, sizeless, val, val1, val2, val3, none17, slot, keyWith, key, entryWith, entry, item, insert!, modify!, delete!, leading, configured, bytes, ok, refused, told, done, Each, InTurn, batch!, all}
+use Rattle.rules.specs.Call.{reply}
+use Rattle.rules.specs.Sample.{table#, ones64, over64, ones128, by, open!, close!, arbitrate!, configure!, write!, readFrom, readAll!, readOne, field, action, rowWith, row, sizeless, val, val1, val2, val3, none17, slot, keyWith, key, entryWith, entry, item, insert!, modify!, delete!, leading, configured, commandIn, holding, bytes, ok, refused, told, done, Each, InTurn, batch!, all}
 
 -- ---- configuration and entries
 
@@ -54,8 +56,8 @@ keyShortest =
 
 -- Keys that differ from it in one part: the priority (at 3), the first slot's kind, or a value. The values are at 6 (optional),
 -- 41 and 58 (ternary, mask), 76 and 93 (range), 111 and 128 (lpm, prefix length).
-abbrev neighbours : List (List ℕ)
-neighbours =
+abbrev nearKeys : List (List ℕ)
+nearKeys =
     set keyShortest 3 2
     ∷ keyWith 1 (slot omitted none17 none17 ∷ drop 39 keyShortest ∷ [])
     ∷ set keyShortest 6 8
@@ -96,9 +98,9 @@ pub record Entries : Type 0 where
       ∷ (send (delete! (entry 1 (key 0 exact (val2 0 7) none17) 1) ∷ []), bytes 0 0 1 (done ∷ []))
       ∷ (readAll!, ok)
       ∷ [])
-  -- zero is one byte 00
+  -- zero is one byte 00, also where 16 are given
   pub zero : InTurn (configured (row 1 0 4 exact 16 ∷ []))
-      ((send (insert! (entry 1 (key 0 exact (val3 0 0 0) none17) 1) ∷ []), bytes 0 0 1 (done ∷ []))
+      ((send (insert! (entry 1 (key 0 exact (val (replicate 16 0)) none17) 1) ∷ []), bytes 0 0 1 (done ∷ []))
       ∷ (readAll!, bytes 0 0 1 (item 1 0 1 ∷ []))
       ∷ [])
   -- The same of both values of every slot (mask, upper bound and prefix length among them) and of every parameter, in an entry
@@ -113,11 +115,11 @@ pub record Entries : Type 0 where
       ∷ (readAll!, ok)
       ∷ [])
   -- Keys that differ in one part are two keys: all are stored, and the entry of one is read and deleted alone.
-  pub neighbours-apart : InTurn (configured (four16 ∷ []))
-      (batch! (by 0 5) 0 0 10 (all done (map (λ (k : List ℕ). insert! (with1234 k)) (keyShortest ∷ neighbours)))
+  pub keys-apart : InTurn (configured (four16 ∷ []))
+      (batch! (by 0 5) 0 0 10 (all done (map (λ (k : List ℕ). insert! (with1234 k)) (keyShortest ∷ nearKeys)))
       ∷ (readOne keyShortest, bytes 0 0 1 (with1234 keyShortest ∷ []))
       ∷ (send (delete! (with1234 keyShortest) ∷ []), bytes 0 0 1 (done ∷ []))
-      ∷ (readAll!, bytes 0 0 9 (map with1234 neighbours))
+      ∷ (readAll!, bytes 0 0 9 (map with1234 nearKeys))
       ∷ [])
   -- READ needs no primary. Table 0 is every table the role may write, for role 3 none; a named table must be known, by all its
   -- bytes, and the role's.
@@ -164,7 +166,17 @@ pub record Entries : Type 0 where
   pub batch : InTurn (configured tables) (batch! (by 0 5) 23 2 8 mixed ∷ (readAll!, bytes 0 0 1 (item 1 1 2 ∷ [])) ∷ [])
   -- n 0
   pub no-updates : Each stocked ((send [], ok) ∷ [])
-  -- CONFIGURE empties the tables, also with the rows in force; a refused one does not
+  -- a count over 255 takes both of its bytes
+  pub count : reply (holding tables (replicate 256 (item 1 1 1))) (commandIn readAll!)
+      ≡ record { returned = 0; written = 0 ∷ 0 ∷ 1 ∷ 0 ∷ concat (replicate 256 (item 1 1 1)) }
+  -- CONFIGURE replaces all rows
+  pub replaced : InTurn stocked
+      ((configure! (by 0 5) (row 3 0 2 exact 8 ∷ []), ok)
+      ∷ (readFrom 0 (table# 1), refused 15 5)
+      ∷ (readFrom 0 (table# 3), ok)
+      ∷ (readAll!, ok)
+      ∷ [])
+  -- and empties the tables, also with the rows in force; a refused one does not
   pub emptied : InTurn stocked ((configure! (by 0 5) tables, ok) ∷ (readAll!, ok) ∷ [])
   pub kept : InTurn stocked ((configure! (by 0 5) sizeless, refused 14 3) ∷ (readAll!, stock) ∷ [])
 
@@ -354,8 +366,10 @@ refused17 =
     ∷ insert! (item exact 7 3)
     ∷ insert! (set (item exact 7 1) 148 0x02)
     -- unused part nonzero: omitted slot, second value of exact and optional, unused slots, parameter values past the count
+    ∷ insert! (entry lpm (key 0 omitted (val1 0) none17) 1)
     ∷ insert! (entry lpm (key 0 omitted none17 (val1 0)) 1)
     ∷ put exact 0 (val1 7) (val1 0)
+    ∷ put exact 0 (val1 7) (set none17 16 1)
     ∷ put optional 1 (val1 7) (val1 0)
     ∷ insert! (entry exact (keyWith 0 (slot exact (val1 7) none17 ∷ slot exact (val1 7) none17 ∷ [])) 1)
     ∷ insert! (entry exact (set (key 0 exact (val1 7) none17) 143 1) 1)
@@ -513,7 +527,7 @@ ends =
 
 pub record Updates : Type 0 where
   pub allowed : Each kinds (batch! (by 0 5) 0 0 14 (all done allowedUpdates) ∷ [])
-  pub seventeen : Each kinds (batch! (by 0 5) 23 2 29 (all is17 refused17) ∷ [])
+  pub seventeen : Each kinds (batch! (by 0 5) 23 2 31 (all is17 refused17) ∷ [])
   pub eighteen : Each kinds (batch! (by 0 5) 23 2 8 (all is18 refused18) ∷ [])
   pub nineteen : Each kinds (batch! (by 0 5) 23 2 16 (all is19 refused19) ∷ [])
   -- every slot is looked at for 17, then every one for 18, then for 19

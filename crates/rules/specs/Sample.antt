@@ -187,6 +187,10 @@ commandIn f = commandOf 56_320 (record { frame = f; buffer = 57_344 })
 abbrev pub after : List (List ℕ) → State
 after fs = run (fresh 1) (map commandIn fs)
 
+-- the agent of a primary with 5 and these rows, its tables holding these entries
+abbrev pub holding : List (List ℕ) → List (List ℕ) → State
+holding rows entries = record { control = after (configured rows) .control; tables = record { entries = entries } }
+
 -- the last frame's answer
 abbrev pub answerTo : List (List ℕ) → List ℕ → Reply
 answerTo fs f = reply (after fs) (commandIn f)

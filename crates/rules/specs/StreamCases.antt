@@ -34,9 +34,9 @@ shorter f = take (length f - 1) f
 abbrev longer : List ℕ → List ℕ
 longer f = f ++ (0 ∷ [])
 
--- flag over 1, flag 0 with a nonzero id, flag 1 with id 0
+-- flag over 1, flag 0 with a nonzero id (by its last byte, and by another), flag 1 with id 0
 abbrev badHeads : List (List ℕ)
-badHeads = headBy 1 0 2 5 ∷ headBy 1 0 0 5 ∷ headBy 1 0 1 0 ∷ []
+badHeads = headBy 1 0 2 5 ∷ headBy 1 0 0 5 ∷ set (byLong over64) 9 0 ∷ headBy 1 0 1 0 ∷ []
 
 abbrev Malformed : List (List ℕ) → Type 0
 Malformed frames = Each [] (all (refused 1 3) frames)
@@ -104,6 +104,14 @@ pub record Elections : Type 0 where
       ∷ (arbitrate! 31 (by 0 7), bytes 0 0 1 (told 31 0 0 7 ∷ []))
       ∷ (close! 31, ok)
       ∷ (close! 31, refused 4 5)
+      ∷ [])
+  -- OPEN of the primary's stream is refused, and leaves it the primary. Closed and opened again it holds no id, and closes unheard.
+  pub opened-again : InTurn two
+      ((open! 1, refused 3 9)
+      ∷ (close! 1, bytes 0 0 1 (told 2 0 5 5 ∷ []))
+      ∷ (open! 1, ok)
+      ∷ (write! (by 0 5) 0 [], refused 10 7)
+      ∷ (close! 1, ok)
       ∷ [])
   -- no id and no mark: status 5, flag 0 and zeros
   pub no-mark : Each (open! 1 ∷ []) ((arbitrate! 1 (unset 0), bytes 0 0 1 ((1 ∷ 0 ∷ 5 ∷ 0 ∷ replicate 16 0) ∷ [])) ∷ [])
