@@ -23,8 +23,7 @@ use Rattle.rules.proofs.Shortest.{key-of-short}
 use Rattle.rules.proofs.Tables.{revised, distinct-map, distinct-keep, distinct-snoc, keep-fewer}
 use Rattle.entries.specs.Store.{entriesIn, tablesIn, place, without, Left}
 use Rattle.entries.proofs.Places.{modify-place, delete-place, place-stored}
-use Rattle.updates.specs.Update.{reasonOf, Meant, changed, Performed, Tidy, Applied}
-use Rattle.updates.specs.declared.Updated.{Updated}
+use Rattle.updates.specs.Update.{reasonOf, Meant, changed, Performed, Tidy}
 use Rattle.updates.specs.declared.Verdict.{Verdict}
 use Rattle.updates.specs.declared.Verdict.the-variants.{Refused, Insert, Modify, Delete}
 
@@ -59,24 +58,16 @@ module _ (count : ℕ) (before after u : List ℕ) (long : length u ≡ 221) (d 
   inside : (i : ℕ) → place (shortKey (drop 1 u)) (entriesIn count before) ≡ some i → i < count
   inside i p = omega (arith, parts-count count 220 before, place-stored (shortKey (drop 1 u)) (entriesIn count before) .1 i p .0)
 
-  performed : (v : Verdict) (j n : ℕ) → reasonOf v ≡ j → Meant v (byte 0 u) (drop 1 u) (tablesIn count before)
+  pub performed : (v : Verdict) (n : ℕ) → Meant v (byte 0 u) (drop 1 u) (tablesIn count before)
       → Performed v count before after (drop 1 u) n
-      → Left before after n (apply j (updateOf u) (tablesIn count before) .entries)
+      → Left before after n (apply (reasonOf v) (updateOf u) (tablesIn count before) .entries)
   unfolding apply perform
-  performed (Refused r) j n e m p =
-      rw (← e, ne-eqb r 0 (λ z. omega arith), p .0, p .1) (record { holds = refl; room = refl; beyond = refl })
-  performed Insert j n e m p = rw (← e, m .0) (p (omega (arith, m .1, parts-count count 220 before)) .1)
-  performed (Modify i) j n e m p =
-      rw (← e, m .0, m .1, ← modified (drop 1 u) (entriesIn count before) i whole d (m .2)) (p (inside i (m .2)) .1)
-  performed (Delete i) j n e m p =
-      rw (← e, m .0, m .1, ← deleted (drop 1 u) (entriesIn count before) i whole d (m .2)) (p (inside i (m .2)) .1)
-
-  pub applied : (isKnown : Bool) (row : Row) (role : ℕ) (v : Verdict) {r : Updated} → r .reason ≡ reasonOf v
-      → reasonOf v ≡ judgeBy isKnown row role (tablesIn count before) (updateOf u)
-      → Meant v (byte 0 u) (drop 1 u) (tablesIn count before)
-      → Performed v count before after (drop 1 u) (r .count)
-      → Applied isKnown row role count before after (updateOf u) r
-  applied isKnown row role v {r} e j m p = record { reason = e ∙ j; left = performed v _ (r .count) j m p }
+  performed (Refused r) n m p = rw (ne-eqb r 0 (λ z. omega arith), p .0, p .1) (record { holds = refl; room = refl; beyond = refl })
+  performed Insert n m p = rw (m .0) (p (omega (arith, m .1, parts-count count 220 before)) .1)
+  performed (Modify i) n m p =
+      rw (m .0, m .1, ← modified (drop 1 u) (entriesIn count before) i whole d (m .2)) (p (inside i (m .2)) .1)
+  performed (Delete i) n m p =
+      rw (m .0, m .1, ← deleted (drop 1 u) (entriesIn count before) i whole d (m .2)) (p (inside i (m .2)) .1)
 
 -- ---- an update keeps a store tidy
 

@@ -1,22 +1,22 @@
 -- What the functions of one update are held to, in the rules' terms. Assumes nothing.
 use mathlib.Core.Path.{_≡_}
-use mathlib.Core.Bool.{Bool, true, false, _&&_, not}
+use mathlib.Core.Bool.{true, false, _&&_, not}
 use mathlib.Core.List.{List, [], _∷_, _++_}
 use mathlib.Core.Option.{some}
 use Prim.Native.Nat.{ℕ, _+_, _-_, _≤_, _<_}
 use lib.Dec.{leb}
 use lib.ListN.{length, take, drop, getD, set}
+use Rattle.rules.specs.Bytes.{byte}
 use Rattle.rules.specs.Reason.{first}
-use Rattle.rules.specs.Frame.{Update}
+use Rattle.rules.specs.Frame.{updateOf}
 use Rattle.rules.specs.Row.{Row}
 use Rattle.rules.specs.Key.{keyFormed, keyFits, keyRules, shortKey}
 use Rattle.rules.specs.Entry.{actionFormed, actionFits, shortEntry}
-use Rattle.rules.specs.Update.{Tables, isInsert, isModify, stored, held, judgeBy, apply}
+use Rattle.rules.specs.Update.{Tables, isInsert, isModify, stored, held, apply}
 use Rattle.rules.specs.Sound.{Distinct}
 use Rattle.entries.specs.Store.{entriesIn, tablesIn, place, without, Left}
 use Rattle.updates.specs.declared.Verdict.{Verdict}
 use Rattle.updates.specs.declared.Verdict.the-variants.{Refused, Insert, Modify, Delete}
-use Rattle.updates.specs.declared.Updated.{Updated}
 
 -- 17 to 19 of a whole entry
 unfoldable pub entryReason : Row → List ℕ → ℕ
@@ -69,7 +69,8 @@ Performed (Modify i) count before after e n =
     i < count → (n ≡ count) × Left before after n (set (entriesIn count before) i (changed (getD (entriesIn count before) i []) e))
 Performed (Delete i) count before after e n = i < count → (n ≡ count - 1) × Left before after n (without i (entriesIn count before))
 
--- one update, judged by whether its table is known and by the table's row, and applied
-pub record Applied (isKnown : Bool) (row : Row) (role count : ℕ) (before after : List ℕ) (u : Update) (r : Updated) : Type 0 where
-  pub reason : r .reason ≡ judgeBy isKnown row role (tablesIn count before) u
-  pub left : Left before after (r .count) (apply (judgeBy isKnown row role (tablesIn count before) u) u (tablesIn count before) .entries)
+-- what applying a verdict on an update of 221 bytes leaves of a tidy store, where what it found is there
+abbrev pub Applied : Verdict → List ℕ → ℕ → List ℕ → List ℕ → ℕ → Type 0
+Applied v u count before after n =
+    Tidy count before → Meant v (byte 0 u) (drop 1 u) (tablesIn count before)
+    → Left before after n (apply (reasonOf v) (updateOf u) (tablesIn count before) .entries)

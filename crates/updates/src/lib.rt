@@ -13,23 +13,17 @@ ghost use Rattle.rules.specs.Entry.{actionFormed, actionFits, shortEntry};
 ghost use Rattle.rules.specs.Update.{isInsert, held as heldIn, judgeBy};
 ghost use Rattle.rows.specs.Meaning.{rowOf};
 ghost use Rattle.entries.specs.Store.{entriesIn, tablesIn, place, placeOf, Left};
-ghost use Rattle.updates.specs.Update.{entryReason, placeReason, reasonOf, Meant, changed, Performed, Tidy, Applied};
+ghost use Rattle.updates.specs.Update.{entryReason, placeReason, reasonOf, Meant, changed, Performed, Applied};
 use entries::Found;
 use numbers::integer;
 use rows::Row;
 
 // What is to become of an update.
-enum Verdict {
+pub enum Verdict {
     Refused(u8),
     Insert,
     Modify(usize),
     Delete(usize),
-}
-
-// What an update leaves: its reason (0: it took effect) and the number of entries.
-pub struct Updated {
-    pub reason: u8,
-    pub count: usize,
 }
 
 // 17 over all of an entry.
@@ -76,14 +70,22 @@ fn entry_reason(row: Row, entry: &[u8]) -> u8
     in_order(formed, fits, ruled)
 }
 
+// Where the entry of a key of 148 bytes is. Keys are compared in shortest form, into which this one is brought at `short`.
+fn look_up(store: &[u8], count: usize, key: &[u8], short: &mut [u8]) -> Found
+    requires { ⌜ (220 * count ≤ length (now store)) × (length (now key) ≡ 148) × (length (now short) ≡ 148) ⌝ }
+    ensures { λ r. ⌜ placeOf r ≡ place (shortKey (now (key .entry))) (entriesIn count (now (store .entry))) ⌝ }
+{
+    values::shorten_key(key, short);
+    entries::find(store, count, short)
+}
+
 // Where the entry of an update's key is.
 fn locate(store: &[u8], count: usize, entry: &[u8]) -> Found
     requires { ⌜ (220 * count ≤ length (now store)) × (length (now entry) ≡ 220) ⌝ }
     ensures { λ r. ⌜ placeOf r ≡ place (shortKey (now (entry .entry))) (entriesIn count (now (store .entry))) ⌝ }
 {
-    let mut key = [0; 148];
-    values::shorten_key(entry, &mut key);
-    entries::find(store, count, &key)
+    let mut short = [0; 148];
+    look_up(store, count, &entry[0..148], &mut short)
 }
 
 // Whether the table of the row holds its size. It holds no more entries than the store, so that mostly none has to be counted.
@@ -138,7 +140,7 @@ fn judge_change(row: Row, kind: u8, store: &[u8], count: usize, entry: &[u8]) ->
 }
 
 // Judges an update of 221 bytes by its table's row, if the table is known, the role and the entries stored.
-fn judge(known: bool, row: Row, role: u8, store: &[u8], count: usize, update: &[u8]) -> Verdict
+pub fn judge(known: bool, row: Row, role: u8, store: &[u8], count: usize, update: &[u8]) -> Verdict
     requires { ⌜ (220 * count ≤ length (now store)) × (length (now update) ≡ 221) ⌝ }
     ensures reason { λ r. ⌜ reasonOf r ≡ judgeBy «known» (rowOf row) role (tablesIn count (now (store .entry))) (updateOf (now (update .entry))) ⌝ }
     ensures meant { λ r. ⌜ Meant r (byte 0 (now (update .entry))) (drop 1 (now (update .entry))) (tablesIn count (now (store .entry))) ⌝ }
@@ -184,7 +186,7 @@ fn modify(store: &mut [u8], count: usize, i: usize, entry: &[u8])
     values::shorten_action(entry, &mut store[at..]);
 }
 
-// Does what a verdict says; the number of entries then.
+// Does what a verdict says with an entry; the number of entries then.
 fn perform(verdict: Verdict, store: &mut [u8], count: usize, entry: &[u8]) -> usize
     requires { ⌜ (count ≤ 256) × (56320 ≤ length (now store)) × (length (now entry) ≡ 220) ⌝ }
     ensures bound { λ r. ⌜ r ≤ 256 ⌝ }
@@ -216,30 +218,18 @@ fn perform(verdict: Verdict, store: &mut [u8], count: usize, entry: &[u8]) -> us
     }
 }
 
-// One update of 221 bytes, judged and applied. A count over 256, which no list of calls leaves, is refused with 24.
-pub fn update(
-    known: bool,
-    row: Row,
-    role: u8,
-    store: &mut [u8],
-    count: usize,
-    update: &[u8],
-) -> Updated
-    requires { ⌜ (56320 ≤ length (now store)) × (length (now update) ≡ 221) ⌝ }
-    ensures { λ r. ⌜ (Tidy count (now (store .entry)) → Applied «known» (rowOf row) role count (now (store .entry)) (now (store .exit)) (updateOf (now (update .entry))) r) ⌝ }
+// Does what was judged of an update of 221 bytes; the number of entries then.
+pub fn apply(verdict: Verdict, store: &mut [u8], count: usize, update: &[u8]) -> usize
+    requires { ⌜ (count ≤ 256) × (56320 ≤ length (now store)) × (length (now update) ≡ 221) ⌝ }
+    ensures bound { λ r. ⌜ r ≤ 256 ⌝ }
+    ensures left { λ r. ⌜ Applied verdict (now (update .entry)) count (now (store .entry)) (now (store .exit)) r ⌝ }
 {
-    if 256 < count {
-        return Updated { reason: 24, count };
-    }
-    let verdict = judge(known, row, role, store, count, update);
-    let reason = verdict.reason();
-    let count = perform(verdict, store, count, &update[1..]);
-    Updated { reason, count }
+    perform(verdict, store, count, &update[1..])
 }
 
 impl Verdict {
     // The reason of a verdict, 0 where the update takes effect.
-    fn reason(self) -> u8
+    pub fn reason(self) -> u8
         ensures { λ r. ⌜ r ≡ reasonOf self ⌝ }
     {
         match self {
