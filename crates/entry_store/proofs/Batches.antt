@@ -20,9 +20,8 @@ use Rattle.rows.specs.Meaning.{rowOf, rowsOf, rowAt}
 use Rattle.rows.proofs.Counted.{blank, row-there}
 use Rattle.buffers.specs.Splice.{splice}
 use Rattle.buffers.proofs.Written.{Written as Pairs, written-none, written-next, written-all}
-use Rattle.entries.specs.Store.{tablesIn}
-use Rattle.updates.specs.declared.Updated.{Updated}
-use Rattle.updates.specs.Update.{Tidy, Applied}
+use Rattle.entries.specs.Store.{entriesIn, tablesIn, Left}
+use Rattle.updates.specs.Update.{Tidy}
 use Rattle.updates.proofs.Judging.{judged-by-rows}
 use Rattle.updates.proofs.Updates.{applied-tidy}
 use Rattle.entry_store.specs.Batch.{BatchApplied}
@@ -50,19 +49,25 @@ still reason failed rest = go (eqb 0 reason) failed
 
 -- ---- the row of an update's table
 
--- by what stands at the place that was found for the table of update i, it is judged as by the rows
+-- what it is judged by the row at the place that was found for the table of update i, it is judged by the rows
 pub row-found : (c : Rows) (us : List ℕ) (i at : ℕ) {table : ℕ} → table ≡ int (221 * i + 1) 4 us
-    → ltb at 8 ≡ known table (rowsOf c) → rowAt c at ≡ rowFor table (rowsOf c) → (role : ℕ) (t : Tables)
+    → ltb at 8 ≡ known table (rowsOf c) → rowAt c at ≡ rowFor table (rowsOf c) → (role : ℕ) (t : Tables) {r j : ℕ}
     → let u = updateOf (part (221 * i) 221 us) in
-    judgeBy (ltb at 8) (rowOf (getD (c .rows) (at % 8) blank)) role t u ≡ judge (rowsOf c) role t u
-row-found c us i at {table} e k r role t =
-    judged-by-rows (rowsOf c) role t (updateOf (part (221 * i) 221 us)) (k ∙ ap (λ (n : ℕ). known n (rowsOf c)) its)
-    (λ h. row-there c at h ∙ r ∙ ap (λ (n : ℕ). rowFor n (rowsOf c)) its)
+    r ≡ j → j ≡ judgeBy (ltb at 8) (rowOf (getD (c .rows) (at % 8) blank)) role t u → r ≡ judge (rowsOf c) role t u
+row-found c us i at {table} e k found role t r j =
+    r ∙ j ∙ judged-by-rows (rowsOf c) role t (updateOf (part (221 * i) 221 us)) (k ∙ ap (λ (n : ℕ). known n (rowsOf c)) its)
+    (λ h. row-there c at h ∙ found ∙ ap (λ (n : ℕ). rowFor n (rowsOf c)) its)
   where
     its : table ≡ tableOf (updateOf (part (221 * i) 221 us) .entry)
     its = e ∙ sym (ap number (part-part (221 * i) 221 1 4 us (omega arith)))
 
 -- ---- the store and the answer
+
+-- an update that is refused leaves the store
+pub refused-left : (reason : ℕ) (u : Update) (held : ℕ) (store : List ℕ) → (reason ≡ 0 → ⊥)
+    → Left store store held (apply reason u (tablesIn held store) .entries)
+unfolding apply
+refused-left reason u held store n = rw (ne-eqb reason 0 n) (record { holds = refl; room = refl; beyond = refl })
 
 module _ (rows : List Row) (role : ℕ) where
   -- what updates do to a store as it is
@@ -84,27 +89,32 @@ module _ (rows : List Row) (role : ℕ) where
   batch-start count start out us ok =
       record { tidy = ok; room = refl; beyond = refl; tables = refl; failing = refl; pairs = written-none 2 _ out }
 
+  -- an update leaves a tidy store
+  still-tidy : {held : ℕ} {store : List ℕ} (u : Update) (n : ℕ) (after : List ℕ) → length (u .entry) ≡ 220 → Tidy held store
+      → entriesIn n after ≡ apply (judge rows role (tablesIn held store) u) u (tablesIn held store) .entries → Tidy n after
+  unfolding judge
+  still-tidy {held} {store} u = applied-tidy (known (tableOf (u .entry)) rows) (rowFor (tableOf (u .entry)) rows) role held store u
+
   module _ {all : Batch} {start out store answer : List ℕ} {held i : ℕ} {failed : Bool} where
-    pub batch-next : {u : Update} {us : List Update} {after answer′ : List ℕ} {r : Updated} {failed′ : Bool}
+    pub batch-next : {u : Update} {us : List Update} {after answer′ : List ℕ} {reason n : ℕ} {failed′ : Bool}
         → Batching all start out (u ∷ us) store answer held failed i → length (u .entry) ≡ 220 → 2 * i ≤ length out
-        → {isKnown : Bool} {row : Row} → Applied isKnown row role held store after u r
-        → judgeBy isKnown row role (tablesIn held store) u ≡ judge rows role (tablesIn held store) u
-        → failed′ ≡ flagged (r .reason) failed
-        → answer′ ≡ splice answer (2 * i) (pairOf (r .reason))
-        → Batching all start out us after answer′ (r .count) failed′ (i + 1)
+        → reason ≡ judge rows role (tablesIn held store) u
+        → Left store after n (apply reason u (tablesIn held store) .entries)
+        → failed′ ≡ flagged reason failed
+        → answer′ ≡ splice answer (2 * i) (pairOf reason)
+        → Batching all start out us after answer′ n failed′ (i + 1)
     unfolding batch
-    batch-next {u} {us} {after} {answer′} {r} b l h {isKnown} {row} a same f w =
+    batch-next {u} {us} {after} {answer′} {reason} {n} b l h e left f w =
         let before : Tables = tablesIn held store in
-        let told : r .reason ≡ judge rows role before u = a .reason ∙ same in
-        let t : tablesIn (r .count) after ≡ apply (judge rows role before u) u before =
-        ap (λ (es : List (List ℕ)). let x : Tables = record { entries = es } in x) (a .left .holds) ∙ ap (λ (n : ℕ). apply n u before) same in
+        let t : tablesIn n after ≡ apply (judge rows role before u) u before =
+        ap (λ (es : List (List ℕ)). let x : Tables = record { entries = es } in x) (left .holds) ∙ ap (λ (r : ℕ). apply r u before) e in
         record {
-          tidy = applied-tidy isKnown row role held store u (r .count) after l (b .tidy) (a .left .holds);
-          room = a .left .room ∙ b .room;
-          beyond = a .left .beyond ∙ b .beyond;
+          tidy = still-tidy u n after l (b .tidy) (rw e at (left .holds));
+          room = left .room ∙ b .room;
+          beyond = left .beyond ∙ b .beyond;
           tables = rw t (b .tables);
-          failing = rw (t, f, told) (b .failing ∙ still (judge rows role before u) failed _);
-          pairs = rw t (written-next (b .pairs) refl refl h (rw told at w) refl);
+          failing = rw (t, f, e) (b .failing ∙ still (judge rows role before u) failed _);
+          pairs = rw t (written-next (b .pairs) refl refl h (rw e at w) refl);
         }
 
   pub batch-end : {count : ℕ} {us : List Update} {start out store answer : List ℕ} {held i : ℕ} {failed : Bool}

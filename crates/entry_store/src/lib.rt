@@ -52,6 +52,13 @@ pub fn batch(
     ensures left { λ r. ⌜ (Tidy count (now (store .entry)) → BatchApplied (rowsOf rows) role count (now (store .entry)) (now (store .exit)) (updatesIn n (now (updates .entry))) r) ⌝ }
     ensures pairs { λ r. ⌜ (Tidy count (now (store .entry)) → now (answer .exit) ≡ splice (now (answer .entry)) 0 (concat (map pairOf (batchOf (rowsOf rows) role (tablesIn count (now (store .entry))) (updatesIn n (now (updates .entry))) .reasons)))) ⌝ }
 {
+    if 256 < count {
+        // no list of calls leaves such a count
+        return Written {
+            count,
+            failed: true,
+        };
+    }
     let mut held = count;
     let mut failed = false;
     let mut i: usize = 0;
@@ -62,13 +69,16 @@ pub fn batch(
         let place = rows.position(integer(updates, from + 1, 4));
         let within = place % 8;
         let row = rows.rows[within];
-        let done = updates::update(place < 8, row, role, store, held, &updates[from..end]);
-        held = done.count;
-        if done.reason != 0 {
+        let verdict = updates::judge(place < 8, row, role, store, held, &updates[from..end]);
+        let reason = verdict.reason();
+        if reason != 0 {
             failed = true;
         }
         let at = 2 * i;
-        write_pair(done.reason, &mut answer[at..]);
+        write_pair(reason, &mut answer[at..]);
+        if reason == 0 {
+            held = updates::apply(verdict, store, held, &updates[from..end]);
+        }
         i += 1;
     }
     Written {

@@ -14,20 +14,21 @@ use denote.Ref.{now}
 use borrow.Author.Needs.{needs}
 use Rattle.rules.specs.Bytes.{part, parts}
 use Rattle.rules.specs.Frame.{updateOf}
-use Rattle.rules.specs.Update.{batch}
+use Rattle.rules.specs.Update.{apply, batch}
 use Rattle.rows.specs.Meaning.{rowsOf}
-use Rattle.entries.specs.Store.{tablesIn}
+use Rattle.entries.specs.Store.{tablesIn, Left}
 use Rattle.rules.proofs.Lists.{parts-from}
 use Rattle.buffers.proofs.Splice.{length-window, part-copied}
 use Rattle.updates.specs.Update.{Tidy}
 use Rattle.entry_store.specs.Batch.{updatesIn}
-use Rattle.entry_store.proofs.Batches.{Batching, batch-start, batch-next, batch-end, flag-set, flag-kept, row-found}
+use Rattle.entry_store.proofs.Batches.{Batching, batch-start, batch-next, batch-end, flag-set, flag-kept, row-found, refused-left}
 use Rattle.entry_store.proofs.batch.Statement.{statement}
 use Rattle.entry_store.proofs.batch.Tie as tie
 
 abbrev Inv-loop : tie.InvT-loop
 Inv-loop role store₀ count updates n answer₀ rows held₀ failed₀ i₀ store answer held failed i =
     (i ≤ n)
+    × (held ≤ 256)
     × (length store ≡ length store₀)
     × (length answer ≡ length answer₀)
     × (Tidy count store₀
@@ -37,8 +38,11 @@ Inv-loop role store₀ count updates n answer₀ rows held₀ failed₀ i₀ sto
 abbrev μ-loop : tie.MeasureT-loop
 μ-loop role store₀ count updates n answer₀ rows held₀ failed₀ i₀ store answer held failed i = n - i
 
+returns : tie.Need-returns Inv-loop μ-loop
+returns c = (λ t. absurd (omega (arith, t .few)), λ t. absurd (omega (arith, t .few)))
+
 loop-holds : tie.Need-loop-holds Inv-loop μ-loop
-loop-holds c = (omega arith, refl, refl, λ t. batch-start _ _ _ _ _ _ t)
+loop-holds c = (omega arith, omega arith, refl, refl, λ t. batch-start _ _ _ _ _ _ t)
 
 mul-from : tie.Need-mul-from Inv-loop μ-loop
 mul-from c = search needs
@@ -61,17 +65,20 @@ mul-row c = search needs
 element-copy-out-row : tie.Need-element-copy-out-row Inv-loop μ-loop
 element-copy-out-row c = search needs
 
-sub-update : tie.Need-sub-update Inv-loop μ-loop
-sub-update c = search needs
+sub-judge : tie.Need-sub-judge Inv-loop μ-loop
+sub-judge c = search needs
 
-part-update-start : tie.Need-part-update-start Inv-loop μ-loop
-part-update-start c = search needs
+part-judge-start : tie.Need-part-judge-start Inv-loop μ-loop
+part-judge-start c = search needs
 
-part-update-end : tie.Need-part-update-end Inv-loop μ-loop
-part-update-end c = search needs
+part-judge-end : tie.Need-part-judge-end Inv-loop μ-loop
+part-judge-end c = search needs
 
-update-requires : tie.Need-update-requires Inv-loop μ-loop
-update-requires c κs = search needs
+judge-requires : tie.Need-judge-requires Inv-loop μ-loop
+judge-requires c κs = search needs
+
+reason-requires : tie.Need-reason-requires Inv-loop μ-loop
+reason-requires c κs = search needs
 
 mul-at : tie.Need-mul-at Inv-loop μ-loop
 mul-at c = search needs
@@ -88,6 +95,18 @@ part-write-pair-end c = search needs
 write-pair-requires : tie.Need-write-pair-requires Inv-loop μ-loop
 write-pair-requires c κs = search needs
 
+sub-apply : tie.Need-sub-apply Inv-loop μ-loop
+sub-apply c = search needs
+
+part-apply-start : tie.Need-part-apply-start Inv-loop μ-loop
+part-apply-start c = search needs
+
+part-apply-end : tie.Need-part-apply-end Inv-loop μ-loop
+part-apply-end c = search needs
+
+apply-requires : tie.Need-apply-requires Inv-loop μ-loop
+apply-requires c κs = search needs
+
 add-i : tie.Need-add-i Inv-loop μ-loop
 add-i c = search needs
 
@@ -97,7 +116,7 @@ loop-less c = search needs
 -- update i and its pair have their places
 places : (c : tie.In-loop Inv-loop μ-loop)
     → let l = c .before in
-    let a = l .before .before .before .before .args in
+    let a = l .before .before .before .before .before .args in
     (l .loop .i < a .n)
     × (221 * l .loop .i + 221 ≤ length (now (a .updates)))
     × (2 * l .loop .i + 2 ≤ length (now (a .answer)))
@@ -106,34 +125,51 @@ places c = omega arith
 
 loop-again : tie.Need-loop-again Inv-loop μ-loop
 loop-again c =
-    let d = c .before .before .before .before .before .before .before .before in
-    let u = d .update in
-    let p = d .before .before .before .before in
+    let d = c .before .before .before in
+    let w = d .write-pair in
+    let q = d .before .before .before in
+    let v = q .before in
+    let p = v .before .before .before .before in
     let g = p .before .before in
     let l = g .before in
-    let a = l .before .before .before .before .args in
-    let w = c .before .before .write-pair in
+    let a = l .before .before .before .before .before .args in
     let us : List ℕ = now (a .updates) in
+    let s : List ℕ = l .loop .store in
     let x : List ℕ = l .loop .answer in
     let i : ℕ = l .loop .i in
-    let r : ℕ = u .result .reason in
+    let r : ℕ = q .reason .result in
     let at = places g in
     let k : 221 * i + 221 - 221 * i ≡ 221 = omega arith in
-    let long : length (drop 1 (part (221 * i) 221 us)) ≡ 220 =
-    omega (arith, length-drop 1 (part (221 * i) 221 us), length-window (221 * i) 221 us (at .1)) in
-    let found = row-found (a .t1) us i (p .position .result) (p .before .integer .ensures) (p .position .ensures .0) (p .position .ensures .1 .0) (a .role) in
-    let update = rw k at (u .ensures) in
+    let u : List ℕ = part (221 * i) 221 us in
+    let long : length (drop 1 u) ≡ 220 = omega (arith, length-drop 1 u, length-window (221 * i) 221 us (at .1)) in
+    let judged = rw k at (v .judge .ensures) in
+    let told = row-found (a .t1) us i (p .position .result) (p .before .integer .ensures) (p .position .ensures .0) (p .position .ensures .1 .0)
+    (a .role) (tablesIn (l .loop .held) s) (q .reason .ensures) (judged .0) in
     let written = part-copied x (w .last .1 .0) (pairOf r) (2 * i) (length x - 2 * i) (w .ensures)
     (omega (arith, at .3)) (omega (arith, at .3)) in
     let f : Bool = l .loop .failed in
-    let flag = ⊎-elim (λ y. flag-set r f (y .0 .taken) (y .1)) (λ y. flag-kept r f (y .0 .left) (y .1))
-    (c .before .before .before .before .if1 .came) in (
+    let flag = ⊎-elim (λ y. flag-set r f (y .0 .taken) (y .1)) (λ y. flag-kept r f (y .0 .left) (y .1)) (d .before .before .if2 .came) in
+    let done : (c .if3 .held ≤ 256) × (length (c .if3 .store) ≡ length s)
+    × (Tidy (l .loop .held) s → Left s (c .if3 .store) (c .if3 .held) (apply r (updateOf u) (tablesIn (l .loop .held) s) .entries)) =
+    ⊎-elim
+    (λ y. rw (y .6, y .7) (
+      y .3 .ensures .0,
+      y .3 .kept .1 .0,
+      λ t. rw (q .reason .ensures) ((rw k at (y .3 .ensures .1)) t (judged .1)),
+    ))
+    (λ y. rw (y .1, y .2) (
+      l .loop .inv .1,
+      refl,
+      λ t. refused-left r (updateOf u) (l .loop .held) s (λ z. omega (arith, y .0 .left)),
+    ))
+    (c .if3 .came) in (
       omega (arith, at .0),
-      u .kept .1 .1 .1 .0 ∙ l .loop .inv .1,
-      same-len-mid (2 * i) (length x - 2 * i) x (w .last .1 .0) (w .kept .1 .0) ∙ l .loop .inv .2,
+      done .0,
+      done .1 ∙ l .loop .inv .2,
+      same-len-mid (2 * i) (length x - 2 * i) x (w .last .1 .0) (w .kept .1 .0) ∙ l .loop .inv .3,
       λ t.
-          let b = rw (parts-from i (a .n) 221 us (at .0)) at (l .loop .inv .3 t) in
-          batch-next _ _ b long (omega (arith, at .2)) (update (b .tidy)) (found (tablesIn (l .loop .held) (l .loop .store))) flag written,
+          let b = rw (parts-from i (a .n) 221 us (at .0)) at (l .loop .inv .4 t) in
+          batch-next _ _ b long (omega (arith, at .2)) told (done .2 (b .tidy)) flag written,
     )
 
 same-length : tie.Need-same-length Inv-loop μ-loop
@@ -142,13 +178,13 @@ same-length c = search needs
 same-length-2 : tie.Need-same-length-2 Inv-loop μ-loop
 same-length-2 c = search needs
 
-returns : tie.Need-returns Inv-loop μ-loop
-returns c =
-    let a = c .before .before .before .before .before .args in
+returns-2 : tie.Need-returns-2 Inv-loop μ-loop
+returns-2 c =
+    let a = c .before .before .before .before .before .before .args in
     let i : ℕ = c .before .loop .i in
     let us : List (List ℕ) = parts (a .n) 221 (now (a .updates)) in
     let none : drop i us ≡ [] = drop-of-length-le us {i = i} (omega (arith, parts-count (a .n) 221 (now (a .updates)))) in
-    let b = c .before .loop .inv .3 in
+    let b = c .before .loop .inv .4 in
     (λ t. batch-end _ _ (rw none at (b t)) .0, λ t. batch-end _ _ (rw none at (b t)) .1)
 
 pub batch-spec : {M : Type 1} → statement M
@@ -157,6 +193,7 @@ batch-spec =
     (tie.spec
     Inv-loop
     μ-loop
+    returns
     loop-holds
     mul-from
     add-end
@@ -165,18 +202,23 @@ batch-spec =
     position-requires
     mul-row
     element-copy-out-row
-    sub-update
-    part-update-start
-    part-update-end
-    update-requires
+    sub-judge
+    part-judge-start
+    part-judge-end
+    judge-requires
+    reason-requires
     mul-at
     sub-write-pair
     part-write-pair-start
     part-write-pair-end
     write-pair-requires
+    sub-apply
+    part-apply-start
+    part-apply-end
+    apply-requires
     add-i
     loop-less
     loop-again
     same-length
     same-length-2
-    returns)
+    returns-2)
