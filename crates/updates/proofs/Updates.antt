@@ -63,11 +63,11 @@ module _ (count : ℕ) (before after u : List ℕ) (long : length u ≡ 221) (d 
       → Left before after n (apply (reasonOf v) (updateOf u) (tablesIn count before) .entries)
   unfolding apply perform
   performed (Refused r) n m p = rw (ne-eqb r 0 (λ z. omega arith), p .0, p .1) (record { holds = refl; room = refl; beyond = refl })
-  performed Insert n m p = rw (m .0) (p (omega (arith, m .1, parts-count count 220 before)) .1)
+  performed Insert n m p = rw (m .0) (p .0 (omega (arith, m .1, parts-count count 220 before)) .1)
   performed (Modify i) n m p =
-      rw (m .0, m .1, ← modified (drop 1 u) (entriesIn count before) i whole d (m .2)) (p (inside i (m .2)) .1)
+      rw (m .0, m .1, ← modified (drop 1 u) (entriesIn count before) i whole d (m .2)) (p .0 (inside i (m .2)) .1)
   performed (Delete i) n m p =
-      rw (m .0, m .1, ← deleted (drop 1 u) (entriesIn count before) i whole d (m .2)) (p (inside i (m .2)) .1)
+      rw (m .0, m .1, ← deleted (drop 1 u) (entriesIn count before) i whole d (m .2)) (p .0 (inside i (m .2)) .1)
 
 -- ---- an update keeps a store tidy
 

@@ -60,16 +60,21 @@ pub record Tidy (count : ℕ) (store : List ℕ) : Type 0 where
 abbrev pub changed : List ℕ → List ℕ → List ℕ
 changed old e = take 148 old ++ drop 148 (shortEntry e)
 
--- what doing a verdict leaves, where what it found is there
+-- What doing a verdict leaves. A refusal changes nothing, nor does an INSERT where the store has no room or a verdict on an entry
+-- that is not there.
 abbrev pub Performed : Verdict → ℕ → List ℕ → List ℕ → List ℕ → ℕ → Type 0
 Performed (Refused r) count before after e n = (n ≡ count) × (after ≡ before)
 Performed Insert count before after e n =
-    count < 256 → (n ≡ count + 1) × Left before after n (entriesIn count before ++ (shortEntry e ∷ []))
+    (count < 256 → (n ≡ count + 1) × Left before after n (entriesIn count before ++ (shortEntry e ∷ [])))
+    × (256 ≤ count → (n ≡ count) × (after ≡ before))
 Performed (Modify i) count before after e n =
-    i < count → (n ≡ count) × Left before after n (set (entriesIn count before) i (changed (getD (entriesIn count before) i []) e))
-Performed (Delete i) count before after e n = i < count → (n ≡ count - 1) × Left before after n (without i (entriesIn count before))
+    (i < count → (n ≡ count) × Left before after n (set (entriesIn count before) i (changed (getD (entriesIn count before) i []) e)))
+    × (count ≤ i → (n ≡ count) × (after ≡ before))
+Performed (Delete i) count before after e n =
+    (i < count → (n ≡ count - 1) × Left before after n (without i (entriesIn count before)))
+    × (count ≤ i → (n ≡ count) × (after ≡ before))
 
--- what applying a verdict on an update of 221 bytes leaves of a tidy store, where what it found is there
+-- and so a verdict that was found of an update of 221 bytes leaves of a tidy store what the rules leave
 abbrev pub Applied : Verdict → List ℕ → ℕ → List ℕ → List ℕ → ℕ → Type 0
 Applied v u count before after n =
     Tidy count before → Meant v (byte 0 u) (drop 1 u) (tablesIn count before)

@@ -222,6 +222,7 @@ fn perform(verdict: Verdict, store: &mut [u8], count: usize, entry: &[u8]) -> us
 pub fn apply(verdict: Verdict, store: &mut [u8], count: usize, update: &[u8]) -> usize
     requires { ⌜ (count ≤ 256) × (56320 ≤ length (now store)) × (length (now update) ≡ 221) ⌝ }
     ensures bound { λ r. ⌜ r ≤ 256 ⌝ }
+    ensures done { λ r. ⌜ Performed verdict count (now (store .entry)) (now (store .exit)) (drop 1 (now (update .entry))) r ⌝ }
     ensures left { λ r. ⌜ Applied verdict (now (update .entry)) count (now (store .entry)) (now (store .exit)) r ⌝ }
 {
     perform(verdict, store, count, &update[1..])

@@ -155,7 +155,7 @@ loop-again c =
     (λ y. rw (y .6, y .7) (
       y .3 .ensures .0,
       y .3 .kept .1 .0,
-      λ t. rw (q .reason .ensures) ((rw k at (y .3 .ensures .1)) t (judged .1)),
+      λ t. rw (q .reason .ensures) ((rw k at (y .3 .ensures .1 .1)) t (judged .1)),
     ))
     (λ y. rw (y .1, y .2) (
       l .loop .inv .1,

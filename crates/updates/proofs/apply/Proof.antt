@@ -30,9 +30,10 @@ returns c =
     let a = c .before .before .before .before .before .before .before .args in
     let p = c .before .before .perform in
     let u : List ℕ = now (a .update) in
-    let long : length u ≡ 221 = search needs in (
+    let long : length u ≡ 221 = search needs in
+    let done = rw (entry-lent u) at (p .ensures .1) in (
       p .ensures .0,
-      λ t m. performed (a .count) (now (a .store)) (p .last .1 .0) u long (t .distinct) (a .verdict) _ m (rw (entry-lent u) at (p .ensures .1)),
+      (done, λ t m. performed (a .count) (now (a .store)) (p .last .1 .0) u long (t .distinct) (a .verdict) _ m done),
     )
 
 pub apply-spec : {M : Type 1} → statement M

@@ -12,7 +12,7 @@ enum-told-2 : tie.Need-enum-told-2
 enum-told-2 c = search needs
 
 returns : tie.Need-returns
-returns c = rw (c .before .enum-told2 .given .1) (omega arith, λ h. absurd (omega arith))
+returns c = rw (c .before .enum-told2 .given .1) (omega arith, (λ h. absurd (omega arith), λ h. (refl, refl)))
 
 insert-requires : tie.Need-insert-requires
 insert-requires c κs = search needs
@@ -24,7 +24,7 @@ enum-known-verdict : tie.Need-enum-known-verdict
 enum-known-verdict c = search needs
 
 returns-2 : tie.Need-returns-2
-returns-2 c = rw (c .before .before .verdict .given .1) (omega arith, λ h. absurd (omega arith))
+returns-2 c = rw (c .before .before .verdict .given .1) (omega arith, (λ h. absurd (omega arith), λ h. (refl, refl)))
 
 modify-requires : tie.Need-modify-requires
 modify-requires c κs = search needs
@@ -33,7 +33,7 @@ enum-known-verdict-2 : tie.Need-enum-known-verdict-2
 enum-known-verdict-2 c = search needs
 
 returns-3 : tie.Need-returns-3
-returns-3 c = rw (c .before .before .verdict2 .given .1) (omega arith, λ h. absurd (omega arith))
+returns-3 c = rw (c .before .before .verdict2 .given .1) (omega arith, (λ h. absurd (omega arith), λ h. (refl, refl)))
 
 remove-requires : tie.Need-remove-requires
 remove-requires c κs = search needs
@@ -50,7 +50,7 @@ same-length c = search needs
 returns-5 : tie.Need-returns-5
 returns-5 c =
     rw (c .before .before .before .before .before .enum-told2 .given .1)
-    (omega arith, λ h. (refl, c .before .before .insert .ensures))
+    (omega arith, (λ h. (refl, c .before .before .insert .ensures), λ h. absurd (omega arith)))
 
 same-length-2 : tie.Need-same-length-2
 same-length-2 c = search needs
@@ -58,7 +58,7 @@ same-length-2 c = search needs
 returns-6 : tie.Need-returns-6
 returns-6 c =
     rw (c .before .before .before .before .before .before .verdict .given .1)
-    (omega arith, λ h. (refl, c .before .before .modify .ensures))
+    (omega arith, (λ h. (refl, c .before .before .modify .ensures), λ h. absurd (omega arith)))
 
 same-length-3 : tie.Need-same-length-3
 same-length-3 c = search needs
@@ -66,7 +66,7 @@ same-length-3 c = search needs
 returns-7 : tie.Need-returns-7
 returns-7 c =
     rw (c .before .before .before .before .before .before .verdict2 .given .1)
-    (omega arith, λ h. (refl, c .before .before .remove .ensures))
+    (omega arith, (λ h. (refl, c .before .before .remove .ensures), λ h. absurd (omega arith)))
 
 pub perform-spec : {M : Type 1} → statement M
 perform-spec =
