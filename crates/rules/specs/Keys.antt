@@ -82,6 +82,7 @@ pub record KeysCompared (room device : ℕ) (before : List Call) (c : Call) : Ty
 abbrev pub ofBytes : Call → Bool
 ofBytes c = allBytes (c .frame)
 
+-- so after every list of calls, refused ones included
 abbrev pub KeysAsNumbers : Type 0
 KeysAsNumbers =
     (room device : ℕ) (before : List Call) (c : Call) → every ofBytes before ≡ true → ofBytes c ≡ true
