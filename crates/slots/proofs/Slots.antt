@@ -99,59 +99,57 @@ module _ (f : Field) (s : List ℕ) where
       | no n ↦ rw (ne-eqb (kind s) 0 n)
     ]
 
-  -- ---- 18 and 19, by the kind that decides
+  -- ---- 18, by the field's kind
 
-  module _ {d : ℕ} (e : d ≡ (if eqb (kind s) 0 then 0 else f .kind)) where
-    present : 0 < d → kind s ≡ 0 → ⊥
-    present l o = (let z : d ≡ 0 = e ∙ (rw (eq-eqb (kind s) 0 o)) in omega arith)
+  pub first-alone : (f .kind ≡ 3 → ⊥) → (f .kind ≡ 4 → ⊥)
+      → (if eqb (kind s) 0 then true else fits (f .width) (value1 s)) ≡ slotFits f s
+  unfolding slotFits
+  first-alone a b = rw (ne-eqb (f .kind) 3 a, ne-eqb (f .kind) 4 b, and-true (fits (f .width) (value1 s)))
 
-    field-kind : (kind s ≡ 0 → ⊥) → d ≡ f .kind
-    field-kind n = e ∙ (rw (ne-eqb (kind s) 0 n))
-
-    pub omitted-fits : kind s ≡ 0 → eqb (kind s) 0 ≡ slotFits f s
+  -- of both values
+  module _ (k : (f .kind ≡ 3) ⊎ (f .kind ≡ 4)) where
+    both-values : ((if eqb (kind s) 0 then true else fits (f .width) (value1 s)) && (if eqb (kind s) 0 then true else fits (f .width) (value2 s)))
+        ≡ slotFits f s
     unfolding slotFits
-    omitted-fits o = rw (eq-eqb (kind s) 0 o)
+    both-values = ⊎-elim (λ e. rw e (go (eqb (kind s) 0))) (λ e. rw e (go (eqb (kind s) 0))) k
+      where
+        go : (o : Bool) → ((if o then true else fits (f .width) (value1 s)) && (if o then true else fits (f .width) (value2 s)))
+            ≡ (if o then true else fits (f .width) (value1 s) && fits (f .width) (value2 s))
+        go true = refl
+        go false = refl
 
-    pub first-alone : (kind s ≡ 0 → ⊥) → (d ≡ 3 → ⊥) → (d ≡ 4 → ⊥) → fits (f .width) (value1 s) ≡ slotFits f s
-    unfolding slotFits
-    first-alone n a b =
-        let k = field-kind n in
-        rw (ne-eqb (kind s) 0 n, ne-eqb (f .kind) 3 (λ q. a (k ∙ q)), ne-eqb (f .kind) 4 (λ q. b (k ∙ q)), and-true (fits (f .width) (value1 s)))
+    -- p says whether the first fits
+    module _ {p : Bool} (e : p ≡ (if eqb (kind s) 0 then true else fits (f .width) (value1 s))) where
+      pub first-over : p ≡ false → p ≡ slotFits f s
+      first-over v = v ∙ (rw (sym e ∙ v) at both-values)
 
-    pub present-alone : 0 < d → (d ≡ 3 → ⊥) → (d ≡ 4 → ⊥) → fits (f .width) (value1 s) ≡ slotFits f s
-    present-alone l = first-alone (present l)
+      pub second-too : p ≡ true → (if eqb (kind s) 0 then true else fits (f .width) (value2 s)) ≡ slotFits f s
+      second-too v = rw (sym e ∙ v) at both-values
 
-    pub second-too : 0 < d → (d ≡ 3) ⊎ (d ≡ 4) → (fits (f .width) (value1 s) && fits (f .width) (value2 s)) ≡ slotFits f s
-    unfolding slotFits
-    second-too l =
-        let n = present l in
-        let k = sym (field-kind n) in
-        ⊎-elim (λ q. rw (ne-eqb (kind s) 0 n, k ∙ q)) (λ q. rw (ne-eqb (kind s) 0 n, k ∙ q))
+  -- ---- 19, by the field's kind
 
-    pub no-rule : (d ≡ 2 → ⊥) → (d ≡ 3 → ⊥) → (d ≡ 4 → ⊥) → true ≡ slotRule f s
+  pub no-rule : (f .kind ≡ 2 → ⊥) → (f .kind ≡ 3 → ⊥) → (f .kind ≡ 4 → ⊥) → true ≡ slotRule f s
+  unfolding slotRule
+  no-rule a b d = rw (ne-eqb (f .kind) 2 a, ne-eqb (f .kind) 3 b, ne-eqb (f .kind) 4 d) (go (eqb (kind s) 0))
+    where
+      go : (o : Bool) → true ≡ (if o then true else true)
+      go true = refl
+      go false = refl
+
+  pub omitted-passes : kind s ≡ 0 → eqb (kind s) 0 ≡ slotRule f s
+  unfolding slotRule
+  omitted-passes o = rw (eq-eqb (kind s) 0 o)
+
+  -- of the numbers of the values of a present slot
+  module _ (n : kind s ≡ 0 → ⊥) (x y : ℕ) (first : x ≡ value (value1 s)) (second : y ≡ value (value2 s)) where
+    pub by-lpm : f .kind ≡ 2 → lpmRule (f .width) x y ≡ slotRule f s
     unfolding slotRule
-    no-rule a b c = elim (ℕ-discrete (kind s) 0) [
-      | yes o ↦ rw (eq-eqb (kind s) 0 o)
-      | no n ↦ (let k = field-kind n in
-          rw (ne-eqb (kind s) 0 n, ne-eqb (f .kind) 2 (λ q. a (k ∙ q)), ne-eqb (f .kind) 3 (λ q. b (k ∙ q)), ne-eqb (f .kind) 4 (λ q. c (k ∙ q))))
-    ]
+    by-lpm k = rw (ne-eqb (kind s) 0 n, k, first, second)
 
-    -- of the numbers of the slot's values
-    module _ (x y : ℕ) (first : x ≡ value (value1 s)) (second : y ≡ value (value2 s)) where
-      pub by-lpm : d ≡ 2 → lpmRule (f .width) x y ≡ slotRule f s
-      unfolding slotRule
-      by-lpm q =
-          let n = present (omega arith) in
-          rw (ne-eqb (kind s) 0 n, sym (field-kind n) ∙ q, first, second)
+    pub by-ternary : f .kind ≡ 3 → ternaryRule x y ≡ slotRule f s
+    unfolding slotRule
+    by-ternary k = rw (ne-eqb (kind s) 0 n, k, first, second)
 
-      pub by-ternary : d ≡ 3 → ternaryRule x y ≡ slotRule f s
-      unfolding slotRule
-      by-ternary q =
-          let n = present (omega arith) in
-          rw (ne-eqb (kind s) 0 n, sym (field-kind n) ∙ q, first, second)
-
-      pub by-range : d ≡ 4 → rangeRule (f .width) x y ≡ slotRule f s
-      unfolding slotRule
-      by-range q =
-          let n = present (omega arith) in
-          rw (ne-eqb (kind s) 0 n, sym (field-kind n) ∙ q, first, second)
+    pub by-range : f .kind ≡ 4 → rangeRule (f .width) x y ≡ slotRule f s
+    unfolding slotRule
+    by-range k = rw (ne-eqb (kind s) 0 n, k, first, second)

@@ -52,7 +52,7 @@ pub fn slot_formed(field: Field, slot: &[u8]) -> bool
     match kind {
         // No field is of the kind that omits a slot.
         0 => omitted(slot),
-        // Exact: present.
+        // Exact: present, with one value.
         1 => one_value(kind, slot),
         // Lpm: omitted, or a value and a prefix length.
         2 => omitted(slot) || two_values(kind, slot),
@@ -60,38 +60,27 @@ pub fn slot_formed(field: Field, slot: &[u8]) -> bool
         3 => omitted(slot) || two_values(kind, slot),
         // Range: omitted, or two bounds.
         4 => omitted(slot) || two_values(kind, slot),
-        // Optional: omitted or present.
+        // Optional: omitted, or one value.
         5 => omitted(slot) || one_value(kind, slot),
         // Unknown: no field is, by 14.
         6..=255 => omitted(slot) || two_values(kind, slot),
     }
 }
 
-// The kind that decides of a slot's values: 0 where it is omitted, otherwise its field's. Of a slot that passes 17 it is the slot's own.
-fn deciding(field: Field, slot: &[u8]) -> u8
-    requires { ⌜ length (now slot) ≡ 35 ⌝ }
-    ensures { λ r. ⌜ r ≡ (if eqb (kindOf (now (slot .entry))) none then none else field .kind) ⌝ }
-{
-    if slot[0] == 0 {
-        return 0;
-    }
-    field.kind
-}
-
-// The first value is below 2 to the width.
+// The first value of a slot that is not omitted is below 2 to the width.
 fn first_fits(width: u8, slot: &[u8]) -> bool
     requires { ⌜ length (now slot) ≡ 35 ⌝ }
-    ensures { λ r. ⌜ r ≡ below width (value1 (now (slot .entry))) ⌝ }
+    ensures { λ r. ⌜ r ≡ (if eqb (kindOf (now (slot .entry))) none then true else below width (value1 (now (slot .entry)))) ⌝ }
 {
-    values::fits(&slot[1..18], width)
+    slot[0] == 0 || values::fits(&slot[1..18], width)
 }
 
-// Both values are.
-fn both_fit(width: u8, slot: &[u8]) -> bool
+// So is the second.
+fn second_fits(width: u8, slot: &[u8]) -> bool
     requires { ⌜ length (now slot) ≡ 35 ⌝ }
-    ensures { λ r. ⌜ r ≡ (below width (value1 (now (slot .entry))) && below width (value2 (now (slot .entry)))) ⌝ }
+    ensures { λ r. ⌜ r ≡ (if eqb (kindOf (now (slot .entry))) none then true else below width (value2 (now (slot .entry)))) ⌝ }
 {
-    first_fits(width, slot) && values::fits(&slot[18..35], width)
+    slot[0] == 0 || values::fits(&slot[18..35], width)
 }
 
 // 18. Every value but a prefix length is below 2 to the field's width.
@@ -99,23 +88,24 @@ pub fn slot_fits(field: Field, slot: &[u8]) -> bool
     requires { ⌜ length (now slot) ≡ 35 ⌝ }
     ensures { λ r. ⌜ r ≡ slotFits (fieldOf field) (now (slot .entry)) ⌝ }
 {
-    let kind = deciding(field, slot);
+    let kind = field.kind;
     let width = field.width;
+    let first = first_fits(width, slot);
     match kind {
-        // Omitted: no value. (Present under a field of kind 0, which 14 does not let in: one.)
-        0 => slot[0] == 0 || first_fits(width, slot),
+        // No field is of the kind that omits a slot.
+        0 => first,
         // Exact: one value.
-        1 => first_fits(width, slot),
+        1 => first,
         // Lpm: the second is a prefix length.
-        2 => first_fits(width, slot),
+        2 => first,
         // Ternary: the second is a mask.
-        3 => both_fit(width, slot),
+        3 => first && second_fits(width, slot),
         // Range: two bounds.
-        4 => both_fit(width, slot),
+        4 => first && second_fits(width, slot),
         // Optional: one value.
-        5 => first_fits(width, slot),
+        5 => first,
         // Unknown: no field is, by 14.
-        6..=255 => first_fits(width, slot),
+        6..=255 => first,
     }
 }
 
@@ -177,24 +167,24 @@ fn second(slot: &[u8]) -> Number
     Number::of_value(&slot[18..35])
 }
 
-// 19. The rules of the kinds.
+// 19. The rules of the kinds, of a slot that is present.
 pub fn slot_rule(field: Field, slot: &[u8]) -> bool
     requires { ⌜ length (now slot) ≡ 35 ⌝ }
     ensures { λ r. ⌜ r ≡ slotRule (fieldOf field) (now (slot .entry)) ⌝ }
 {
-    let kind = deciding(field, slot);
+    let kind = field.kind;
     let width = field.width;
     match kind {
-        // Omitted: no rule.
+        // No field is of the kind that omits a slot.
         0 => true,
         // Exact: no rule more.
         1 => true,
-        // Lpm: a prefix length of 1 to the width, and no bit below the prefix.
-        2 => lpm_rule(width, first(slot), second(slot)),
-        // Ternary: a mask that is not 0, and no bit outside it.
-        3 => ternary_rule(first(slot), second(slot)),
-        // Range: bounds in order, and not the whole range.
-        4 => range_rule(width, first(slot), second(slot)),
+        // Lpm.
+        2 => slot[0] == 0 || lpm_rule(width, first(slot), second(slot)),
+        // Ternary.
+        3 => slot[0] == 0 || ternary_rule(first(slot), second(slot)),
+        // Range.
+        4 => slot[0] == 0 || range_rule(width, first(slot), second(slot)),
         // Optional: no rule more.
         5 => true,
         // Unknown: no field is, by 14.
