@@ -438,14 +438,14 @@ eachSlot =
     ∷ (insert! (with1234 keyShortest), done)
     ∷ []
 
--- INSERT into table 2, of three exact fields and an optional one, with a priority
+-- table 2 with three exact fields and an optional one, and INSERT into it with a priority
 abbrev lastOptional : List ℕ
 lastOptional = rowWith 2 0 4 (replicate 3 (field exact 8) ++ (field optional 8 ∷ [])) (action 1 [] ∷ [])
 
 abbrev putLast : ℕ → List ℕ
 putLast priority = insert! (entry 2 (keyWith priority (replicate 3 (slot exact (val1 7) none17))) 1)
 
--- table 1 with exact fields and parameters of widths 1 to 4, and INSERT of these values into it, of one byte each
+-- table 1 with exact fields and parameters of widths 1 to 4, and INSERT into it of values of one byte each
 abbrev widths : List ℕ
 widths = 1 ∷ 2 ∷ 3 ∷ 4 ∷ []
 
@@ -456,22 +456,18 @@ abbrev putAll : List ℕ → List ℕ → List ℕ
 putAll xs ys =
     insert! (entryWith 1 (keyWith 0 (map (λ (x : ℕ). slot exact (val1 x) none17) xs)) 1 (map val1 ys))
 
--- One value is more than its width allows; the last exact slot is omitted, the last parameter of length 0; and each value is as
--- large as its width allows.
+-- The largest values of these widths; with one of them larger; with the last exact slot omitted, or the last parameter of length 0.
+abbrev largest : List ℕ
+largest = 1 ∷ 3 ∷ 7 ∷ 15 ∷ []
+
+abbrev larger : List (List ℕ)
+larger = set largest 0 2 ∷ set largest 1 4 ∷ set largest 2 8 ∷ set largest 3 16 ∷ []
+
 abbrev eachWidth : List (List ℕ × List ℕ)
 eachWidth =
-    (putAll (2 ∷ 3 ∷ 7 ∷ 15 ∷ []) (1 ∷ 3 ∷ 7 ∷ 15 ∷ []), is18)
-    ∷ (putAll (1 ∷ 4 ∷ 7 ∷ 15 ∷ []) (1 ∷ 3 ∷ 7 ∷ 15 ∷ []), is18)
-    ∷ (putAll (1 ∷ 3 ∷ 8 ∷ 15 ∷ []) (1 ∷ 3 ∷ 7 ∷ 15 ∷ []), is18)
-    ∷ (putAll (1 ∷ 3 ∷ 7 ∷ 16 ∷ []) (1 ∷ 3 ∷ 7 ∷ 15 ∷ []), is18)
-    ∷ (putAll (1 ∷ 3 ∷ 7 ∷ 15 ∷ []) (2 ∷ 3 ∷ 7 ∷ 15 ∷ []), is18)
-    ∷ (putAll (1 ∷ 3 ∷ 7 ∷ 15 ∷ []) (1 ∷ 4 ∷ 7 ∷ 15 ∷ []), is18)
-    ∷ (putAll (1 ∷ 3 ∷ 7 ∷ 15 ∷ []) (1 ∷ 3 ∷ 8 ∷ 15 ∷ []), is18)
-    ∷ (putAll (1 ∷ 3 ∷ 7 ∷ 15 ∷ []) (1 ∷ 3 ∷ 7 ∷ 16 ∷ []), is18)
-    ∷ (putAll (1 ∷ 3 ∷ 7 ∷ []) (1 ∷ 3 ∷ 7 ∷ 15 ∷ []), is17)
-    ∷ (putAll (1 ∷ 3 ∷ 7 ∷ 15 ∷ []) (1 ∷ 3 ∷ 7 ∷ []), is17)
-    ∷ (putAll (1 ∷ 3 ∷ 7 ∷ 15 ∷ []) (1 ∷ 3 ∷ 7 ∷ 15 ∷ []), done)
-    ∷ []
+    all is18 (map (λ (xs : List ℕ). putAll xs largest) larger ++ map (putAll largest) larger)
+    ++ all is17 (putAll (take 3 largest) largest ∷ putAll largest (take 3 largest) ∷ [])
+    ++ ((putAll largest largest, done) ∷ [])
 
 -- tables of lpm, ternary and range, of width 1 under the kind's number, and of width 128 under 10 more
 abbrev narrowAndWide : List (List ℕ)
