@@ -49,7 +49,7 @@ still reason failed rest = go (eqb 0 reason) failed
 
 -- ---- the row of an update's table
 
--- what it is judged by the row at the place that was found for the table of update i, it is judged by the rows
+-- update i, judged by the row at the place that was found for its table, is judged by the rows
 pub row-found : (c : Rows) (us : List ℕ) (i at : ℕ) {table : ℕ} → table ≡ int (221 * i + 1) 4 us
     → ltb at 8 ≡ known table (rowsOf c) → rowAt c at ≡ rowFor table (rowsOf c) → (role : ℕ) (t : Tables) {r j : ℕ}
     → let u = updateOf (part (221 * i) 221 us) in
@@ -62,12 +62,6 @@ row-found c us i at {table} e k found role t r j =
     its = e ∙ sym (ap number (part-part (221 * i) 221 1 4 us (omega arith)))
 
 -- ---- the store and the answer
-
--- an update that is refused leaves the store
-pub refused-left : (reason : ℕ) (u : Update) (held : ℕ) (store : List ℕ) → (reason ≡ 0 → ⊥)
-    → Left store store held (apply reason u (tablesIn held store) .entries)
-unfolding apply
-refused-left reason u held store n = rw (ne-eqb reason 0 n) (record { holds = refl; room = refl; beyond = refl })
 
 module _ (rows : List Row) (role : ℕ) where
   -- what updates do to a store as it is

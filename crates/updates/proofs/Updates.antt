@@ -50,6 +50,12 @@ deleted : (e : List ℕ) (es : List (List ℕ)) (i : ℕ) → length e ≡ 220 �
 deleted e es i l d p =
     let q : place (keyOf (shortEntry e)) es ≡ some i = rw (key-of-short e l) p in sym (delete-place (keyOf (shortEntry e)) es i d q)
 
+-- an update that is refused leaves the store
+pub refused-left : (reason : ℕ) (u : Update) (count : ℕ) (store : List ℕ) → (reason ≡ 0 → ⊥)
+    → Left store store count (apply reason u (tablesIn count store) .entries)
+unfolding apply
+refused-left reason u count store n = rw (ne-eqb reason 0 n) (record { holds = refl; room = refl; beyond = refl })
+
 module _ (count : ℕ) (before after u : List ℕ) (long : length u ≡ 221) (d : Distinct (entriesIn count before)) where
   whole : length (drop 1 u) ≡ 220
   whole = omega (arith, length-drop 1 u)
@@ -62,7 +68,7 @@ module _ (count : ℕ) (before after u : List ℕ) (long : length u ≡ 221) (d 
       → Performed v count before after (drop 1 u) n
       → Left before after n (apply (reasonOf v) (updateOf u) (tablesIn count before) .entries)
   unfolding apply perform
-  performed (Refused r) n m p = rw (ne-eqb r 0 (λ z. omega arith), p .0, p .1) (record { holds = refl; room = refl; beyond = refl })
+  performed (Refused r) n m p = rw (p .0, p .1) (refused-left r (updateOf u) count before (λ z. omega arith))
   performed Insert n m p = rw (m .0) (p .0 (omega (arith, m .1, parts-count count 220 before)) .1)
   performed (Modify i) n m p =
       rw (m .0, m .1, ← modified (drop 1 u) (entriesIn count before) i whole d (m .2)) (p .0 (inside i (m .2)) .1)

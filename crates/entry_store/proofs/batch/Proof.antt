@@ -20,8 +20,9 @@ use Rattle.entries.specs.Store.{tablesIn, Left}
 use Rattle.rules.proofs.Lists.{parts-from}
 use Rattle.buffers.proofs.Splice.{length-window, part-copied}
 use Rattle.updates.specs.Update.{Tidy}
+use Rattle.updates.proofs.Updates.{refused-left}
 use Rattle.entry_store.specs.Batch.{updatesIn}
-use Rattle.entry_store.proofs.Batches.{Batching, batch-start, batch-next, batch-end, flag-set, flag-kept, row-found, refused-left}
+use Rattle.entry_store.proofs.Batches.{Batching, batch-start, batch-next, batch-end, flag-set, flag-kept, row-found}
 use Rattle.entry_store.proofs.batch.Statement.{statement}
 use Rattle.entry_store.proofs.batch.Tie as tie
 
