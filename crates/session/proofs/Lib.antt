@@ -1,0 +1,2 @@
+-- Laws of the calls that `play` makes.
+pub mod Made

@@ -1,0 +1,144 @@
+-- Calls that are made one after the other are one list of calls: what is claimed of it holds of the calls so far and of each
+-- that is added. Assumes nothing.
+use Prim.Native.Nat.{ℕ, suc, _+_, _-_, _≤_}
+use native.Mathlib.Nat.{add-zero}
+use native.Mathlib.Omega.{arith}
+use mathlib.Core.Path.{_≡_, refl, sym, ap, subst, _∙_}
+use mathlib.Core.List.{List, [], _∷_, _++_, map-append, append-nil, append-assoc}
+use mathlib.Core.Option.{some}
+use lib.ListN.{length, take, drop, length-append}
+use lib.Seq.{drop-drop}
+use borrow.Rule.Slice.PartAt.{part-to-end}
+use Rattle.rules.specs.Bytes.{part}
+use Rattle.buffers.specs.Splice.{splice}
+use Rattle.buffers.proofs.Splice.{splice-none, splice-next, length-window}
+use Rattle.calls.specs.Contract.{Memory, Layout, Contract}
+use Rattle.calls.specs.Claim.{Step, Trace}
+use Rattle.transcript.specs.Input.{firstFrame, frameIn, Stands, Begins}
+use Rattle.transcript.specs.Line.{recordSize, lineIn}
+use Rattle.transcript.specs.declared.Next.{Next}
+use Rattle.transcript.specs.declared.Next.the-variants.{Frame}
+use Rattle.transcript.proofs.Begins.{begins-append}
+use Rattle.transcript.proofs.Fitting.{lineIn-length}
+use Rattle.agent.specs.declared.Agent.{Agent}
+use Rattle.agent.specs.declared.Called.{Called}
+use Rattle.agent.specs.Meaning as meaning
+use Rattle.agent.specs.Meaning.{Flat, memory, result}
+use Rattle.session.specs.Session.{framesOf, OneBuffer, memoryAfter, bufferAfter, lines, lineOfStep, Made}
+
+-- ---- calls after calls
+
+module _ {A : Type 0} (L : Layout A) where
+  pub trace-append : (m : Memory A) (ws vs : List (Step A)) → Trace L m ws → Trace L (memoryAfter m ws) vs → Trace L m (ws ++ vs)
+  unfolding Trace memoryAfter
+  trace-append m [] vs t u = u
+  trace-append m (w ∷ ws) vs t u = (t .0, trace-append (w .result .memory) ws vs (t .1) u)
+
+module _ {A : Type 0} where
+  pub memory-append : (m : Memory A) (ws vs : List (Step A)) → memoryAfter m (ws ++ vs) ≡ memoryAfter (memoryAfter m ws) vs
+  unfolding memoryAfter
+  memory-append m [] vs = refl
+  memory-append m (w ∷ ws) vs = memory-append (w .result .memory) ws vs
+
+  pub buffers-append : (b : List ℕ) (ws vs : List (Step A)) → OneBuffer b ws → OneBuffer (bufferAfter b ws) vs → OneBuffer b (ws ++ vs)
+  unfolding OneBuffer bufferAfter
+  buffers-append b [] vs t u = u
+  buffers-append b (w ∷ ws) vs t u = (t .0, buffers-append (w .result .answer) ws vs (t .1) u)
+
+  pub buffer-append : (b : List ℕ) (ws vs : List (Step A)) → bufferAfter b (ws ++ vs) ≡ bufferAfter (bufferAfter b ws) vs
+  unfolding bufferAfter
+  buffer-append b [] vs = refl
+  buffer-append b (w ∷ ws) vs = buffer-append (w .result .answer) ws vs
+
+  pub lines-append : (n : ℕ) (ws vs : List (Step A)) → lines n (ws ++ vs) ≡ lines n ws ++ lines (n + length ws) vs
+  unfolding lines
+  lines-append n [] vs = rw (add-zero n)
+  lines-append n (w ∷ ws) vs =
+      let e : suc n + length ws ≡ n + suc (length ws) = omega arith in
+      ap (λ (l : List ℕ). lineOfStep n w ++ l) (lines-append (suc n) ws vs ∙ ap (λ (k : ℕ). lines (suc n) ws ++ lines k vs) e)
+      ∙ sym (append-assoc (lineOfStep n w) (lines (suc n) ws) (lines (n + suc (length ws)) vs))
+
+-- ---- the next frame
+
+-- what the reader found in the input from place `at` on
+pub record Ahead (input : List ℕ) (at n : ℕ) : Type 0 where
+  pub two : 2 ≤ n
+  pub within : at + n ≤ length input
+  pub first : firstFrame (drop at input) ≡ some (take (at + n - (at + 2)) (drop (at + 2) input))
+  pub size : length (take (at + n - (at + 2)) (drop (at + 2) input)) ≡ n - 2
+
+module _ (input : List ℕ) (at : ℕ) (h : at ≤ length input) (r : Next) where
+  abbrev given : List ℕ
+  given = take (length input - at) (drop at input)
+
+  pub ahead : (n : ℕ) → r ≡ Frame n → frameIn r given ≡ firstFrame given → Stands r given → Ahead input at n
+  ahead n e found stands =
+      let s : (2 ≤ n) × (n ≤ length given) = subst (λ (x : Next). Stands x given) e stands in
+      let l : length given ≡ length input - at = length-window at (length input - at) input (omega arith) in
+      let two : 2 ≤ n = s .0 in
+      let w : at + n ≤ length input = omega (arith, s .1) in
+      let m : n - 2 ≡ at + n - (at + 2) = omega arith in
+      let f : firstFrame given ≡ some (part 2 (n - 2) given) = sym found ∙ ap (λ (x : Next). frameIn x given) e in
+      record {
+        two = two;
+        within = w;
+        first = subst (λ (d : List ℕ). firstFrame d ≡ some (part 2 (n - 2) d)) (part-to-end input at) f
+            ∙ ap (λ (d : List ℕ). some (take (n - 2) d)) (drop-drop 2 at input) ∙ ap (λ (k : ℕ). some (take k (drop (at + 2) input))) m;
+        size = length-window (at + 2) (at + n - (at + 2)) input (omega arith) ∙ sym m;
+      }
+
+-- ---- no call, and one call more
+
+pub made-none : (agent : Agent) (first : ℕ) (input store answer out : List ℕ) → Made agent first input store answer out agent first 0 0 store answer out
+unfolding Trace OneBuffer Begins lines memoryAfter bufferAfter
+made-none agent first input store answer out = record {
+  steps = [];
+  trace = tt;
+  buffers = tt;
+  frames = refl;
+  within = omega arith;
+  printed = splice-none out 0;
+  ends = refl;
+  space = omega arith;
+  ordinals = sym (add-zero first);
+  left = refl;
+  buffer = refl;
+}
+
+module _ {agent : Agent} {first : ℕ} {input store answer out : List ℕ} {agent₁ : Agent} {ordinal at end : ℕ} {store₁ answer₁ out₁ : List ℕ}
+    (m : Made agent first input store answer out agent₁ ordinal at end store₁ answer₁ out₁) where
+  pub made-next : {n end′ : ℕ} {r : Called} {store′ answer′ out′ : List ℕ} → Ahead input at n →
+      let f = take (at + n - (at + 2)) (drop (at + 2) input) in
+      let line = lineIn 112_980 ordinal (recordSize f) answer′ in
+      Contract Flat (memory agent₁ store₁) (meaning.input f answer₁) (result r store′ answer′)
+      → (end′ ≡ end + length line) × (out′ ≡ splice out₁ end line) → end + 112_980 ≤ length out
+      → Made agent first input store answer out (r .agent) (ordinal + 1) (at + n) end′ store′ answer′ out′
+  unfolding Trace OneBuffer Begins lines memoryAfter bufferAfter
+  made-next {n} {end′} {r} {store′} {answer′} {out′} a k p room =
+      let f : List ℕ = take (at + n - (at + 2)) (drop (at + 2) input) in
+      let line : List ℕ = lineIn 112_980 ordinal (recordSize f) answer′ in
+      let w : Step Agent = record { input = meaning.input f answer₁; result = result r store′ answer′ } in
+      let ws : List (Step Agent) = m .steps in
+      let two : 2 ≤ n = a .two in
+      let past : 2 + length f ≡ n = omega (arith, a .size) in
+      let all : lines first (ws ++ w ∷ []) ≡ lines first ws ++ line =
+      lines-append first ws (w ∷ [])
+      ∙ ap (λ (i : ℕ). lines first ws ++ (lineIn 112_980 i (recordSize f) answer′ ++ [])) (sym (m .ordinals))
+      ∙ ap (λ (l : List ℕ). lines first ws ++ l) (append-nil line) in
+      record {
+        steps = ws ++ w ∷ [];
+        trace = trace-append Flat (memory agent store) ws (w ∷ [])
+            (m .trace) (subst (λ (x : Memory Agent). Contract Flat x (w .input) (w .result)) (sym (m .left)) k, tt);
+        buffers = buffers-append answer ws (w ∷ []) (m .buffers) (sym (m .buffer), tt);
+        frames = subst (λ (fs : List (List ℕ)). Begins input fs (drop (at + n) input)) (sym (map-append _ ws (w ∷ [])))
+            (begins-append input (framesOf ws) (f ∷ []) (drop at input) (drop (at + n) input) (m .frames)
+            (a .first, ap (λ (i : ℕ). drop i (drop at input)) past ∙ drop-drop n at input));
+        within = a .within;
+        printed = p .1 ∙ ap (λ (l : List ℕ). splice l end line) (m .printed)
+            ∙ splice-next out 0 end (lines first ws) line (omega (arith, m .ends)) (m .space) ∙ ap (splice out 0) (sym all);
+        ends = p .0 ∙ ap (λ (i : ℕ). i + length line) (m .ends) ∙ sym (ap length all ∙ length-append (lines first ws) line);
+        space = omega (arith, p .0, room, lineIn-length 112_980 ordinal (recordSize f) answer′);
+        ordinals = omega (arith, m .ordinals, length-append ws (w ∷ []));
+        left = memory-append (memory agent store) ws (w ∷ []);
+        buffer = buffer-append answer ws (w ∷ []);
+      }

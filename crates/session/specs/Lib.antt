@@ -1,0 +1,2 @@
+-- What `play` does with the bytes that it was given.
+pub mod Session

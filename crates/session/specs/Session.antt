@@ -1,0 +1,80 @@
+-- What `play` does with the bytes of its input: the calls that it makes of them, and the lines that it prints (document 01,
+-- "Bench cases"). Assumes nothing.
+use mathlib.Core.Path.{_≡_}
+use mathlib.Core.Bool.{Bool, true, false}
+use mathlib.Core.Logic.{_⊎_}
+use mathlib.Core.List.{List, [], _∷_, _++_, map}
+use mathlib.Core.Option.{none}
+use Prim.Native.Nat.{ℕ, suc, _+_, _≤_, _<_}
+use lib.ListN.{length, drop}
+use Rattle.buffers.specs.Splice.{splice}
+use Rattle.calls.specs.Contract.{Memory}
+use Rattle.calls.specs.Claim.{Step, Trace}
+use Rattle.transcript.specs.Input.{firstFrame, Begins}
+use Rattle.transcript.specs.Line.{recordSize, lineIn}
+use Rattle.agent.specs.declared.Agent.{Agent}
+use Rattle.agent.specs.Meaning.{Flat, memory}
+use Rattle.session.specs.declared.Advanced.{Advanced}
+
+-- ---- calls that are made one after the other
+
+-- the frames that calls were handed
+abbrev pub framesOf : {A : Type 0} → List (Step A) → List (List ℕ)
+framesOf {A} ws = map (λ (w : Step A). w .input .frame) ws
+
+-- Each call is lent the answer buffer as the call before it left it.
+unfoldable pub OneBuffer : {A : Type 0} → List ℕ → List (Step A) → Type 0
+OneBuffer buffer [] = Unit {0}
+OneBuffer buffer (w ∷ ws) = (w .input .buffer ≡ buffer) × OneBuffer (w .result .answer) ws
+
+-- the memory after calls, and the answer buffer
+unfoldable pub memoryAfter : {A : Type 0} → Memory A → List (Step A) → Memory A
+memoryAfter m [] = m
+memoryAfter m (w ∷ ws) = memoryAfter (w .result .memory) ws
+
+unfoldable pub bufferAfter : {A : Type 0} → List ℕ → List (Step A) → List ℕ
+bufferAfter buffer [] = buffer
+bufferAfter buffer (w ∷ ws) = bufferAfter (w .result .answer) ws
+
+-- ---- their lines
+
+-- the line of a call, made from the bytes of its answer; the longest line has 112,980 bytes
+abbrev pub lineOfStep : {A : Type 0} → ℕ → Step A → List ℕ
+lineOfStep ordinal w = lineIn 112_980 ordinal (recordSize (w .input .frame)) (w .result .answer)
+
+-- the lines of calls, the first with this ordinal, and the ordinals rising by one
+unfoldable pub lines : {A : Type 0} → ℕ → List (Step A) → List ℕ
+lines ordinal [] = []
+lines ordinal (w ∷ ws) = lineOfStep ordinal w ++ lines (suc ordinal) ws
+
+-- ---- what `advance` does
+
+-- The calls that were made of the first `at` bytes of an input, the first with the ordinal `first`, from an agent and what was lent
+-- (store, answer, out); what they left is primed.
+pub record Made (agent : Agent) (first : ℕ) (input store answer out : List ℕ) (agent′ : Agent) (ordinal at end : ℕ) (store′ answer′ out′ : List ℕ) : Type 0 where
+  -- the calls
+  pub steps : List (Step Agent)
+  -- are made one after the other, from the memory that was lent, with one answer buffer
+  pub trace : Trace Flat (memory agent store) steps
+  pub buffers : OneBuffer answer steps
+  -- each is handed one frame of the input without its length, in order; no byte is skipped and none is used twice
+  pub frames : Begins input (framesOf steps) (drop at input)
+  pub within : at ≤ length input
+  -- their lines are at the start of out, in order, and every other byte of out is as it was
+  pub printed : out′ ≡ splice out 0 (lines first steps)
+  pub ends : end ≡ length (lines first steps)
+  pub space : end ≤ length out
+  -- what they leave for the next call
+  pub ordinals : ordinal ≡ first + length steps
+  pub left : memoryAfter (memory agent store) steps ≡ memory agent′ store′
+  pub buffer : bufferAfter answer steps ≡ answer′
+
+-- The rest of an input holds no whole frame; or the ordinal is the last of 64 bits, or another line has no room.
+abbrev pub Stops : Bool → List ℕ → ℕ → ℕ → ℕ → Type 0
+Stops true rest ordinal end room = firstFrame rest ≡ none
+Stops false rest ordinal end room = (ordinal ≡ 18446744073709551615) ⊎ (room < end + 112_980)
+
+-- What `advance` leaves: it made the calls of its input, and stopped only where it had to.
+pub record Plays (agent : Agent) (first : ℕ) (input store answer out : List ℕ) (r : Advanced) (store′ answer′ out′ : List ℕ) : Type 0 where
+  pub made : Made agent first input store answer out (r .agent) (r .ordinal) (r .at) (r .end) store′ answer′ out′
+  pub stops : Stops (r .waiting) (drop (r .at) input) (r .ordinal) (r .end) (length out)
