@@ -7,11 +7,11 @@ use mathlib.Core.Path.{_≡_, refl, sym, ap, subst, _∙_}
 use mathlib.Core.List.{List, [], _∷_, _++_, map-append, append-nil, append-assoc}
 use mathlib.Core.Option.{some}
 use lib.ListN.{length, take, drop, length-append}
-use lib.Seq.{drop-drop}
+use lib.Seq.{take-at, drop-drop}
 use borrow.Rule.Slice.PartAt.{part-to-end}
 use Rattle.rules.specs.Bytes.{part}
 use Rattle.buffers.specs.Splice.{splice}
-use Rattle.buffers.proofs.Splice.{splice-none, splice-next, length-window}
+use Rattle.buffers.proofs.Splice.{splice-none, splice-next, splice-front, length-window}
 use Rattle.calls.specs.Contract.{Memory, Layout, Contract}
 use Rattle.calls.specs.Claim.{Step, Trace}
 use Rattle.transcript.specs.Input.{firstFrame, frameIn, Stands, Begins}
@@ -24,7 +24,7 @@ use Rattle.agent.specs.declared.Agent.{Agent}
 use Rattle.agent.specs.declared.Called.{Called}
 use Rattle.agent.specs.Meaning as meaning
 use Rattle.agent.specs.Meaning.{Flat, memory, result}
-use Rattle.session.specs.Session.{framesOf, OneBuffer, memoryAfter, bufferAfter, lines, lineOfStep, Made}
+use Rattle.session.specs.Session.{framesOf, OneBuffer, memoryAfter, bufferAfter, lines, lineOfStep, Session, Made}
 
 -- ---- calls after calls
 
@@ -87,22 +87,49 @@ module _ (input : List ℕ) (at : ℕ) (h : at ≤ length input) (r : Next) wher
         size = length-window (at + 2) (at + n - (at + 2)) input (omega arith) ∙ sym m;
       }
 
--- ---- no call, and one call more
+-- ---- no call, and calls after calls
+
+pub session-none : (agent : Agent) (first : ℕ) (store answer : List ℕ) → Session agent first store answer agent first store answer
+unfolding Trace OneBuffer memoryAfter bufferAfter
+session-none agent first store answer = record { steps = []; trace = tt; buffers = tt; ordinals = sym (add-zero first); left = refl; buffer = refl }
+
+pub session-one : (agent : Agent) (ordinal : ℕ) (store answer f : List ℕ) (r : Called) (store′ answer′ : List ℕ)
+    → Contract Flat (memory agent store) (meaning.input f answer) (result r store′ answer′)
+    → Session agent ordinal store answer (r .agent) (ordinal + 1) store′ answer′
+unfolding Trace OneBuffer memoryAfter bufferAfter
+session-one agent ordinal store answer f r store′ answer′ k = record {
+  steps = record { input = meaning.input f answer; result = result r store′ answer′ } ∷ [];
+  trace = (k, tt);
+  buffers = (refl, tt);
+  ordinals = refl;
+  left = refl;
+  buffer = refl;
+}
+
+module _ {agent agent₁ agent′ : Agent} {first ordinal₁ ordinal′ : ℕ} {store answer store₁ answer₁ store′ answer′ : List ℕ} where
+  pub session-append : Session agent first store answer agent₁ ordinal₁ store₁ answer₁
+      → Session agent₁ ordinal₁ store₁ answer₁ agent′ ordinal′ store′ answer′ → Session agent first store answer agent′ ordinal′ store′ answer′
+  session-append a b =
+      let ws : List (Step Agent) = a .steps in
+      let vs : List (Step Agent) = b .steps in
+      record {
+        steps = ws ++ vs;
+        trace = trace-append Flat (memory agent store) ws vs (a .trace) (subst (λ (x : Memory Agent). Trace Flat x vs) (sym (a .left)) (b .trace));
+        buffers = buffers-append answer ws vs (a .buffers) (subst (λ (x : List ℕ). OneBuffer x vs) (sym (a .buffer)) (b .buffers));
+        ordinals = omega (arith, a .ordinals, b .ordinals, length-append ws vs);
+        left = memory-append (memory agent store) ws vs ∙ ap (λ (x : Memory Agent). memoryAfter x vs) (a .left) ∙ b .left;
+        buffer = buffer-append answer ws vs ∙ ap (λ (x : List ℕ). bufferAfter x vs) (a .buffer) ∙ b .buffer;
+      }
 
 pub made-none : (agent : Agent) (first : ℕ) (input store answer out : List ℕ) → Made agent first input store answer out agent first 0 0 store answer out
-unfolding Trace OneBuffer Begins lines memoryAfter bufferAfter
+unfolding Begins lines session-none
 made-none agent first input store answer out = record {
-  steps = [];
-  trace = tt;
-  buffers = tt;
+  session = session-none agent first store answer;
   frames = refl;
   within = omega arith;
   printed = splice-none out 0;
   ends = refl;
   space = omega arith;
-  ordinals = sym (add-zero first);
-  left = refl;
-  buffer = refl;
 }
 
 module _ {agent : Agent} {first : ℕ} {input store answer out : List ℕ} {agent₁ : Agent} {ordinal at end : ℕ} {store₁ answer₁ out₁ : List ℕ}
@@ -113,24 +140,22 @@ module _ {agent : Agent} {first : ℕ} {input store answer out : List ℕ} {agen
       Contract Flat (memory agent₁ store₁) (meaning.input f answer₁) (result r store′ answer′)
       → (end′ ≡ end + length line) × (out′ ≡ splice out₁ end line) → end + 112_980 ≤ length out
       → Made agent first input store answer out (r .agent) (ordinal + 1) (at + n) end′ store′ answer′ out′
-  unfolding Trace OneBuffer Begins lines memoryAfter bufferAfter
+  unfolding Begins lines session-one session-append
   made-next {n} {end′} {r} {store′} {answer′} {out′} a k p room =
       let f : List ℕ = take (at + n - (at + 2)) (drop (at + 2) input) in
       let line : List ℕ = lineIn 112_980 ordinal (recordSize f) answer′ in
-      let w : Step Agent = record { input = meaning.input f answer₁; result = result r store′ answer′ } in
-      let ws : List (Step Agent) = m .steps in
+      let one = session-one agent₁ ordinal store₁ answer₁ f r store′ answer′ k in
+      let w : List (Step Agent) = one .steps in
+      let ws : List (Step Agent) = m .session .steps in
       let two : 2 ≤ n = a .two in
       let past : 2 + length f ≡ n = omega (arith, a .size) in
-      let all : lines first (ws ++ w ∷ []) ≡ lines first ws ++ line =
-      lines-append first ws (w ∷ [])
-      ∙ ap (λ (i : ℕ). lines first ws ++ (lineIn 112_980 i (recordSize f) answer′ ++ [])) (sym (m .ordinals))
+      let all : lines first (ws ++ w) ≡ lines first ws ++ line =
+      lines-append first ws w
+      ∙ ap (λ (i : ℕ). lines first ws ++ (lineIn 112_980 i (recordSize f) answer′ ++ [])) (sym (m .session .ordinals))
       ∙ ap (λ (l : List ℕ). lines first ws ++ l) (append-nil line) in
       record {
-        steps = ws ++ w ∷ [];
-        trace = trace-append Flat (memory agent store) ws (w ∷ [])
-            (m .trace) (subst (λ (x : Memory Agent). Contract Flat x (w .input) (w .result)) (sym (m .left)) k, tt);
-        buffers = buffers-append answer ws (w ∷ []) (m .buffers) (sym (m .buffer), tt);
-        frames = subst (λ (fs : List (List ℕ)). Begins input fs (drop (at + n) input)) (sym (map-append _ ws (w ∷ [])))
+        session = session-append (m .session) one;
+        frames = subst (λ (fs : List (List ℕ)). Begins input fs (drop (at + n) input)) (sym (map-append _ ws w))
             (begins-append input (framesOf ws) (f ∷ []) (drop at input) (drop (at + n) input) (m .frames)
             (a .first, ap (λ (i : ℕ). drop i (drop at input)) past ∙ drop-drop n at input));
         within = a .within;
@@ -138,7 +163,10 @@ module _ {agent : Agent} {first : ℕ} {input store answer out : List ℕ} {agen
             ∙ splice-next out 0 end (lines first ws) line (omega (arith, m .ends)) (m .space) ∙ ap (splice out 0) (sym all);
         ends = p .0 ∙ ap (λ (i : ℕ). i + length line) (m .ends) ∙ sym (ap length all ∙ length-append (lines first ws) line);
         space = omega (arith, p .0, room, lineIn-length 112_980 ordinal (recordSize f) answer′);
-        ordinals = omega (arith, m .ordinals, length-append ws (w ∷ []));
-        left = memory-append (memory agent store) ws (w ∷ []);
-        buffer = buffer-append answer ws (w ∷ []);
       }
+
+  -- what is printed is the lines and nothing else
+  pub made-lines : take end out₁ ≡ lines first (m .session .steps)
+  made-lines =
+      let all : List ℕ = lines first (m .session .steps) in
+      ap (take end) (m .printed ∙ splice-front out all) ∙ take-at all (drop (length all) out) end (sym (m .ends))

@@ -49,29 +49,31 @@ lines ordinal (w ∷ ws) = lineOfStep ordinal w ++ lines (suc ordinal) ws
 
 -- ---- what `advance` does
 
--- The calls that were made of the first `at` bytes of an input, the first with the ordinal `first`, from an agent and what was lent
--- (store, answer, out); what they left is primed.
-pub record Made (agent : Agent) (first : ℕ) (input store answer out : List ℕ) (agent′ : Agent) (ordinal at end : ℕ) (store′ answer′ out′ : List ℕ) : Type 0 where
-  -- the calls
+-- A *session*: calls made one after the other, the first with the ordinal `first`, from an agent, a store and an answer buffer; what
+-- they leave for the next call is primed.
+pub record Session (agent : Agent) (first : ℕ) (store answer : List ℕ) (agent′ : Agent) (ordinal : ℕ) (store′ answer′ : List ℕ) : Type 0 where
   pub steps : List (Step Agent)
-  -- are made one after the other, from the memory that was lent, with one answer buffer
   pub trace : Trace Flat (memory agent store) steps
   pub buffers : OneBuffer answer steps
-  -- each is handed one frame of the input without its length, in order; no byte is skipped and none is used twice
-  pub frames : Begins input (framesOf steps) (drop at input)
-  pub within : at ≤ length input
-  -- their lines are at the start of out, in order, and every other byte of out is as it was
-  pub printed : out′ ≡ splice out 0 (lines first steps)
-  pub ends : end ≡ length (lines first steps)
-  pub space : end ≤ length out
-  -- what they leave for the next call
   pub ordinals : ordinal ≡ first + length steps
   pub left : memoryAfter (memory agent store) steps ≡ memory agent′ store′
   pub buffer : bufferAfter answer steps ≡ answer′
 
--- The rest of an input holds no whole frame; or the ordinal is the last of 64 bits, or another line has no room.
+-- The calls made of the first `at` bytes of an input, and their lines, which end at `end` of out.
+pub record Made (agent : Agent) (first : ℕ) (input store answer out : List ℕ) (agent′ : Agent) (ordinal at end : ℕ) (store′ answer′ out′ : List ℕ) : Type 0 where
+  pub session : Session agent first store answer agent′ ordinal store′ answer′
+  -- each call is handed one frame of the input without its length, in order; no byte is skipped and none is used twice
+  pub frames : Begins input (framesOf (session .steps)) (drop at input)
+  pub within : at ≤ length input
+  -- the lines are at the start of out, in order, and every other byte of out is as it was
+  pub printed : out′ ≡ splice out 0 (lines first (session .steps))
+  pub ends : end ≡ length (lines first (session .steps))
+  pub space : end ≤ length out
+
+-- Either the rest of an input holds no whole frame, so that it is shorter than the longest frame with its length; or the ordinal is
+-- the last of 64 bits, or the longest line has no room.
 abbrev pub Stops : Bool → List ℕ → ℕ → ℕ → ℕ → Type 0
-Stops true rest ordinal end room = firstFrame rest ≡ none
+Stops true rest ordinal end room = (firstFrame rest ≡ none) × (length rest ≤ 65_536)
 Stops false rest ordinal end room = (ordinal ≡ 18446744073709551615) ⊎ (room < end + 112_980)
 
 -- What `advance` leaves: it made the calls of its input, and stopped only where it had to.

@@ -1,4 +1,4 @@
--- Right because . Assumes nothing.
+-- Right because the buffers are as long as `run` asks. Assumes nothing.
 use borrow.Author.Needs.{needs}
 use Rattle.play.proofs.main.Statement.{statement}
 use Rattle.play.proofs.main.Tie as tie

@@ -1,45 +1,71 @@
--- Right because less than a frame is left before each read, so that the input has room for more. Assumes nothing.
+-- Right because each turn goes on from what the turn before it left, and a read has room: less than the longest frame is kept.
+-- Assumes nothing.
 use Prim.Native.Nat.{ℕ, _+_, _-_, _≤_, _<_}
 use native.Mathlib.Omega.{arith}
-use mathlib.Core.Path.{_≡_, sym}
+use mathlib.Core.Path.{_≡_, sym, ap, subst}
+use mathlib.Core.Bool.{Bool, true}
+use mathlib.Core.Logic.{⊎-elim}
 use mathlib.Core.List.{List}
-use lib.ListN.{length, take}
+use lib.ListN.{length, take, drop, length-drop}
 use lib.Seq.{length-take-le}
 use borrow.Author.Needs.{needs}
+use Rattle.buffers.proofs.Splice.{length-window}
+use Rattle.session.specs.Session.{Session, Stops}
+use Rattle.session.proofs.Made.{session-none, session-append}
 use Rattle.play.proofs.run.Statement.{statement}
 use Rattle.play.proofs.run.Tie as tie
 
 abbrev Inv-loop : tie.InvT-loop
-Inv-loop input₀ store₀ answer₀ out₀ state₀ ordinal₀ filled₀ reads₀ input store answer out state ordinal filled reads =
-    (filled ≤ length input) × (length input ≡ length input₀) × (length store ≡ length store₀) × (length answer ≡ length answer₀) × (length out ≡ length out₀)
+Inv-loop input₀ store₀ answer₀ out₀ state₀ ordinal₀ at₀ filled₀ turns₀ input store answer out state ordinal at filled turns =
+    Session state₀ 1 store₀ answer₀ state ordinal store answer × (at ≤ filled) × (filled ≤ length input)
+    × (length input ≡ length input₀) × (length store ≡ length store₀) × (length answer ≡ length answer₀) × (length out ≡ length out₀)
 
 abbrev μ-loop : tie.MeasureT-loop
-μ-loop input₀ store₀ answer₀ out₀ state₀ ordinal₀ filled₀ reads₀ input store answer out state ordinal filled reads = 18446744073709551615 - reads
+μ-loop input₀ store₀ answer₀ out₀ state₀ ordinal₀ at₀ filled₀ turns₀ input store answer out state ordinal at filled turns = 18446744073709551615 - turns
 
-module _ (c : tie.After-serve Inv-loop μ-loop) where
+module _ (c : tie.After-advance Inv-loop μ-loop) where
   abbrev loop : tie.At-loop Inv-loop μ-loop
-  loop = c .before .before .before .before .before .before
+  loop = c .before .before .before .before .before .before .before
 
-  given-length : length (take (loop .loop .filled) (loop .loop .input)) ≡ loop .loop .filled
-  given-length = length-take-le (loop .loop .filled) (loop .loop .input) (loop .loop .inv .0)
+  -- the bytes at hand
+  abbrev given : List ℕ
+  given = take (loop .loop .filled - loop .loop .at) (drop (loop .loop .at) (loop .loop .input))
 
-  passed : c .serve .result .at ≤ loop .loop .filled
-  passed = omega (arith, given-length, c .serve .ensures .0 .0)
+  given-length : length given ≡ loop .loop .filled - loop .loop .at
+  given-length = length-window (loop .loop .at) (loop .loop .filled - loop .loop .at) (loop .loop .input) (omega (arith, loop .loop .inv .1, loop .loop .inv .2))
 
-  short : c .serve .result .ordinal < 18446744073709551615 → loop .loop .filled ≤ c .serve .result .at + 65536
-  short h = omega (arith, given-length, c .serve .ensures .1 h)
+  passed : loop .loop .at + c .advance .result .at ≤ loop .loop .filled
+  passed = omega (arith, given-length, c .advance .ensures .made .within, loop .loop .inv .1)
+
+  -- what waits for more is short
+  short : c .advance .result .waiting ≡ true → loop .loop .filled ≤ loop .loop .at + c .advance .result .at + 65_536
+  short w =
+      let rest : List ℕ = drop (c .advance .result .at) given in
+      let s = subst (λ (b : Bool). Stops b rest (c .advance .result .ordinal) (c .advance .result .end) (length (loop .loop .out))) w (c .advance .ensures .stops) in
+      omega (arith, s .1, length-drop (c .advance .result .at) given, given-length)
+
+-- where the input ends
+module _ (c : tie.Then3 Inv-loop μ-loop) where
+  abbrev last : tie.After-advance Inv-loop μ-loop
+  last = c .before .before .before .before .before .before .before .before .before .before .before .before .before .before .before .before .before
+
+  abbrev held : tie.At-loop Inv-loop μ-loop
+  held = loop last
 
 loop-holds : tie.Need-loop-holds Inv-loop μ-loop
-loop-holds c = search needs
+loop-holds c = (session-none _ _ _ _, search needs, search needs, search needs, search needs, search needs, search needs)
 
-slice-reshare-prefix-serve : tie.Need-slice-reshare-prefix-serve Inv-loop μ-loop
-slice-reshare-prefix-serve c = search needs
+sub-advance : tie.Need-sub-advance Inv-loop μ-loop
+sub-advance c = search needs
 
-slice-aggregate-serve : tie.Need-slice-aggregate-serve Inv-loop μ-loop
-slice-aggregate-serve c = let l = c .before .before .loop in sym (length-take-le (l .filled) (l .input) (l .inv .0))
+part-advance-start : tie.Need-part-advance-start Inv-loop μ-loop
+part-advance-start c = search needs
 
-serve-requires : tie.Need-serve-requires Inv-loop μ-loop
-serve-requires c κs = search needs
+part-advance-end : tie.Need-part-advance-end Inv-loop μ-loop
+part-advance-end c = search needs
+
+advance-requires : tie.Need-advance-requires Inv-loop μ-loop
+advance-requires c κs = search needs
 
 slice-reshare-prefix-write-all : tie.Need-slice-reshare-prefix-write-all Inv-loop μ-loop
 slice-reshare-prefix-write-all c = search needs
@@ -47,12 +73,51 @@ slice-reshare-prefix-write-all c = search needs
 slice-aggregate-write-all : tie.Need-slice-aggregate-write-all Inv-loop μ-loop
 slice-aggregate-write-all c =
     let d = c .before .before .before .before .before .before .before in
-    let o : List ℕ = d .serve .last .1 .1 .1 .1 .1 .0 in
-    let h : d .serve .result .end ≤ length o = omega (arith, d .serve .ensures .0 .1, d .serve .kept .1 .1 .1 .1 .1 .0) in
-    sym (length-take-le (d .serve .result .end) o h)
+    let o : List ℕ = d .advance .last .1 .1 .1 .1 .1 .0 in
+    let h : d .advance .result .end ≤ length o = omega (arith, d .advance .ensures .made .space, d .advance .kept .1 .1 .1 .1 .1 .0) in
+    sym (length-take-le (d .advance .result .end) o h)
 
 write-all-requires : tie.Need-write-all-requires Inv-loop μ-loop
 write-all-requires c κs = search needs
+
+add-at : tie.Need-add-at Inv-loop μ-loop
+add-at c =
+    let d = c .before .before .before .before .before .before .before .before .before .before in
+    let i = loop d .loop .inv in
+    record { fits = omega (arith, passed d, i .2, i .3, loop d .before .before .before .before .before .good .1 .0 .0) }
+
+sub-rest : tie.Need-sub-rest Inv-loop μ-loop
+sub-rest c = passed (c .before .before .before .before .before .before .before .before .before .before .before .before)
+
+refill-requires : tie.Need-refill-requires Inv-loop μ-loop
+refill-requires c κs =
+    let d = c .before .before .before .before .before .before .before .before .before .before .before .before .before in
+    let i = loop d .loop .inv in
+    (passed d, i .2, omega (arith, short d (c .before .if2 .taken), i .3, loop d .before .before .before .before .before .pre .0))
+
+add-turns : tie.Need-add-turns Inv-loop μ-loop
+add-turns c = search needs
+
+loop-less : tie.Need-loop-less Inv-loop μ-loop
+loop-less c = search needs
+
+loop-again : tie.Need-loop-again Inv-loop μ-loop
+loop-again c =
+    let d = c .before .before .before .before .before .before .before .before .before .before .before .before in
+    let i = loop d .loop .inv in
+    let p : (c .if2 .at ≤ c .if2 .filled) × (c .if2 .filled ≤ length (c .if2 .input)) × (length (c .if2 .input) ≡ length (loop d .loop .input)) =
+    ⊎-elim
+    (λ w. (omega (arith, w .7), omega (arith, w .8, w .2 .ensures .0 .1, w .2 .kept .0, ap length (w .6)), omega (arith, w .2 .kept .0, ap length (w .6))))
+    (λ w. (omega (arith, w .2, w .3, passed d), omega (arith, w .3, ap length (w .1), i .2), ap length (w .1)))
+    (c .if2 .came) in (
+      session-append (i .0) (d .advance .ensures .made .session),
+      p .0,
+      p .1,
+      omega (arith, p .2, i .3),
+      omega (arith, i .4, d .advance .kept .1 .1 .1 .0),
+      omega (arith, i .5, d .advance .kept .1 .1 .1 .1 .0),
+      omega (arith, i .6, d .advance .kept .1 .1 .1 .1 .1 .0),
+    )
 
 same-length : tie.Need-same-length Inv-loop μ-loop
 same-length c = search needs
@@ -69,16 +134,6 @@ same-length-4 c = search needs
 returns : tie.Need-returns Inv-loop μ-loop
 returns c = search needs
 
-sub-rest : tie.Need-sub-rest Inv-loop μ-loop
-sub-rest c = passed (c .before .before .before .before .before .before .before .before .before .before)
-
-refill-requires : tie.Need-refill-requires Inv-loop μ-loop
-refill-requires c κs =
-    let d = c .before .before .before .before .before .before .before .before .before .before .before in
-    let l = loop d in
-    let h : d .serve .result .ordinal < 18446744073709551615 = omega arith in
-    (passed d, l .loop .inv .0, omega (arith, short d h, l .loop .inv .1, l .before .before .before .before .before .pre .0))
-
 same-length-5 : tie.Need-same-length-5 Inv-loop μ-loop
 same-length-5 c = search needs
 
@@ -92,31 +147,24 @@ same-length-8 : tie.Need-same-length-8 Inv-loop μ-loop
 same-length-8 c = search needs
 
 returns-2 : tie.Need-returns-2 Inv-loop μ-loop
-returns-2 c = search needs
-
-add-reads : tie.Need-add-reads Inv-loop μ-loop
-add-reads c = search needs
-
-loop-less : tie.Need-loop-less Inv-loop μ-loop
-loop-less c = search needs
-
-loop-again : tie.Need-loop-again Inv-loop μ-loop
-loop-again c = search needs
+returns-2 c =
+    let d = c .before .before .before .before .before .before .before .before .before .before .before in
+    session-append (loop d .loop .inv .0) (d .advance .ensures .made .session)
 
 same-length-9 : tie.Need-same-length-9 Inv-loop μ-loop
-same-length-9 c = search needs
+same-length-9 c = omega (arith, held c .loop .inv .3, c .before .before .before .refill .kept .0)
 
 same-length-10 : tie.Need-same-length-10 Inv-loop μ-loop
-same-length-10 c = search needs
+same-length-10 c = omega (arith, held c .loop .inv .4, last c .advance .kept .1 .1 .1 .0)
 
 same-length-11 : tie.Need-same-length-11 Inv-loop μ-loop
-same-length-11 c = search needs
+same-length-11 c = omega (arith, held c .loop .inv .5, last c .advance .kept .1 .1 .1 .1 .0)
 
 same-length-12 : tie.Need-same-length-12 Inv-loop μ-loop
-same-length-12 c = search needs
+same-length-12 c = omega (arith, held c .loop .inv .6, last c .advance .kept .1 .1 .1 .1 .1 .0)
 
 returns-3 : tie.Need-returns-3 Inv-loop μ-loop
-returns-3 c = search needs
+returns-3 c = session-append (held c .loop .inv .0) (last c .advance .ensures .made .session)
 
 pub run-spec : {M : Type 1} → statement M
 run-spec =
@@ -125,27 +173,29 @@ run-spec =
     Inv-loop
     μ-loop
     loop-holds
-    slice-reshare-prefix-serve
-    slice-aggregate-serve
-    serve-requires
+    sub-advance
+    part-advance-start
+    part-advance-end
+    advance-requires
     slice-reshare-prefix-write-all
     slice-aggregate-write-all
     write-all-requires
+    add-at
+    sub-rest
+    refill-requires
+    add-turns
+    loop-less
+    loop-again
     same-length
     same-length-2
     same-length-3
     same-length-4
     returns
-    sub-rest
-    refill-requires
     same-length-5
     same-length-6
     same-length-7
     same-length-8
     returns-2
-    add-reads
-    loop-less
-    loop-again
     same-length-9
     same-length-10
     same-length-11

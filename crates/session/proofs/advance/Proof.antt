@@ -5,13 +5,15 @@ use mathlib.Core.Path.{_≡_, sym, ap, subst, _∙_}
 use mathlib.Core.Logic.{inl, inr}
 use mathlib.Core.List.{List}
 use mathlib.Core.Option.{none}
-use lib.ListN.{length, take, drop}
+use lib.ListN.{length, take, drop, getD}
+use lib.Seq.{getD-drop}
 use borrow.Rule.Slice.PartAt.{part-to-end}
 use denote.Ref.{now}
 use borrow.Author.Needs.{needs}
 use borrow.Author.Tests.{leb-true, leb-false}
 use Rattle.transcript.specs.Input.{firstFrame, frameIn}
 use Rattle.transcript.specs.declared.Next.{Next}
+use Rattle.transcript.proofs.Input.{rest-short}
 use Rattle.session.specs.Session.{Made}
 use Rattle.session.proofs.Made.{Ahead, ahead, made-none, made-next}
 use Rattle.session.proofs.advance.Statement.{statement}
@@ -52,12 +54,19 @@ module _ (c : tie.After-enum-told Inv-loop μ-loop) where
   abbrev ended : tie.At-loop Inv-loop μ-loop
   ended = c .before .before .before .before .before .before
 
-  none-left : firstFrame (drop (ended .loop .at) (now (ended .before .before .before .before .before .args .input))) ≡ none
+  abbrev rest : List ℕ
+  rest = drop (ended .loop .at) (now (ended .before .before .before .before .before .args .input))
+
+  none-left : (firstFrame rest ≡ none) × (length rest ≤ 65_536)
   none-left =
       let at : ℕ = ended .loop .at in
-      let input : List ℕ = now (ended .before .before .before .before .before .args .input) in
+      let known = ended .before .before .before .before in
+      let input : List ℕ = now (known .before .args .input) in
       let part : List ℕ = take (length input - at) (drop at input) in
-      ap firstFrame (sym (part-to-end input at)) ∙ sym (c .before .before .next-frame .ensures .0) ∙ ap (λ (r : Next). frameIn r part) (c .enum-told .given .1)
+      let e : firstFrame rest ≡ none =
+      ap firstFrame (sym (part-to-end input at)) ∙ sym (c .before .before .next-frame .ensures .0) ∙ ap (λ (r : Next). frameIn r part) (c .enum-told .given .1) in
+      let bytes : (i : ℕ) → getD rest i 0 < 256 = λ i. omega (arith, getD-drop at input i 0, known .shared-slice-known .given (at + i)) in
+      (e, rest-short rest bytes (sym e))
 
 loop-holds : tie.Need-loop-holds Inv-loop μ-loop
 loop-holds c = (made-none _ _ _ _ _ _, search needs, search needs, search needs, search needs)
@@ -129,15 +138,22 @@ add-ordinal : tie.Need-add-ordinal Inv-loop μ-loop
 add-ordinal c = search needs
 
 loop-less : tie.Need-loop-less Inv-loop μ-loop
-loop-less c = let u = upcoming (c .before .before .before .before .before .before .before .before .before .before .before .before .before .before .before) in omega (arith, u .two, u .within)
+loop-less c =
+    let u = upcoming (c .before .before .before .before .before .before .before .before .before .before .before .before .before .before .before) in
+    omega (arith, u .two, u .within)
 
 loop-again : tie.Need-loop-again Inv-loop μ-loop
 loop-again c =
     let p = c .before .before in
     let k = p .before .before .before .before .before .before .before .before .before in
     let d = k .before .before .before .before in
-    let i = loop d .loop .inv in
-    (made-next (i .0) (upcoming d) (k .call .ensures) (p .print .ensures) (omega (arith, space d, i .3)), omega (arith, i .1, k .call .kept .1 .1 .0), omega (arith, i .2, k .call .kept .1 .1 .1 .0), omega (arith, i .3, p .print .kept .1 .1 .1 .0), omega (arith, d .before .before .before .before .before .before .loop-test .taken))
+    let i = loop d .loop .inv in (
+      made-next (i .0) (upcoming d) (k .call .ensures) (p .print .ensures) (omega (arith, space d, i .3)),
+      omega (arith, i .1, k .call .kept .1 .1 .0),
+      omega (arith, i .2, k .call .kept .1 .1 .1 .0),
+      omega (arith, i .3, p .print .kept .1 .1 .1 .0),
+      omega (arith, d .before .before .before .before .before .before .loop-test .taken),
+    )
 
 same-length-4 : tie.Need-same-length-4 Inv-loop μ-loop
 same-length-4 c = search needs
@@ -149,7 +165,9 @@ same-length-6 : tie.Need-same-length-6 Inv-loop μ-loop
 same-length-6 c = search needs
 
 returns-2 : tie.Need-returns-2 Inv-loop μ-loop
-returns-2 c = record { made = c .before .before .loop .inv .0; stops = inr (omega (arith, leb-false 112_980 (length (c .before .before .loop .out) - c .before .before .loop .end) (c .if1 .left), c .before .before .loop .inv .3)) }
+returns-2 c =
+    let l = c .before .before .loop in
+    record { made = l .inv .0; stops = inr (omega (arith, leb-false 112_980 (length (l .out) - l .end) (c .if1 .left), l .inv .3)) }
 
 same-length-7 : tie.Need-same-length-7 Inv-loop μ-loop
 same-length-7 c = search needs
