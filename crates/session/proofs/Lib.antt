@@ -1,2 +1,3 @@
 -- Laws of the calls that `play` makes.
 pub mod Made
+pub mod Printed

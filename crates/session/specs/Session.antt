@@ -8,10 +8,12 @@ use mathlib.Core.Option.{none}
 use Prim.Native.Nat.{ℕ, suc, _+_, _≤_, _<_}
 use lib.ListN.{length, drop}
 use Rattle.buffers.specs.Splice.{splice}
-use Rattle.calls.specs.Contract.{Memory}
+use Rattle.rules.specs.Frame.{readFrame}
+use Rattle.rules.specs.Call.{State, fresh, answer, next}
+use Rattle.calls.specs.Contract.{Memory, Layout, Fresh}
 use Rattle.calls.specs.Claim.{Step, Trace}
 use Rattle.transcript.specs.Input.{firstFrame, Begins}
-use Rattle.transcript.specs.Line.{recordSize, lineIn}
+use Rattle.transcript.specs.Line.{lineOf, recordSize, lineIn}
 use Rattle.agent.specs.declared.Agent.{Agent}
 use Rattle.agent.specs.Meaning.{Flat, memory}
 use Rattle.session.specs.declared.Advanced.{Advanced}
@@ -46,6 +48,21 @@ lineOfStep ordinal w = lineIn 112_980 ordinal (recordSize (w .input .frame)) (w 
 unfoldable pub lines : {A : Type 0} → ℕ → List (Step A) → List ℕ
 lines ordinal [] = []
 lines ordinal (w ∷ ws) = lineOfStep ordinal w ++ lines (suc ordinal) ws
+
+-- ---- what document 01 says of them
+
+-- the lines of frames, a call each, that an agent in this state is handed
+unfoldable pub linesFrom : ℕ → State → List (List ℕ) → List ℕ
+linesFrom ordinal s [] = []
+linesFrom ordinal s (f ∷ fs) = lineOf ordinal (answer s (readFrame f)) ++ linesFrom (suc ordinal) (next s (readFrame f)) fs
+
+-- What is printed is the rules' answers: from a fresh agent, with a store and an answer buffer that are long enough, the lines made
+-- from the bytes of the answers are the lines of what the rules answer to the same frames.
+abbrev pub PrintsAnswers : {A : Type 0} → Layout A → Type 0
+PrintsAnswers {A} L =
+    (device first : ℕ) (start : Memory A) (buffer : List ℕ) (ws : List (Step A))
+    → Fresh L device (start .agent) → 56_320 ≤ length (start .store) → 57_344 ≤ length buffer
+    → Trace L start ws → OneBuffer buffer ws → lines first ws ≡ linesFrom first (fresh device) (framesOf ws)
 
 -- ---- what `advance` does
 
