@@ -107,7 +107,7 @@ session-one agent ordinal store answer f r store′ answer′ k = record {
 }
 
 module _ {agent agent₁ agent′ : Agent} {first ordinal₁ ordinal′ : ℕ} {store answer store₁ answer₁ store′ answer′ : List ℕ} where
-  pub session-append : Session agent first store answer agent₁ ordinal₁ store₁ answer₁
+  unfoldable pub session-append : Session agent first store answer agent₁ ordinal₁ store₁ answer₁
       → Session agent₁ ordinal₁ store₁ answer₁ agent′ ordinal′ store′ answer′ → Session agent first store answer agent′ ordinal′ store′ answer′
   session-append a b =
       let ws : List (Step Agent) = a .steps in

@@ -6,7 +6,7 @@ use mathlib.Core.Logic.{_⊎_}
 use mathlib.Core.List.{List, [], _∷_, _++_, map}
 use mathlib.Core.Option.{none}
 use Prim.Native.Nat.{ℕ, suc, _+_, _≤_, _<_}
-use lib.ListN.{length, drop}
+use lib.ListN.{length, take, drop}
 use Rattle.buffers.specs.Splice.{splice}
 use Rattle.rules.specs.Frame.{readFrame}
 use Rattle.rules.specs.Call.{State, fresh, answer, next}
@@ -97,3 +97,31 @@ Stops false rest ordinal end room = (ordinal ≡ 18446744073709551615) ⊎ (room
 pub record Plays (agent : Agent) (first : ℕ) (input store answer out : List ℕ) (r : Advanced) (store′ answer′ out′ : List ℕ) : Type 0 where
   pub made : Made agent first input store answer out (r .agent) (r .ordinal) (r .at) (r .end) store′ answer′ out′
   pub stops : Stops (r .waiting) (drop (r .at) input) (r .ordinal) (r .end) (length out)
+
+-- ---- an input that is read in pieces
+
+-- An input was played up to a rest: the calls that were made of it, and the text that was printed.
+pub record Played (agent : Agent) (first : ℕ) (input store answer : List ℕ) (agent′ : Agent) (ordinal : ℕ) (rest store′ answer′ text : List ℕ) : Type 0 where
+  pub session : Session agent first store answer agent′ ordinal store′ answer′
+  pub frames : Begins input (framesOf (session .steps)) rest
+  pub printed : text ≡ lines first (session .steps)
+
+-- What is printed depends on the whole input alone, and not on how it was read.
+pub record InAnyPieces : Type 0 where
+  -- `advance` plays its input, and the text is the first bytes of out
+  pub piece : {agent agent′ : Agent} {first ordinal at end : ℕ} {input store answer out store′ answer′ out′ : List ℕ}
+      → Made agent first input store answer out agent′ ordinal at end store′ answer′ out′
+      → Played agent first input store answer agent′ ordinal (drop at input) store′ answer′ (take end out′)
+  -- what is left of a piece is kept before the next: the two are played as one
+  pub pieces : {agent agent₁ agent₂ : Agent} {first ordinal₁ ordinal₂ : ℕ} {store answer store₁ answer₁ store₂ answer₂ : List ℕ}
+      (input more : List ℕ) {rest₁ rest₂ text₁ text₂ : List ℕ}
+      → Played agent first input store answer agent₁ ordinal₁ rest₁ store₁ answer₁ text₁
+      → Played agent₁ ordinal₁ (rest₁ ++ more) store₁ answer₁ agent₂ ordinal₂ rest₂ store₂ answer₂ text₂
+      → Played agent first (input ++ more) store answer agent₂ ordinal₂ rest₂ store₂ answer₂ (text₁ ++ text₂)
+  -- where no whole frame is left, from a fresh agent and with buffers that are long enough, the text is the lines of the rules' answers
+  -- to the frames into which the input is cut
+  pub whole : {agent agent′ : Agent} {first ordinal : ℕ} {input store answer store′ answer′ rest text : List ℕ} (device : ℕ) → Fresh Flat device agent
+      → 56_320 ≤ length store → 57_344 ≤ length answer
+      → Played agent first input store answer agent′ ordinal rest store′ answer′ text → firstFrame rest ≡ none
+      → (fs : List (List ℕ)) (last : List ℕ) → Begins input fs last → firstFrame last ≡ none
+      → text ≡ linesFrom first (fresh device) fs
