@@ -2,8 +2,10 @@
 // What is done with the bytes is in `session`: this program moves them between the file descriptors and the slices that it lends.
 ghost use mathlib.Core.Path.{_≡_};
 ghost use Prim.Native.Nat.{_+_, _-_, _≤_, _<_};
-ghost use lib.ListN.{length, take};
+ghost use mathlib.Core.Option.{none};
+ghost use lib.ListN.{length, take, drop};
 ghost use Rattle.rules.specs.Bytes.{part};
+ghost use Rattle.transcript.specs.Input.{firstFrame, CutAt};
 ghost use Rattle.session.specs.Session.{Session};
 use agent::Agent;
 use libc::STDIN_FILENO;
@@ -24,8 +26,10 @@ fn read(part: &mut [u8]) -> usize
 }
 
 // Keeps the bytes of the input from `at` on, up to `filled`, at its start, and reads more after them; how many there are then.
+// What comes before `at` must be whole frames, and what is kept must hold none.
 fn refill(input: &mut [u8], at: usize, filled: usize) -> usize
-    requires { ⌜ (at ≤ filled) × (filled ≤ length (now input)) × (filled < length (now input) + at) ⌝ }
+    requires room { ⌜ (at ≤ filled) × (filled ≤ length (now input)) × (filled < length (now input) + at) ⌝ }
+    requires cut { ⌜ CutAt (take filled (now input)) at × (firstFrame (drop at (take filled (now input))) ≡ none) ⌝ }
     ensures count { λ r. ⌜ (filled - at ≤ r) × (r ≤ length (now (input .entry))) ⌝ }
     ensures kept { λ _. ⌜ take (filled - at) (now (input .exit)) ≡ part at (filled - at) (now (input .entry)) ⌝ }
 {

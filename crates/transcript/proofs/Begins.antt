@@ -8,11 +8,11 @@ use mathlib.Core.List.{List, [], _∷_, _++_}
 use mathlib.Core.Option.{Option, none, some}
 use lib.Dec.{leb}
 use lib.ListN.{length, take, drop, length-append, length-drop}
-use lib.Seq.{take-append-le, drop-append-le, length-take-le}
+use lib.Seq.{take-append-le, drop-append-le, length-take-le, drop-drop}
 use borrow.Author.Tests.{leb-true}
 use Rattle.rules.specs.Bytes.{if_then_else_, int, part, number}
 use Rattle.rules.proofs.Tests.{and-true}
-use Rattle.transcript.specs.Input.{firstFrame, Begins, InPieces}
+use Rattle.transcript.specs.Input.{firstFrame, Begins, CutAt, InPieces}
 use Rattle.transcript.proofs.Input.{whole}
 
 -- ---- the first frame
@@ -92,6 +92,20 @@ begins-only input (f ∷ fs) (g ∷ gs) rest last b n c m =
     let r : (fs ≡ gs) × (rest ≡ last) =
     begins-only (drop (2 + length f) input) fs gs rest last (b .1) n (subst (λ (x : List ℕ). Begins (drop (2 + length x) input) gs last) (sym e) (c .1)) m in
     (ap₂ (λ (x : List ℕ) (xs : List (List ℕ)). x ∷ xs) e (r .0), r .1)
+
+-- ---- where bytes are cut
+
+pub cut-none : (bytes : List ℕ) → CutAt bytes 0
+unfolding Begins
+cut-none bytes = record { frames = []; begins = refl }
+
+-- further on, by frames that the bytes from there on begin with
+pub cut-more : {bytes : List ℕ} {at : ℕ} (n : ℕ) (fs : List (List ℕ)) → CutAt bytes at → Begins (drop at bytes) fs (drop n (drop at bytes)) → CutAt bytes (at + n)
+cut-more {bytes} {at} n fs c b = record {
+  frames = c .frames ++ fs;
+  begins = subst (Begins bytes (c .frames ++ fs)) (drop-drop n at bytes)
+      (begins-append bytes (c .frames) fs (drop at bytes) (drop n (drop at bytes)) (c .begins) b);
+}
 
 pub in-pieces : InPieces
 in-pieces = record {

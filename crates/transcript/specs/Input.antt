@@ -32,6 +32,11 @@ unfoldable pub Begins : List ℕ → List (List ℕ) → List ℕ → Type 0
 Begins input [] rest = input ≡ rest
 Begins input (f ∷ fs) rest = (firstFrame input ≡ some f) × Begins (drop (2 + length f) input) fs rest
 
+-- Bytes are cut at a place: up to it they are whole frames.
+pub record CutAt (bytes : List ℕ) (at : ℕ) : Type 0 where
+  pub frames : List (List ℕ)
+  pub begins : Begins bytes frames (drop at bytes)
+
 -- An input that is read in pieces, with what is left of one kept before the next, is cut into the same frames as the whole of it;
 -- and up to where no whole frame is left, there is one way to cut it.
 pub record InPieces : Type 0 where

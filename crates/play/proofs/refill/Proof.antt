@@ -40,12 +40,12 @@ returns c =
     let a = k .before .before .before .args in
     let rest : ℕ = a .filled - a .at in
     let kept : List ℕ = part (a .at) rest (now (a .input)) in
-    let l : length kept ≡ rest = length-window (a .at) rest (now (a .input)) (omega (arith, k .before .before .before .pre)) in
+    let l : length kept ≡ rest = length-window (a .at) rest (now (a .input)) (omega (arith, k .before .before .before .pre .0)) in
     let e : take rest (k .keep .last .0) ≡ kept =
     ap (take rest) (k .keep .ensures .1 ∙ splice-front (now (a .input)) kept) ∙ take-at kept (drop (length kept) (now (a .input))) rest l in
     let same : k .keep .result ≡ rest = k .keep .ensures .0 in
     let r = c .before .before .read in
-    let within : k .keep .result ≤ length (k .keep .last .0) = omega (arith, k .keep .kept .0, k .before .before .before .pre) in (
+    let within : k .keep .result ≤ length (k .keep .last .0) = omega (arith, k .keep .kept .0, k .before .before .before .pre .0) in (
       (omega arith, omega (arith, r .ensures, k .keep .kept .0, within)),
       ap (λ (n : ℕ). take n (putMid (k .keep .result) (length (k .keep .last .0) - k .keep .result) (k .keep .last .0) (r .last .0))) (sym same)
           ∙ take-put (k .keep .result) (length (k .keep .last .0) - k .keep .result) (k .keep .last .0) (r .last .0) within

@@ -2,15 +2,19 @@
 -- Assumes nothing.
 use Prim.Native.Nat.{ℕ, _+_, _-_, _≤_, _<_}
 use native.Mathlib.Omega.{arith}
-use mathlib.Core.Path.{_≡_, sym, ap, subst}
+use mathlib.Core.Path.{_≡_, sym, ap, subst, _∙_}
 use mathlib.Core.Bool.{Bool, true}
 use mathlib.Core.Logic.{⊎-elim}
 use mathlib.Core.List.{List}
+use mathlib.Core.Option.{none}
 use lib.ListN.{length, take, drop, length-drop}
-use lib.Seq.{length-take-le}
+use lib.Seq.{length-take-le, drop-drop}
 use borrow.Author.Needs.{needs}
 use Rattle.buffers.proofs.Splice.{length-window}
-use Rattle.session.specs.Session.{Session, Stops}
+use Rattle.rules.proofs.Lists.{drop-take}
+use Rattle.transcript.specs.Input.{firstFrame, Begins, CutAt}
+use Rattle.transcript.proofs.Begins.{cut-none, cut-more}
+use Rattle.session.specs.Session.{framesOf, Session, Stops}
 use Rattle.session.proofs.Made.{session-none, session-append}
 use Rattle.play.proofs.run.Statement.{statement}
 use Rattle.play.proofs.run.Tie as tie
@@ -19,6 +23,7 @@ abbrev Inv-loop : tie.InvT-loop
 Inv-loop input₀ store₀ answer₀ out₀ state₀ ordinal₀ at₀ filled₀ turns₀ input store answer out state ordinal at filled turns =
     Session state₀ 1 store₀ answer₀ state ordinal store answer × (at ≤ filled) × (filled ≤ length input)
     × (length input ≡ length input₀) × (length store ≡ length store₀) × (length answer ≡ length answer₀) × (length out ≡ length out₀)
+    × CutAt (take filled input) at
 
 abbrev μ-loop : tie.MeasureT-loop
 μ-loop input₀ store₀ answer₀ out₀ state₀ ordinal₀ at₀ filled₀ turns₀ input store answer out state ordinal at filled turns = 18446744073709551615 - turns
@@ -37,12 +42,28 @@ module _ (c : tie.After-advance Inv-loop μ-loop) where
   passed : loop .loop .at + c .advance .result .at ≤ loop .loop .filled
   passed = omega (arith, given-length, c .advance .ensures .made .within, loop .loop .inv .1)
 
-  -- what waits for more is short
-  short : c .advance .result .waiting ≡ true → loop .loop .filled ≤ loop .loop .at + c .advance .result .at + 65_536
-  short w =
+  -- all bytes since the last read
+  abbrev bytes : List ℕ
+  bytes = take (loop .loop .filled) (loop .loop .input)
+
+  given-is : given ≡ drop (loop .loop .at) bytes
+  given-is = sym (drop-take (loop .loop .at) (loop .loop .filled) (loop .loop .input))
+
+  cut : CutAt bytes (loop .loop .at + c .advance .result .at)
+  cut =
+      let m = c .advance .ensures .made in
+      cut-more (c .advance .result .at) (framesOf (m .session .steps)) (loop .loop .inv .7)
+      (subst (λ (g : List ℕ). Begins g (framesOf (m .session .steps)) (drop (c .advance .result .at) g)) given-is (m .frames))
+
+  -- what waits for more holds no whole frame, and is short
+  waits : c .advance .result .waiting ≡ true → (firstFrame (drop (loop .loop .at + c .advance .result .at) bytes) ≡ none)
+      × (loop .loop .filled ≤ loop .loop .at + c .advance .result .at + 65_536)
+  waits w =
       let rest : List ℕ = drop (c .advance .result .at) given in
-      let s = subst (λ (b : Bool). Stops b rest (c .advance .result .ordinal) (c .advance .result .end) (length (loop .loop .out))) w (c .advance .ensures .stops) in
-      omega (arith, s .1, length-drop (c .advance .result .at) given, given-length)
+      let s = subst (λ (b : Bool). Stops b rest (c .advance .result .ordinal) (c .advance .result .end) (length (loop .loop .out))) w (c .advance .ensures .stops) in (
+        ap firstFrame (sym (ap (drop (c .advance .result .at)) given-is ∙ drop-drop (c .advance .result .at) (loop .loop .at) bytes)) ∙ s .0,
+        omega (arith, s .1, length-drop (c .advance .result .at) given, given-length),
+      )
 
 -- where the input ends
 module _ (c : tie.Then3 Inv-loop μ-loop) where
@@ -53,7 +74,7 @@ module _ (c : tie.Then3 Inv-loop μ-loop) where
   held = loop last
 
 loop-holds : tie.Need-loop-holds Inv-loop μ-loop
-loop-holds c = (session-none _ _ _ _, search needs, search needs, search needs, search needs, search needs, search needs)
+loop-holds c = (session-none _ _ _ _, search needs, search needs, search needs, search needs, search needs, search needs, cut-none _)
 
 sub-advance : tie.Need-sub-advance Inv-loop μ-loop
 sub-advance c = search needs
@@ -93,7 +114,8 @@ refill-requires : tie.Need-refill-requires Inv-loop μ-loop
 refill-requires c κs =
     let d = c .before .before .before .before .before .before .before .before .before .before .before .before .before in
     let i = loop d .loop .inv in
-    (passed d, i .2, omega (arith, short d (c .before .if2 .taken), i .3, loop d .before .before .before .before .before .pre .0))
+    let w = waits d (c .before .if2 .taken) in
+    ((omega (arith, passed d), i .2, omega (arith, w .1, i .3, loop d .before .before .before .before .before .pre .0)), (cut d, w .0))
 
 add-turns : tie.Need-add-turns Inv-loop μ-loop
 add-turns c = search needs
@@ -109,6 +131,15 @@ loop-again c =
     ⊎-elim
     (λ w. (omega (arith, w .7), omega (arith, w .8, w .2 .ensures .0 .1, w .2 .kept .0, ap length (w .6)), omega (arith, w .2 .kept .0, ap length (w .6))))
     (λ w. (omega (arith, w .2, w .3, passed d), omega (arith, w .3, ap length (w .1), i .2), ap length (w .1)))
+    (c .if2 .came) in
+    let q : CutAt (take (c .if2 .filled) (c .if2 .input)) (c .if2 .at) =
+    ⊎-elim
+    (λ w. subst (CutAt (take (c .if2 .filled) (c .if2 .input))) (sym (w .7)) (cut-none _))
+    (λ w.
+    let e₁ : c .if2 .input ≡ loop d .loop .input = w .1 in
+    let e₂ : c .if2 .at ≡ loop d .loop .at + d .advance .result .at = w .2 in
+    let e₃ : c .if2 .filled ≡ loop d .loop .filled = w .3 in
+    rw (e₁, e₂, e₃) (cut d))
     (c .if2 .came) in (
       session-append (i .0) (d .advance .ensures .made .session),
       p .0,
@@ -117,6 +148,7 @@ loop-again c =
       omega (arith, i .4, d .advance .kept .1 .1 .1 .0),
       omega (arith, i .5, d .advance .kept .1 .1 .1 .1 .0),
       omega (arith, i .6, d .advance .kept .1 .1 .1 .1 .1 .0),
+      q,
     )
 
 same-length : tie.Need-same-length Inv-loop μ-loop
