@@ -8,7 +8,7 @@ use mathlib.Core.Logic.{_⊎_, ⊎-elim}
 use mathlib.Core.List.{List, [], _∷_}
 use lib.Dec.{leb, eqb}
 use borrow.Author.Tests.{le-leb, lt-leb, eq-eqb, ne-eqb}
-use Rattle.rules.specs.Bytes.{if_then_else_, allZero}
+use Rattle.rules.specs.Bytes.{allZero}
 use Rattle.rules.specs.Row.{Field}
 use Rattle.rules.specs.Value.{value, isValue, fits}
 use Rattle.rules.proofs.Tests.{clash}
@@ -99,57 +99,41 @@ module _ (f : Field) (s : List ℕ) where
       | no n ↦ rw (ne-eqb (kind s) 0 n)
     ]
 
-  -- ---- 18, by the field's kind
+  -- ---- an omitted slot: 18 and 19 ask nothing
 
-  pub first-alone : (f .kind ≡ 3 → ⊥) → (f .kind ≡ 4 → ⊥)
-      → (if eqb (kind s) 0 then true else fits (f .width) (value1 s)) ≡ slotFits f s
+  pub omitted-fits : kind s ≡ 0 → true ≡ slotFits f s
   unfolding slotFits
-  first-alone a b = rw (ne-eqb (f .kind) 3 a, ne-eqb (f .kind) 4 b, and-true (fits (f .width) (value1 s)))
+  omitted-fits o = rw (eq-eqb (kind s) 0 o)
 
-  -- of both values
-  module _ (k : (f .kind ≡ 3) ⊎ (f .kind ≡ 4)) where
-    both-values : ((if eqb (kind s) 0 then true else fits (f .width) (value1 s)) && (if eqb (kind s) 0 then true else fits (f .width) (value2 s)))
-        ≡ slotFits f s
-    unfolding slotFits
-    both-values = ⊎-elim (λ e. rw e (go (eqb (kind s) 0))) (λ e. rw e (go (eqb (kind s) 0))) k
-      where
-        go : (o : Bool) → ((if o then true else fits (f .width) (value1 s)) && (if o then true else fits (f .width) (value2 s)))
-            ≡ (if o then true else fits (f .width) (value1 s) && fits (f .width) (value2 s))
-        go true = refl
-        go false = refl
-
-    -- p says whether the first fits
-    module _ {p : Bool} (e : p ≡ (if eqb (kind s) 0 then true else fits (f .width) (value1 s))) where
-      pub first-over : p ≡ false → p ≡ slotFits f s
-      first-over v = v ∙ (rw (sym e ∙ v) at both-values)
-
-      pub second-too : p ≡ true → (if eqb (kind s) 0 then true else fits (f .width) (value2 s)) ≡ slotFits f s
-      second-too v = rw (sym e ∙ v) at both-values
-
-  -- ---- 19, by the field's kind
-
-  pub no-rule : (f .kind ≡ 2 → ⊥) → (f .kind ≡ 3 → ⊥) → (f .kind ≡ 4 → ⊥) → true ≡ slotRule f s
-  unfolding slotRule
-  no-rule a b d = rw (ne-eqb (f .kind) 2 a, ne-eqb (f .kind) 3 b, ne-eqb (f .kind) 4 d) (go (eqb (kind s) 0))
-    where
-      go : (o : Bool) → true ≡ (if o then true else true)
-      go true = refl
-      go false = refl
-
-  pub omitted-passes : kind s ≡ 0 → eqb (kind s) 0 ≡ slotRule f s
+  pub omitted-passes : kind s ≡ 0 → true ≡ slotRule f s
   unfolding slotRule
   omitted-passes o = rw (eq-eqb (kind s) 0 o)
 
-  -- of the numbers of the values of a present slot
-  module _ (n : kind s ≡ 0 → ⊥) (x y : ℕ) (first : x ≡ value (value1 s)) (second : y ≡ value (value2 s)) where
-    pub by-lpm : f .kind ≡ 2 → lpmRule (f .width) x y ≡ slotRule f s
-    unfolding slotRule
-    by-lpm k = rw (ne-eqb (kind s) 0 n, k, first, second)
+  -- ---- any other slot, by the field's kind
 
-    pub by-ternary : f .kind ≡ 3 → ternaryRule x y ≡ slotRule f s
-    unfolding slotRule
-    by-ternary k = rw (ne-eqb (kind s) 0 n, k, first, second)
+  module _ (n : kind s ≡ 0 → ⊥) where
+    pub first-alone : (f .kind ≡ 3 → ⊥) → (f .kind ≡ 4 → ⊥) → fits (f .width) (value1 s) ≡ slotFits f s
+    unfolding slotFits
+    first-alone a b = rw (ne-eqb (kind s) 0 n, ne-eqb (f .kind) 3 a, ne-eqb (f .kind) 4 b, and-true (fits (f .width) (value1 s)))
 
-    pub by-range : f .kind ≡ 4 → rangeRule (f .width) x y ≡ slotRule f s
+    pub second-too : (f .kind ≡ 3) ⊎ (f .kind ≡ 4) → (fits (f .width) (value1 s) && fits (f .width) (value2 s)) ≡ slotFits f s
+    unfolding slotFits
+    second-too k = rw (ne-eqb (kind s) 0 n) (⊎-elim (λ e. rw e) (λ e. rw e) k)
+
+    pub no-rule : (f .kind ≡ 2 → ⊥) → (f .kind ≡ 3 → ⊥) → (f .kind ≡ 4 → ⊥) → true ≡ slotRule f s
     unfolding slotRule
-    by-range k = rw (ne-eqb (kind s) 0 n, k, first, second)
+    no-rule a b d = rw (ne-eqb (kind s) 0 n, ne-eqb (f .kind) 2 a, ne-eqb (f .kind) 3 b, ne-eqb (f .kind) 4 d)
+
+    -- of the numbers of its values
+    module _ (x y : ℕ) (first : x ≡ value (value1 s)) (second : y ≡ value (value2 s)) where
+      pub by-lpm : f .kind ≡ 2 → lpmRule (f .width) x y ≡ slotRule f s
+      unfolding slotRule
+      by-lpm k = rw (ne-eqb (kind s) 0 n, k, first, second)
+
+      pub by-ternary : f .kind ≡ 3 → ternaryRule x y ≡ slotRule f s
+      unfolding slotRule
+      by-ternary k = rw (ne-eqb (kind s) 0 n, k, first, second)
+
+      pub by-range : f .kind ≡ 4 → rangeRule (f .width) x y ≡ slotRule f s
+      unfolding slotRule
+      by-range k = rw (ne-eqb (kind s) 0 n, k, first, second)

@@ -1,11 +1,11 @@
 // One slot of a key against its field: 17, 18 and 19, each by the field's kind (document 01, "Configuration and entries").
 ghost use mathlib.Core.Path.{_≡_};
-ghost use mathlib.Core.Bool.{true, _&&_};
+ghost use mathlib.Core.Bool.{_&&_};
 ghost use lib.ListN.{length};
 ghost use lib.Dec.{eqb};
-ghost use Rattle.rules.specs.Bytes.{if_then_else_, allZero};
+ghost use Rattle.rules.specs.Bytes.{allZero};
 ghost use Rattle.rules.specs.Value.{value, isValue, fits as below};
-ghost use Rattle.rules.specs.Key.{omitted as none, kind as kindOf, value1, value2, slotFormed, slotFits, lpmRule, ternaryRule, rangeRule, slotRule};
+ghost use Rattle.rules.specs.Key.{kind as kindOf, value1, value2, slotFormed, slotFits, lpmRule, ternaryRule, rangeRule, slotRule};
 ghost use Rattle.numbers.specs.Whole.{wholeOf};
 ghost use Rattle.rows.specs.Meaning.{fieldOf};
 use numbers::Number;
@@ -67,20 +67,20 @@ pub fn slot_formed(field: Field, slot: &[u8]) -> bool
     }
 }
 
-// The first value of a slot that is not omitted is below 2 to the width.
+// The first value is below 2 to the width.
 fn first_fits(width: u8, slot: &[u8]) -> bool
     requires { ⌜ length (now slot) ≡ 35 ⌝ }
-    ensures { λ r. ⌜ r ≡ (if eqb (kindOf (now (slot .entry))) none then true else below width (value1 (now (slot .entry)))) ⌝ }
+    ensures { λ r. ⌜ r ≡ below width (value1 (now (slot .entry))) ⌝ }
 {
-    slot[0] == 0 || values::fits(&slot[1..18], width)
+    values::fits(&slot[1..18], width)
 }
 
-// So is the second.
-fn second_fits(width: u8, slot: &[u8]) -> bool
+// Both values are.
+fn both_fit(width: u8, slot: &[u8]) -> bool
     requires { ⌜ length (now slot) ≡ 35 ⌝ }
-    ensures { λ r. ⌜ r ≡ (if eqb (kindOf (now (slot .entry))) none then true else below width (value2 (now (slot .entry)))) ⌝ }
+    ensures { λ r. ⌜ r ≡ (below width (value1 (now (slot .entry))) && below width (value2 (now (slot .entry)))) ⌝ }
 {
-    slot[0] == 0 || values::fits(&slot[18..35], width)
+    first_fits(width, slot) && values::fits(&slot[18..35], width)
 }
 
 // 18. Every value but a prefix length is below 2 to the field's width.
@@ -88,24 +88,29 @@ pub fn slot_fits(field: Field, slot: &[u8]) -> bool
     requires { ⌜ length (now slot) ≡ 35 ⌝ }
     ensures { λ r. ⌜ r ≡ slotFits (fieldOf field) (now (slot .entry)) ⌝ }
 {
+    let own = slot[0];
     let kind = field.kind;
     let width = field.width;
-    let first = first_fits(width, slot);
-    match kind {
-        // No field is of the kind that omits a slot.
-        0 => first,
-        // Exact: one value.
-        1 => first,
-        // Lpm: the second is a prefix length.
-        2 => first,
-        // Ternary: the second is a mask.
-        3 => first && second_fits(width, slot),
-        // Range: two bounds.
-        4 => first && second_fits(width, slot),
-        // Optional: one value.
-        5 => first,
-        // Unknown: no field is, by 14.
-        6..=255 => first,
+    match own {
+        // Omitted: no value.
+        0 => true,
+        // Present: by the field's kind.
+        1..=255 => match kind {
+            // No field is of the kind that omits a slot.
+            0 => first_fits(width, slot),
+            // Exact: one value.
+            1 => first_fits(width, slot),
+            // Lpm: the second is a prefix length.
+            2 => first_fits(width, slot),
+            // Ternary: the second is a mask.
+            3 => both_fit(width, slot),
+            // Range: two bounds.
+            4 => both_fit(width, slot),
+            // Optional: one value.
+            5 => first_fits(width, slot),
+            // Unknown: no field is, by 14.
+            6..=255 => first_fits(width, slot),
+        },
     }
 }
 
@@ -167,27 +172,33 @@ fn second(slot: &[u8]) -> Number
     Number::of_value(&slot[18..35])
 }
 
-// 19. The rules of the kinds, of a slot that is present.
+// 19. The rules of the kinds.
 pub fn slot_rule(field: Field, slot: &[u8]) -> bool
     requires { ⌜ length (now slot) ≡ 35 ⌝ }
     ensures { λ r. ⌜ r ≡ slotRule (fieldOf field) (now (slot .entry)) ⌝ }
 {
+    let own = slot[0];
     let kind = field.kind;
     let width = field.width;
-    match kind {
-        // No field is of the kind that omits a slot.
+    match own {
+        // Omitted: no rule.
         0 => true,
-        // Exact: no rule more.
-        1 => true,
-        // Lpm.
-        2 => slot[0] == 0 || lpm_rule(width, first(slot), second(slot)),
-        // Ternary.
-        3 => slot[0] == 0 || ternary_rule(first(slot), second(slot)),
-        // Range.
-        4 => slot[0] == 0 || range_rule(width, first(slot), second(slot)),
-        // Optional: no rule more.
-        5 => true,
-        // Unknown: no field is, by 14.
-        6..=255 => true,
+        // Present: by the field's kind.
+        1..=255 => match kind {
+            // No field is of the kind that omits a slot.
+            0 => true,
+            // Exact: no rule more.
+            1 => true,
+            // Lpm: a prefix length of 1 to the width, and no bit below the prefix.
+            2 => lpm_rule(width, first(slot), second(slot)),
+            // Ternary: a mask that is not 0, and no bit outside it.
+            3 => ternary_rule(first(slot), second(slot)),
+            // Range: bounds in order, and not the whole range.
+            4 => range_rule(width, first(slot), second(slot)),
+            // Optional: no rule more.
+            5 => true,
+            // Unknown: no field is, by 14.
+            6..=255 => true,
+        },
     }
 }

@@ -1,25 +1,30 @@
--- Right because each arm is what `slotRule` comes to for a field of its kind. Assumes nothing.
+-- Right because each arm is what `slotRule` comes to for an omitted slot, or for a field of its kind. Assumes nothing.
 use Prim.Native.Nat.{ℕ}
 use native.Mathlib.Omega.{arith}
-use mathlib.Core.Path.{_∙_}
+use mathlib.Core.Path.{_≡_, _∙_}
 use mathlib.Core.List.{List}
 use denote.Ref.{now}
 use Rattle.rules.specs.Row.{Field}
+use Rattle.rules.specs.Key.{kind}
 use Rattle.rows.specs.Meaning.{fieldOf}
 use Rattle.numbers.specs.Whole.{wholeOf}
-use Rattle.slots.proofs.Slots.{no-rule, omitted-passes, by-lpm, by-ternary, by-range}
+use Rattle.slots.proofs.Slots.{omitted-passes, no-rule, by-lpm, by-ternary, by-range}
 use borrow.Author.Needs.{needs}
 use Rattle.slots.proofs.slot_rule.Statement.{statement}
 use Rattle.slots.proofs.slot_rule.Tie as tie
 
-abbrev F : tie.Start → Field
-F t = fieldOf (t .args .field)
+-- where the slot is known to be present
+abbrev F : tie.At-match-rest → Field
+F p = fieldOf (p .before .before .before .args .field)
 
-abbrev S : tie.Start → List ℕ
-S t = now (t .args .slot)
+abbrev S : tie.At-match-rest → List ℕ
+S p = now (p .before .before .before .args .slot)
 
-shared-slice-read-if1 : tie.Need-shared-slice-read-if1
-shared-slice-read-if1 c = search needs
+present : (p : tie.At-match-rest) → kind (S p) ≡ 0 → ⊥
+present p = p .match .rest .1
+
+shared-slice-read-own : tie.Need-shared-slice-read-own
+shared-slice-read-own c = search needs
 
 first-requires : tie.Need-first-requires
 first-requires c κs = search needs
@@ -30,9 +35,6 @@ second-requires c κs = search needs
 lpm-rule-requires : tie.Need-lpm-rule-requires
 lpm-rule-requires c κs = search needs
 
-shared-slice-read-if2 : tie.Need-shared-slice-read-if2
-shared-slice-read-if2 c = search needs
-
 first-requires-2 : tie.Need-first-requires-2
 first-requires-2 c κs = search needs
 
@@ -41,9 +43,6 @@ second-requires-2 c κs = search needs
 
 ternary-rule-requires : tie.Need-ternary-rule-requires
 ternary-rule-requires c κs = search needs
-
-shared-slice-read-if3 : tie.Need-shared-slice-read-if3
-shared-slice-read-if3 c = search needs
 
 first-requires-3 : tie.Need-first-requires-3
 first-requires-3 c κs = search needs
@@ -56,76 +55,67 @@ range-rule-requires c κs = search needs
 
 returns : tie.Need-returns
 returns c =
-    let t = c .before .before in
-    no-rule (F t) (S t) (λ e. omega arith) (λ e. omega arith) (λ e. omega arith)
+    let a = c .before .before .before .args in
+    omitted-passes (fieldOf (a .field)) (now (a .slot)) (c .match .keys1)
 
 returns-2 : tie.Need-returns-2
 returns-2 c =
-    let t = c .before .before in
-    no-rule (F t) (S t) (λ e. omega arith) (λ e. omega arith) (λ e. omega arith)
+    let p = c .before in
+    no-rule (F p) (S p) (present p) (λ e. omega arith) (λ e. omega arith) (λ e. omega arith)
 
 returns-3 : tie.Need-returns-3
 returns-3 c =
-    let t = c .before .before .before .before in
-    omitted-passes (F t) (S t) (c .if1 .taken)
+    let p = c .before in
+    no-rule (F p) (S p) (present p) (λ e. omega arith) (λ e. omega arith) (λ e. omega arith)
 
 returns-4 : tie.Need-returns-4
 returns-4 c =
-    let d = c .before .before in
-    let t = d .before .before .before .before .before in
-    let q = d .first in
+    let q = c .before .before .first in
     let r = c .before .second in
-    c .lpm-rule .ensures ∙ by-lpm (F t) (S t) (d .before .if1 .left) (wholeOf (q .result)) (wholeOf (r .result)) (q .ensures) (r .ensures) (d .before .before .before .match .keys3)
+    let m = c .before .before .before in
+    let p = m .before in
+    c .lpm-rule .ensures
+    ∙ by-lpm (F p) (S p) (present p) (wholeOf (q .result)) (wholeOf (r .result)) (q .ensures) (r .ensures) (m .match2 .keys3)
 
 returns-5 : tie.Need-returns-5
 returns-5 c =
-    let t = c .before .before .before .before in
-    omitted-passes (F t) (S t) (c .if2 .taken)
+    let q = c .before .before .first2 in
+    let r = c .before .second2 in
+    let m = c .before .before .before in
+    let p = m .before in
+    c .ternary-rule .ensures
+    ∙ by-ternary (F p) (S p) (present p) (wholeOf (q .result)) (wholeOf (r .result)) (q .ensures) (r .ensures) (m .match2 .keys4)
 
 returns-6 : tie.Need-returns-6
 returns-6 c =
-    let d = c .before .before in
-    let t = d .before .before .before .before .before in
-    let q = d .first2 in
-    let r = c .before .second2 in
-    c .ternary-rule .ensures ∙ by-ternary (F t) (S t) (d .before .if2 .left) (wholeOf (q .result)) (wholeOf (r .result)) (q .ensures) (r .ensures) (d .before .before .before .match .keys4)
+    let q = c .before .before .first3 in
+    let r = c .before .second3 in
+    let m = c .before .before .before in
+    let p = m .before in
+    c .range-rule .ensures
+    ∙ by-range (F p) (S p) (present p) (wholeOf (q .result)) (wholeOf (r .result)) (q .ensures) (r .ensures) (m .match2 .keys5)
 
 returns-7 : tie.Need-returns-7
 returns-7 c =
-    let t = c .before .before .before .before in
-    omitted-passes (F t) (S t) (c .if3 .taken)
+    let p = c .before in
+    no-rule (F p) (S p) (present p) (λ e. omega arith) (λ e. omega arith) (λ e. omega arith)
 
 returns-8 : tie.Need-returns-8
 returns-8 c =
-    let d = c .before .before in
-    let t = d .before .before .before .before .before in
-    let q = d .first3 in
-    let r = c .before .second3 in
-    c .range-rule .ensures ∙ by-range (F t) (S t) (d .before .if3 .left) (wholeOf (q .result)) (wholeOf (r .result)) (q .ensures) (r .ensures) (d .before .before .before .match .keys5)
-
-returns-9 : tie.Need-returns-9
-returns-9 c =
-    let t = c .before .before in
-    no-rule (F t) (S t) (λ e. omega arith) (λ e. omega arith) (λ e. omega arith)
-
-returns-10 : tie.Need-returns-10
-returns-10 c =
-    let t = c .before .before in
-    no-rule (F t) (S t) (λ e. omega arith) (λ e. omega arith) (λ e. omega arith)
+    let p = c .before in
+    no-rule (F p) (S p) (present p) (λ e. omega arith) (λ e. omega arith) (λ e. omega arith)
 
 pub slot-rule-spec : {M : Type 1} → statement M
 slot-rule-spec =
     tie.close
     (tie.spec
-    shared-slice-read-if1
+    shared-slice-read-own
     first-requires
     second-requires
     lpm-rule-requires
-    shared-slice-read-if2
     first-requires-2
     second-requires-2
     ternary-rule-requires
-    shared-slice-read-if3
     first-requires-3
     second-requires-3
     range-rule-requires
@@ -136,6 +126,4 @@ slot-rule-spec =
     returns-5
     returns-6
     returns-7
-    returns-8
-    returns-9
-    returns-10)
+    returns-8)
