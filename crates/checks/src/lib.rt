@@ -91,7 +91,7 @@ fn needs_priority(kind: u8) -> bool
     ensures { λ r. ⌜ r ≡ between 3 5 kind ⌝ }
 {
     match kind {
-        // Omitted: a slot may be, no field is.
+        // Omitted: a slot may be, no field is (14).
         0 => false,
         // Exact.
         1 => false,
@@ -103,7 +103,7 @@ fn needs_priority(kind: u8) -> bool
         4 => true,
         // Optional.
         5 => true,
-        // Unknown.
+        // Unknown: no field is (14).
         6..=255 => false,
     }
 }

@@ -11,8 +11,8 @@ use borrow.Author.Tests.{le-leb, lt-leb, eq-eqb, ne-eqb}
 use Rattle.rules.specs.Bytes.{allZero}
 use Rattle.rules.specs.Row.{Field}
 use Rattle.rules.specs.Value.{value, isValue, fits}
-use Rattle.rules.proofs.Tests.{clash}
 use Rattle.rules.specs.Key.{kind, value1, value2, slotFormed, slotFits, slotRule, prefixOnly, bitsWithin, lpmRule, ternaryRule, rangeRule}
+use Rattle.rules.proofs.Tests.{clash}
 
 -- ---- the rules of the kinds, over numbers
 

@@ -50,7 +50,7 @@ pub fn slot_formed(field: Field, slot: &[u8]) -> bool
 {
     let kind = field.kind;
     match kind {
-        // No field is of the kind that omits a slot.
+        // Omitted: a slot may be, no field is (14).
         0 => omitted(slot),
         // Exact: present, with one value.
         1 => one_value(kind, slot),
@@ -62,7 +62,7 @@ pub fn slot_formed(field: Field, slot: &[u8]) -> bool
         4 => omitted(slot) || two_values(kind, slot),
         // Optional: omitted, or one value.
         5 => omitted(slot) || one_value(kind, slot),
-        // Unknown: no field is, by 14.
+        // Unknown: no field is (14).
         6..=255 => omitted(slot) || two_values(kind, slot),
     }
 }
@@ -96,7 +96,7 @@ pub fn slot_fits(field: Field, slot: &[u8]) -> bool
         0 => true,
         // Present: by the field's kind.
         1..=255 => match kind {
-            // No field is of the kind that omits a slot.
+            // Omitted: a slot may be, no field is (14).
             0 => first_fits(width, slot),
             // Exact: one value.
             1 => first_fits(width, slot),
@@ -108,7 +108,7 @@ pub fn slot_fits(field: Field, slot: &[u8]) -> bool
             4 => both_fit(width, slot),
             // Optional: one value.
             5 => first_fits(width, slot),
-            // Unknown: no field is, by 14.
+            // Unknown: no field is (14).
             6..=255 => first_fits(width, slot),
         },
     }
@@ -185,7 +185,7 @@ pub fn slot_rule(field: Field, slot: &[u8]) -> bool
         0 => true,
         // Present: by the field's kind.
         1..=255 => match kind {
-            // No field is of the kind that omits a slot.
+            // Omitted: a slot may be, no field is (14).
             0 => true,
             // Exact: no rule more.
             1 => true,
@@ -197,7 +197,7 @@ pub fn slot_rule(field: Field, slot: &[u8]) -> bool
             4 => range_rule(width, first(slot), second(slot)),
             // Optional: no rule more.
             5 => true,
-            // Unknown: no field is, by 14.
+            // Unknown: no field is (14).
             6..=255 => true,
         },
     }
