@@ -90,8 +90,9 @@ second), those that differ *late* in the last byte. *Four slots* is a table of f
 bits (exact, lpm, ternary, range) and four parameters of 128 bits, where keys differ in the last \
 byte of the fourth slot. Elsewhere keys differ late, or there are none.
 - Nanoseconds are for one call, also where the call has 64 updates.
-- How the linker lays the code out sways single cases of the second from one build to the next: by up \
-to a half where CLOSE and ARBITRATE tell many streams, elsewhere by a few percent.
+- How the linker lays the code out sways single cases from one build to the next. Of the second: by up \
+to a half where CLOSE and ARBITRATE notify many streams, elsewhere by a few percent. Of the proved \
+agent: the search for a key by up to two fifths and a DELETE by up to a quarter, by where their loops lie.
 
 Not compared: building frames and reading answers, transport, the first call with cold caches, \
 several threads, memory, and agents other than these two.
