@@ -196,7 +196,7 @@ module _ (a : Agent) (h : Head) (atomicity : ℕ) where
       head-told true p = rw p
       head-told false p = rw p
 
--- what a kept store is to the functions over it
+-- what the invariant says to the functions over the store
 pub tidy : (a : Agent) (store : List ℕ) → Sound (flat a store) → Tidy (a .count) store
 tidy a store k = record {
   few = omega (arith, k .tables .few, parts-count (a .count) 220 store);

@@ -145,7 +145,7 @@ fn read_reason(here: bool, role: u8, unconfigured: bool) -> u8
     0
 }
 
-// Writes the entries requested for from byte 4 on, and before them the head; the reason. The query stands in 149 bytes, from its table on.
+// Writes the entries asked for from byte 4 on, and before them the head; the reason. The query is in 149 bytes, from its table on.
 fn read(agent: Agent, query: Query, bytes: &[u8], store: &[u8], answer: &mut [u8]) -> u8
     requires { ⌜ (length (now bytes) ≡ 149) × (220 * agent .count ≤ length (now store)) × (57344 ≤ length (now answer)) ⌝ }
     ensures { λ r. ⌜ (Named (queryIn query (now (bytes .entry))) → Handles (memory agent (now (store .entry))) (rules.READ (queryIn query (now (bytes .entry)))) (now (answer .entry)) (result (unchanged agent r) (now (store .entry)) (now (answer .exit)))) ⌝ }

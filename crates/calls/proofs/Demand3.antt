@@ -256,7 +256,7 @@ module _ {A : Type 0} (L : Layout A) where
       let oy : Correct L s (requested m i) n (i .buffer) y = rw l (my s k en) in
       (ox .returned ∙ sym (oy .returned), ox .filled ∙ sym (oy .filled), ox .state, oy .state)
 
-  -- All that is requested of a layout, and of `free` alone: what a memory represents is told by its record and the bytes used.
+  -- All that is asked of a layout, and for `free` alone: the record and the bytes used say what a memory represents.
   pub demand-3-of : FreeBytes L → Demand3 L
   demand-3-of f = record {
     lists = all-lists;

@@ -3,7 +3,7 @@
 -- A list of calls starts from a fresh agent and a store of any length and content. Each call is handed a frame and an answer buffer,
 -- which may be any, and gets the memory as the call before it left it. All that is asked of a call is that it meets the contract of
 -- the function `call` (`Contract`), and the prover checks that the code always does. To read the claim, nothing more has to be known
--- of the contract or of the layout. It is told from the frames and the lengths alone, in the words of the rules: accepted, took
+-- of the contract or of the layout. It is stated from the frames and the lengths alone, in the words of the rules: accepted, took
 -- effect, present, holds, highest. Assumes nothing.
 use mathlib.Core.Path.{_≡_}
 use mathlib.Core.Bool.{true, _&&_}

@@ -89,6 +89,15 @@ module _ (P : Command → Type 0) where
   unfolding commandOf
   call-law room c short read = choose (roomy room (c .buffer)) _ _ (λ h. read) short
 
+-- no frame is refused under 2: that is for buffers
+pub frame-read : (f : List ℕ) → readFrame f ≡ cramped → ⊥
+unfolding configureOf writeOf
+frame-read f =
+    read-law (λ (c : Command). c ≡ cramped → ⊥) f (λ z. let w : _≡_ {A = ℕ} 0 1 = cc in omega arith)
+    (λ h. (λ z. let w : _≡_ {A = ℕ} 0 1 = cc in omega arith, λ z. let w : _≡_ {A = ℕ} 0 1 = cc in omega arith))
+    (λ h z. let w : _≡_ {A = ℕ} 0 1 = cc in omega arith) (λ h z. let w : _≡_ {A = ℕ} 0 1 = cc in omega arith)
+    (λ h z. let w : _≡_ {A = ℕ} 0 1 = cc in omega arith) (λ h z. let w : _≡_ {A = ℕ} 0 1 = cc in omega arith)
+
 stream-fits : (f : List ℕ) → streamFormed f ≡ true → byte 1 f ≤ 31
 unfolding streamFormed
 stream-fits f h = leb-true (byte 1 f) 31 (and-true (eqb (length f) 2) (streamFits f) h .1)

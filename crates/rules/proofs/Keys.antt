@@ -45,7 +45,7 @@ formed-of-key : (row : Row) (e : List ℕ) → 148 ≤ length e → keyFormed ro
 unfolding keyFormed
 formed-of-key row e h = rw (slots-of-key e h)
 
--- two keys that pass 17 by one row, with whatever stands after them
+-- two keys that pass 17 by one row, with whatever follows them
 same-row : (row : Row) (k j : List ℕ) → 148 ≤ length k → 148 ≤ length j → allBytes k ≡ true → allBytes j ≡ true
     → keyFormed row k ≡ true → keyFormed row j ≡ true → (keyNumbers k ≡ keyNumbers j) ↔ (shortKey k ≡ shortKey j)
 same-row row k j h g p q a b =

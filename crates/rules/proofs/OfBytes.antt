@@ -1,5 +1,5 @@
 -- Calls whose frames are bytes leave entries that are bytes: shortening keeps bytes, and nothing is stored but shortest forms of
--- what stood in a frame. Assumes nothing.
+-- what was in a frame. Assumes nothing.
 use Prim.Native.Nat.{ℕ, zero, suc, _+_, _-_, _≤_}
 use mathlib.Core.Path.{_≡_, refl}
 use mathlib.Core.Bool.{Bool, true, false}

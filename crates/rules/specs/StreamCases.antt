@@ -123,8 +123,8 @@ pub record Elections : Type 0 where
       ∷ (arbitrate! 1 (byLong ones128), bytes 0 0 3 (toldLong 1 0 0 ones128 ∷ toldLong 2 0 6 ones128 ∷ toldLong 3 0 6 ones128 ∷ []))
       ∷ (arbitrate! 3 (byLong over64′), refused 8 3)
       ∷ [])
-  -- A backup takes over and then raises its id: all are told, by rising stream. It repeats its id, and is told alone though a
-  -- backup is bound. The backup lowers its id and then gives none, and is told alone.
+  -- A backup takes over and then raises its id: all are notified, by rising stream. It repeats its id, and is notified alone though a
+  -- backup is bound. The backup lowers its id and then gives none, and is notified alone.
   pub changes : InTurn two
       ((arbitrate! 2 (by 0 6), bytes 0 0 2 (told 1 0 6 6 ∷ told 2 0 0 6 ∷ []))
       ∷ (arbitrate! 2 (by 0 7), bytes 0 0 2 (told 1 0 6 7 ∷ told 2 0 0 7 ∷ []))
@@ -134,7 +134,7 @@ pub record Elections : Type 0 where
       ∷ [])
   -- a closing backup notifies nobody
   pub backup-closes : Each two ((close! 2, ok) ∷ [])
-  -- Roles are apart: in another role the same id is no clash, and nobody there is told that the primary of role 0 closed.
+  -- Roles are apart: in another role the same id is no clash, and nobody there is notified that the primary of role 0 closed.
   pub roles : InTurn (two ++ (open! 3 ∷ []))
       ((arbitrate! 3 (by 1 5), bytes 0 0 1 (told 3 1 0 5 ∷ [])) ∷ (close! 1, bytes 0 0 1 (told 2 0 5 5 ∷ [])) ∷ [])
   -- A refused ARBITRATE closes the stream. 5 and 6: another ARBITRATE of it is 4, and it may be opened again.

@@ -3,17 +3,14 @@
 use Prim.Native.Nat.{ℕ, suc, _+_, _-_, _≤_}
 use native.Mathlib.Omega.{arith}
 use mathlib.Core.Path.{_≡_, refl, sym, ap, ap₂, subst, _∙_}
-use mathlib.Core.Bool.{Bool, true, false}
 use mathlib.Core.List.{List, [], _∷_, _++_}
-use lib.Dec.{eqb}
 use lib.ListN.{length, drop, length-append, length-drop}
 use borrow.Author.Tests.{le-leb}
-use Rattle.rules.specs.Bytes.{if_then_else_, byte}
-use Rattle.rules.specs.Frame.{Command, cramped, malformed, OPEN, CLOSE, ARBITRATE, CONFIGURE, WRITE, READ, streamFormed, arbitrateFormed, configureFormed, writeFormed, readFormed, configureOf, writeOf, readFrame}
+use Rattle.rules.specs.Frame.{Command, readFrame}
 use Rattle.rules.specs.Answer.{answerBytes}
 use Rattle.rules.specs.Call.{State, fresh, answer, commandOf, next, reply}
 use Rattle.rules.specs.Sound.{Sound}
-use Rattle.rules.proofs.Formed.{frame-formed}
+use Rattle.rules.proofs.Formed.{frame-read, frame-formed}
 use Rattle.rules.proofs.Sound.{fresh-agent, next-sound}
 use Rattle.rules.proofs.Sizes.{reply-fits}
 use Rattle.rules.proofs.Replies.{written-whole}
@@ -22,34 +19,6 @@ use Rattle.calls.specs.Claim.{Step, Trace}
 use Rattle.transcript.specs.Line.{lineOf, recordSize, lineIn}
 use Rattle.transcript.proofs.Answers.{line-printed}
 use Rattle.session.specs.Session.{framesOf, OneBuffer, lines, linesFrom, PrintsAnswers}
-
--- ---- no frame is refused under 2
-
-abbrev Readable : Command → Type 0
-Readable cramped = ⊥
-Readable malformed = Unit {0}
-Readable (OPEN n) = Unit {0}
-Readable (CLOSE n) = Unit {0}
-Readable (ARBITRATE n h) = Unit {0}
-Readable (CONFIGURE h rows) = Unit {0}
-Readable (WRITE h atomicity us) = Unit {0}
-Readable (READ q) = Unit {0}
-
-either : (b : Bool) (x y : Command) → Readable x → Readable y → Readable (if b then x else y)
-either true x y h k = h
-either false x y h k = k
-
-frame-readable : (f : List ℕ) → Readable (readFrame f)
-unfolding readFrame configureOf writeOf
-frame-readable [] = tt
-frame-readable (c ∷ operands) =
-    let f : List ℕ = c ∷ operands in
-    either (eqb c 0x01) _ _ (either (streamFormed f) _ _ tt tt)
-    (either (eqb c 0x02) _ _ (either (streamFormed f) _ _ tt tt)
-    (either (eqb c 0x03) _ _ (either (arbitrateFormed f) _ _ tt tt)
-    (either (eqb c 0x04) _ _ (either (configureFormed (byte 27 f) f) _ _ tt tt)
-    (either (eqb c 0x05) _ _ (either (writeFormed (byte 28 f) f) _ _ tt tt)
-    (either (eqb c 0x06) _ _ (either (readFormed f) _ _ tt tt) tt)))))
 
 -- ---- one call
 
@@ -68,7 +37,7 @@ module _ {A : Type 0} (L : Layout A) (m : Memory A) (w : Step A) (s : State) (ok
     line-is : (n : ℕ) → lineIn 112_980 n (recordSize f) (w .result .answer) ≡ lineOf n (answer s (readFrame f))
     line-is n =
         ap (lineIn 112_980 n (recordSize f)) (k .filled ∙ ap (λ (b : List ℕ). b ++ drop (length written) (w .input .buffer))
-        (written-whole s (readFrame f) (λ e. subst Readable e (frame-readable f))))
+        (written-whole s (readFrame f) (frame-read f)))
         ∙ line-printed 112_980 n s f (drop (length written) (w .input .buffer)) ok (omega arith)
 
     -- the buffer is as long as it was

@@ -34,7 +34,7 @@ found input f e = go (leb 2 (length input) && leb (2 + int 0 2 input) (length in
         record { head = leb-true _ _ (a .0); within = leb-true _ _ (a .1); bytes = cc }
     go false q e = let z : _≡_ {A = ℕ} 0 1 = cc in absurd (omega arith)
 
--- a frame with its length stands in the input
+-- a frame with its length is in the input
 pub found-length : (input f : List ℕ) → firstFrame input ≡ some f → 2 + length f ≤ length input
 found-length input f e =
     let w = found input f e in

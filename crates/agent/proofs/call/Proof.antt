@@ -1,4 +1,4 @@
--- Right because a command is for one part of the record, and what that part obeys is what was requested. Assumes nothing.
+-- Right because a command is for one part of the record, and what that part leaves is what its command leaves. Assumes nothing.
 use denote.Ref.{now}
 use mathlib.Core.Path.{_≡_, sym, ap, _∙_, subst}
 use mathlib.Core.Bool.{true}
