@@ -13,7 +13,7 @@ use Rattle.rules.specs.Reason.{codeOf, pairs}
 use Rattle.rules.specs.Frame.{Head, Update, Query, Command, cramped, WRITE, READ}
 use Rattle.rules.specs.Answer.{Reply, answerBytes, replyOf}
 use Rattle.rules.specs.Call.{Call, State, fresh, accepted, refusal, plain, answer, commandOf, next, reply, run}
-use Rattle.rules.specs.LookBack.{Past, present, shows, tookEffect, noteUpdates, pairsSeen, someFailed, readSeen, answerSeen, replySeen}
+use Rattle.rules.specs.LookBack.{Past, present, shows, tookEffect, pairsSeen, someFails, readSeen, answerSeen, replySeen}
 use Rattle.rules.specs.Agreement.{commandsOf, replyAfter, pastOf, pairAt}
 use Rattle.rules.specs.Authority.{eventsOf, Gives, Held}
 use Rattle.rules.specs.Sound.{Sound, EveryStored}
@@ -21,7 +21,8 @@ use Rattle.rules.proofs.Formed.{call-formed}
 use Rattle.rules.proofs.Sound.{fresh-agent, next-sound, sound}
 use Rattle.rules.proofs.Sizes.{answer-sized, count-read, write-count}
 use Rattle.rules.proofs.Replies.{written-whole}
-use Rattle.rules.proofs.LookBack.{fresh-shows, agreement, pairs-length}
+use Rattle.rules.proofs.Pairs.{pairs-length}
+use Rattle.rules.proofs.LookBack.{fresh-shows, agreement}
 use Rattle.rules.proofs.Primary.{authority}
 use Rattle.rules.proofs.Presence.{presence}
 use Rattle.calls.specs.Contract.{Memory, Input, Result, callOf, requested, Layout, Represents, Fresh, FreeBytes, Correct, Contract}
@@ -103,11 +104,11 @@ head-length r c n l = omega arith
 write-length : (p : Past) (h : Head) (atomicity : ℕ) (us : List Update) → accepted (shows p) (WRITE h atomicity us) ≡ true
     → length (replySeen p (WRITE h atomicity us) .written) ≡ 4 + 2 * length us
 unfolding replySeen replyOf answerSeen answerBytes
-write-length p h atomicity us e = rw e (go (someFailed p (h .role) us))
+write-length p h atomicity us e = rw e (go (someFails p (h .role) us))
   where
-    go : (b : Bool) → length (replyOf (record { reason = if b then 23 else 0; records = pairsSeen p (h .role) us }) .written) ≡ 4 + 2 * length us
-    go true = head-length 23 (codeOf 23) (length (pairsSeen p (h .role) us)) (concat (pairsSeen p (h .role) us)) ∙ ap (λ (n : ℕ). 4 + n) (pairs-length p (h .role) us)
-    go false = head-length 0 (codeOf 0) (length (pairsSeen p (h .role) us)) (concat (pairsSeen p (h .role) us)) ∙ ap (λ (n : ℕ). 4 + n) (pairs-length p (h .role) us)
+    go : (b : Bool) → length (replyOf (record { reason = if b then 23 else 0; records = pairsSeen p (h .role) atomicity us }) .written) ≡ 4 + 2 * length us
+    go true = head-length 23 (codeOf 23) (length (pairsSeen p (h .role) atomicity us)) (concat (pairsSeen p (h .role) atomicity us)) ∙ ap (λ (n : ℕ). 4 + n) (pairs-length (h .role) p atomicity us)
+    go false = head-length 0 (codeOf 0) (length (pairsSeen p (h .role) atomicity us)) (concat (pairsSeen p (h .role) atomicity us)) ∙ ap (λ (n : ℕ). 4 + n) (pairs-length (h .role) p atomicity us)
 
 module _ {A : Type 0} (L : Layout A) (device : ℕ) (start : Memory A) (f : Fresh L device (start .agent)) (before : List (Step A)) (w : Step A) where
   abbrev room : ℕ
@@ -165,7 +166,7 @@ module _ {A : Type 0} (L : Layout A) (device : ℕ) (start : Memory A) (f : Fres
     takes-effect : (h : Head) (atomicity : ℕ) (earlier : List Update) (u : Update) (later : List Update)
         → c ≡ WRITE h atomicity (earlier ++ u ∷ later)
         → ((length earlier < int 2 2 (w .result .answer)) × (pairAt (length earlier) (w .result .answer) ≡ 0 ∷ 0 ∷ []))
-        ↔ (accepted (shows p) c && tookEffect (noteUpdates p (h .role) earlier) (h .role) u ≡ true)
+        ↔ (accepted (shows p) c && tookEffect p (h .role) atomicity earlier u later ≡ true)
     unfolding replyAfter pastOf
     takes-effect h atomicity earlier u later e = go (accepted (shows p) c) refl
       where
@@ -173,7 +174,7 @@ module _ {A : Type 0} (L : Layout A) (device : ℕ) (start : Memory A) (f : Fres
         us = earlier ++ u ∷ later
 
         T : Bool
-        T = tookEffect (noteUpdates p (h .role) earlier) (h .role) u
+        T = tookEffect p (h .role) atomicity earlier u later
 
         write : (x : Command) → x ≡ WRITE h atomicity us → x ≡ cramped → ⊥
         write x q z = let w : _≡_ {A = ℕ} 0 1 = cc in omega arith
@@ -203,12 +204,10 @@ module _ {A : Type 0} (L : Layout A) (device : ℕ) (start : Memory A) (f : Fres
             (λ z. absurd (let l = z .0 in omega (arith, l)), λ t. absurd (false≢true t))
 
   -- a READ in its stead and after it
-  reads-alike : ((role id : ℕ) → Gives role id c → Held role id (eventsOf room device calls) → ⊥)
-      → (q : Query) (x y : Step A) → requested start (x .input) ≡ READ q → y .input ≡ x .input
-      → Trace L start (before ++ x ∷ []) → Trace L start (before ++ w ∷ y ∷ [])
+  reads-alike : (q : Query) → reply s (READ q) ≡ reply (next s c) (READ q) → (x y : Step A) → requested start (x .input) ≡ READ q
+      → y .input ≡ x .input → Trace L start (before ++ x ∷ []) → Trace L start (before ++ w ∷ y ∷ [])
       → (x .result .reason ≡ y .result .reason) × (x .result .answer ≡ y .result .answer)
-  reads-alike n q x y e i lx ly =
-      let same : reply s (READ q) ≡ reply (next s c) (READ q) = authority room device calls (callOf (w .input)) .unchanged n q in
+  reads-alike q same x y e i lx ly =
       let ax = replied L (arrives L room (fresh device) before (x ∷ []) (starts L device start (before ++ x ∷ []) f lx)) in
       let ay = replied L (onward L (arrives L room (fresh device) before (w ∷ y ∷ []) (starts L device start (before ++ w ∷ y ∷ []) f ly))) in
       let ey : commandOf room (callOf (y .input)) ≡ READ q = ap (λ (j : Input). commandOf room (callOf j)) i ∙ e in
@@ -216,6 +215,13 @@ module _ {A : Type 0} (L : Layout A) (device : ℕ) (start : Memory A) (f : Fres
         ax .0 ∙ ap (λ (t : Reply). t .returned) r ∙ sym (ay .0),
         ax .1 ∙ ap₂ (λ (t : Reply) (j : Input). t .written ++ drop (length (t .written)) (j .buffer)) r (sym i) ∙ sym (ay .1),
       )
+
+  -- after a batch that was rolled back
+  rolls-back : (after : List (Step A)) → Trace L start (before ++ w ∷ after) → (h : Head) (us : List Update) → c ≡ WRITE h 1 us
+      → w .result .reason ≡ 23 → (q : Query) → reply s (READ q) ≡ reply (next s c) (READ q)
+  unfolding replyAfter
+  rolls-back after l h us e r q =
+      agreement room device calls (callOf (w .input)) .rolled-back h us e (sym (replied L (here after l) .0) ∙ r) q
 
 -- ---- the claim
 
@@ -232,7 +238,10 @@ module _ {A : Type 0} (L : Layout A) where
     shortest = λ p. are-shortest (callsOf (p .before));
     updates = λ p. takes-effect L device start f (p .before) (p .call) (p .after) (there p);
     authority = λ p. authority room′ device (callsOf (p .before)) (callOf (p .call .input)) .given;
-    unchanged = λ p. reads-alike L device start f (p .before) (p .call);
+    unchanged = λ p n q. reads-alike L device start f (p .before) (p .call) q
+        (authority room′ device (callsOf (p .before)) (callOf (p .call .input)) .unchanged n q);
+    rolled-back = λ p h us e r q. reads-alike L device start f (p .before) (p .call) q
+        (rolls-back L device start f (p .before) (p .call) (p .after) (there p) h us e r q);
   }
     where
       room′ : ℕ

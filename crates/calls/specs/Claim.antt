@@ -14,7 +14,7 @@ use lib.ListN.{length, drop}
 use Rattle.rules.specs.Bytes.{int, bytesOf, concat}
 use Rattle.rules.specs.Frame.{Head, Update, Query, Command, WRITE, READ}
 use Rattle.rules.specs.Call.{Call, State, accepted, next}
-use Rattle.rules.specs.LookBack.{Past, present, shows, tookEffect, noteUpdates, readSeen, replySeen}
+use Rattle.rules.specs.LookBack.{Past, present, shows, tookEffect, readSeen, replySeen}
 use Rattle.rules.specs.Agreement.{pastOf, pairAt}
 use Rattle.rules.specs.Presence.{Describes}
 use Rattle.rules.specs.Authority.{Event, eventsOf, Gives, Held}
@@ -64,6 +64,13 @@ module _ {A : Type 0} (L : Layout A) (device : ℕ) (start : Memory A) (ws : Lis
   abbrev pub entries : Place ws → List (List ℕ)
   entries p = present (past p .effects)
 
+  -- The call at p *changes no entry*: a READ x made in its stead, and the same READ y made after it, are answered alike.
+  abbrev pub ChangesNoEntry : Place ws → Type 0
+  ChangesNoEntry p =
+      (q : Query) (x y : Step A) → requested start (x .input) ≡ READ q → y .input ≡ x .input
+      → Trace L start (p .before ++ x ∷ []) → Trace L start (p .before ++ p .call ∷ y ∷ [])
+      → (x .result .reason ≡ y .result .reason) × (x .result .answer ≡ y .result .answer)
+
   -- What is claimed of the list: at each place p of it,
   pub record ListClaim : Type 0 where
     -- The call returns and writes what looking back yields, and touches no other byte of the buffer.
@@ -82,22 +89,22 @@ module _ {A : Type 0} (L : Layout A) (device : ℕ) (start : Memory A) (ws : Lis
     pub described : (p : Place ws) → Describes (past p .effects) (entries p)
     pub shortest : (p : Place ws) → EveryStored (entries p)
     -- 3. An update of a WRITE is answered (0, 0), its pair being one of those that the answer counts, exactly when it took effect:
-    -- the WRITE is accepted, and the update is refused under no reason after the updates before it.
+    -- the WRITE is accepted, and the update is refused under no reason after the updates before it (atomicity 0), or no update of
+    -- the batch is, each judged after those before it (atomicity 1).
     pub updates : (p : Place ws) (h : Head) (atomicity : ℕ) (earlier : List Update) (u : Update) (later : List Update)
         → command p ≡ WRITE h atomicity (earlier ++ u ∷ later) →
         let answer = p .call .result .answer in
         ((length earlier < int 2 2 answer) × (pairAt (length earlier) answer ≡ 0 ∷ 0 ∷ []))
-        ↔ (accepted (shows (past p)) (command p) && tookEffect (noteUpdates (past p) (h .role) earlier) (h .role) u ≡ true)
+        ↔ (accepted (shows (past p)) (command p) && tookEffect (past p) (h .role) atomicity earlier u later ≡ true)
     -- 4. An accepted CONFIGURE, and an accepted WRITE, which holds every update that takes effect, gave the highest id accepted
     -- until then for its role, while exactly one open stream of that role, the live primary, held it.
     pub authority : (p : Place ws) (role id : ℕ) → Gives role id (command p)
         → accepted (shows (past p)) (command p) ≡ true → Held role id (events p)
-    -- 5. A call that gives no such id changes no entry: a READ x made in its stead, and the same READ y made after it, are answered
-    -- alike.
-    pub unchanged : (p : Place ws) → ((role id : ℕ) → Gives role id (command p) → Held role id (events p) → ⊥)
-        → (q : Query) (x y : Step A) → requested start (x .input) ≡ READ q → y .input ≡ x .input
-        → Trace L start (p .before ++ x ∷ []) → Trace L start (p .before ++ p .call ∷ y ∷ [])
-        → (x .result .reason ≡ y .result .reason) × (x .result .answer ≡ y .result .answer)
+    -- 5. A call that gives no such id changes no entry.
+    pub unchanged : (p : Place ws) → ((role id : ℕ) → Gives role id (command p) → Held role id (events p) → ⊥) → ChangesNoEntry p
+    -- 6. A WRITE with atomicity 1 that was answered 23 changes no entry.
+    pub rolled-back : (p : Place ws) (h : Head) (us : List Update) → command p ≡ WRITE h 1 us → p .call .result .reason ≡ 23
+        → ChangesNoEntry p
 
 -- ---- the claim
 

@@ -3,6 +3,7 @@ use mathlib.Core.Path.{refl}
 use Rattle.rules.specs.Cases.{Orders, Witnesses}
 use Rattle.rules.proofs.StreamCases.{frames, elections}
 use Rattle.rules.proofs.EntryCases.{entries, configurations, updates}
+use Rattle.rules.proofs.RollbackCases.{rollbacks}
 use Rattle.rules.proofs.Computing.{computing}
 
 pub orders : Orders
@@ -16,6 +17,7 @@ orders = record {
   device = refl;
   configure = refl;
   write = refl;
+  write-atomic = refl;
   read = refl;
   update = refl;
   store-full = (refl, refl, refl);
@@ -26,6 +28,7 @@ witnesses = record {
   frames = frames;
   elections = elections;
   entries = entries;
+  rollbacks = rollbacks;
   orders = orders;
   configurations = configurations;
   updates = updates;

@@ -15,7 +15,7 @@ use Rattle.rules.specs.Frame.{Head, Update, Query, WRITE, READ}
 use Rattle.rules.specs.Row.{Row, known, rowFor, mayWrite}
 use Rattle.rules.specs.Key.{tableOf, slotNumbers, keyFormed, keyFits, keyRules, shortKey, keyNumbers, keyOf, hasKey}
 use Rattle.rules.specs.Entry.{actionFormed, actionFits, passes}
-use Rattle.rules.specs.Update.{Tables, isInsert, stored, held, judge, judgeBy}
+use Rattle.rules.specs.Update.{Tables, isInsert, stored, held, judge, judgeBy, batch}
 use Rattle.rules.specs.Call.{State, fresh, readReason, refusal, accepted, batchOf, commandOf, run}
 use Rattle.rules.specs.LookBack.{Past, nothing, present, shows, reasonAt, noteUpdates, lookBack, readSeen}
 use Rattle.rules.specs.Agreement.{commandsOf, pastOf}
@@ -27,9 +27,9 @@ use Rattle.rules.proofs.Orders.{first-clear, first-avoids, first-passes
 use Rattle.rules.proofs.Formed.{Whole, Formed, call-formed}
 use Rattle.rules.proofs.Shortest.{key-of-key, slots-of-key, priority-of-key, table-of-key, table-of-short-key, key-of-short}
 use Rattle.rules.proofs.Numbers.{keys-same}
-use Rattle.rules.proofs.Tables.{batch-every, batch-sound}
+use Rattle.rules.proofs.Tables.{alone-every, alone-sound}
 use Rattle.rules.proofs.Sound.{ids-distinct, sound}
-use Rattle.rules.proofs.LookBack.{batch-shows, batch-control, shown-seen, fresh-shows}
+use Rattle.rules.proofs.LookBack.{alone-shows, noted-control, shown-seen, fresh-shows}
 use Rattle.rules.proofs.OneKey.{one-key}
 use Rattle.rules.proofs.Members.{in-every, in-some, some-in, in-keep, keep-in}
 use Rattle.rules.proofs.OfBytes.{isByte, entryOfBytes, OfBytes, call-bytes, entries-bytes, AllStored, run-bytes}
@@ -253,7 +253,7 @@ read-formed s q here o a =
     rw here (not-false _ (and-false _ _ (c .1 .1 .1 .1 .1 .0) (eq-eqb (q .only) 1 o)))
 
 pub keys-as-numbers : KeysAsNumbers
-unfolding pastOf fresh shows
+unfolding pastOf fresh shows batch
 keys-as-numbers room device before c bs b = record {
   once = once;
   updates = updates;
@@ -280,12 +280,12 @@ keys-as-numbers room device before c bs b = record {
     noted-sound : (role : ℕ) (us : List Update) → Whole us
         → SoundTables (noteUpdates p role us .control .rows) (shows (noteUpdates p role us) .tables)
     noted-sound role us w =
-        rw (batch-control p role us, ← batch-shows p role us)
-        (batch-sound rows (ids-distinct rows (ok .rows)) role (shows p .tables) us w (ok .tables))
+        rw (noted-control p role us, ← alone-shows p role us)
+        (alone-sound rows (ids-distinct rows (ok .rows)) role (shows p .tables) us w (ok .tables))
 
     noted-bytes : (role : ℕ) (us : List Update) → every entryOfBytes us ≡ true → AllStored (shows (noteUpdates p role us) .tables)
     noted-bytes role us d =
-        subst AllStored (batch-shows p role us) (batch-every allBytes rows role (shows p .tables) us (entries-bytes us d) bytes)
+        subst AllStored (alone-shows p role us) (alone-every allBytes rows role (shows p .tables) us (entries-bytes us d) bytes)
 
     es : List (List ℕ)
     es = shows p .tables .entries
@@ -303,8 +303,8 @@ keys-as-numbers room device before c bs b = record {
         (noted-sound (h .role) earlier (w .0)) (noted-bytes (h .role) earlier (d .0))
 
     entries : (h : Head) (earlier : List Update)
-        → batchOf (run (fresh device) (commandsOf room before)) h earlier .tables ≡ shows (noteUpdates p (h .role) earlier) .tables
-    entries h earlier = ap (λ s. batchOf s h earlier .tables) seen ∙ batch-shows p (h .role) earlier
+        → batchOf (run (fresh device) (commandsOf room before)) h 0 earlier .tables ≡ shows (noteUpdates p (h .role) earlier) .tables
+    entries h earlier = ap (λ s. batchOf s h 0 earlier .tables) seen ∙ alone-shows p (h .role) earlier
 
     reads : (q : Query) → commandOf room c ≡ READ q → q .only ≡ 1 → accepted (shows p) (READ q) ≡ true → (e : List ℕ)
         → In e (readSeen rows q es) ↔ (In e es × (keyNumbers e ≡ keyNumbers (q .key)))

@@ -3,6 +3,7 @@ pub mod Computing
 pub mod Bench
 pub mod StreamCases
 pub mod EntryCases
+pub mod RollbackCases
 pub mod Cases
 pub mod Table
 pub mod Listed
@@ -14,11 +15,13 @@ pub mod Streams
 pub mod Shortest
 pub mod Numbers
 pub mod Checked
+pub mod Rollback
 pub mod Tables
 pub mod Sound
 pub mod Refused
 pub mod Sizes
 pub mod Effects
+pub mod Pairs
 pub mod LookBack
 pub mod Replies
 pub mod OneKey

@@ -1,31 +1,32 @@
 -- The rules and looking back agree: the entries stored are at each call the entries present, and so is every answer.
 -- Assumes nothing.
-use Prim.Native.Nat.{ℕ, _+_, _*_}
+use Prim.Native.Nat.{ℕ, _+_}
 use mathlib.Core.Path.{_≡_, refl, sym, _∙_, ap, ap₂, fun-ext, subst}
 use mathlib.Core.Bool.{Bool, true, false, _&&_, _||_, not, and-true, or-false as or-none}
 use mathlib.Core.Logic.{_⊎_, inl, inr, ⊎-elim, _↔_}
 use mathlib.Core.List.{List, [], _∷_, _++_, map}
+use mathlib.Core.Option.{Option, none, some}
 use native.Mathlib.Omega.{arith}
 use lib.Dec.{eqb}
-use lib.ListN.{length}
-use lib.Seq.{drop-at}
-use borrow.Author.Tests.{eqb-true, eqb-false, eq-eqb, ne-eqb}
-use Rattle.rules.specs.Bytes.{if_then_else_, keep, every, concat, same, bytesOf}
-use Rattle.rules.specs.Reason.{first, codeOf, pairs}
+use lib.ListN.{length, replicate}
+use borrow.Author.Tests.{eqb-true, eq-eqb}
+use Rattle.rules.specs.Bytes.{if_then_else_, keep, every, concat, same}
+use Rattle.rules.specs.Reason.{first}
 use Rattle.rules.specs.Frame.{Head, Update, Query, Command, cramped, malformed, OPEN, CLOSE, ARBITRATE, CONFIGURE, WRITE, READ}
 use Rattle.rules.specs.Streams.{Stream, closed, unbound, bound, orderOf, streamAt, openStream, closeStream, arbitrateReason, arbitrate}
 use Rattle.rules.specs.Row.{Row, mayWrite}
 use Rattle.rules.specs.Key.{keyOf, hasKey, shortKey, tableOf}
 use Rattle.rules.specs.Entry.{shortEntry}
-use Rattle.rules.specs.Update.{Tables, noEntries, inTable, perform, apply, batch}
-use Rattle.rules.specs.Answer.{Answer, answerBytes, replyOf}
-use Rattle.rules.specs.Call.{State, Call, fresh, configureReason, writeReason, readReason, refusal, accepted, nextControl, nextTables, next, plain, pairOf, asked, gathered, shown, answer, commandOf, reply, run}
-use Rattle.rules.specs.LookBack.{Effect, inserted, modified, deleted, cleared, revise, present, Past, nothing, shows, effectOf, reasonAt, tookEffect, noteUpdate, noteUpdates, noted, note, lookBack, pairsSeen, someFailed, named, asksFor, readSeen, answerSeen, replySeen}
+use Rattle.rules.specs.Update.{Tables, noEntries, inTable, perform, apply, eachAlone, oneFurther, failure, rolledBack, unlessFailed, allOrNone, batch}
+use Rattle.rules.specs.Answer.{Answer, replyOf}
+use Rattle.rules.specs.Call.{State, Call, fresh, configureReason, writeReason, readReason, refusal, accepted, nextControl, nextTables, next, plain, pairOf, headOf, batchOf, asked, gathered, shown, answer, commandOf, reply, run}
+use Rattle.rules.specs.LookBack.{Effect, inserted, modified, deleted, cleared, revise, present, Past, nothing, shows, effectOf, reasonAt, succeeds, noteUpdate, noteUpdates, someFails, tookEffect, noteBatch, noted, note, lookBack, pairsAlone, pairsRolledBack, pairsSeen, named, asksFor, readSeen, answerSeen, replySeen}
 use Rattle.rules.specs.Agreement.{commandsOf, replyAfter, pastOf, pairAt, Agreement}
 use Rattle.rules.proofs.Tests.{same-sym}
-use Rattle.rules.proofs.Lists.{concat-append}
+use Rattle.rules.proofs.Rollback.{eqb-sym, rollback}
 use Rattle.rules.proofs.Orders.{first-avoids}
 use Rattle.rules.proofs.Effects.{takeEffect, present-snoc}
+use Rattle.rules.proofs.Pairs.{seen-at, pair-zero, update-pair}
 
 -- ---- updates
 
@@ -54,7 +55,7 @@ effect-is u t = go (eqb (u .type) 1) (eqb (u .type) 2)
 
 -- one update more, and a batch: what looking back notes is what the rules leave
 noted-update : (p : Past) (role : ℕ) (u : Update) → shows (noteUpdate p role u) .tables ≡ apply (reasonAt p role u) u (shows p .tables)
-unfolding shows noteUpdate apply tookEffect
+unfolding shows noteUpdate apply succeeds
 noted-update p role u = go (eqb (reasonAt p role u) 0)
   where
     t : Tables
@@ -68,48 +69,107 @@ noted-update p role u = go (eqb (reasonAt p role u) 0)
 
 -- a batch over the entries that looking back shows
 module _ (role : ℕ) where
-  abbrev Batched : Past → List Update → Type 0
-  Batched p us =
-      (batch (p .control .rows) role (shows p .tables) us .tables ≡ shows (noteUpdates p role us) .tables)
-      × (map pairOf (batch (p .control .rows) role (shows p .tables) us .reasons) ≡ pairsSeen p role us)
-      × (every (eqb 0) (batch (p .control .rows) role (shows p .tables) us .reasons) ≡ not (someFailed p role us))
-
-  eqb-sym : (a b : ℕ) → eqb a b ≡ eqb b a
-  eqb-sym a b = go (eqb b a) refl
-    where
-      go : (t : Bool) → eqb b a ≡ t → eqb a b ≡ t
-      go true q = eq-eqb a b (sym (eqb-true b a q))
-      go false q = ne-eqb a b (λ e. eqb-false b a q (sym e))
+  abbrev rowsOf : Past → List Row
+  rowsOf p = p .control .rows
 
   and-or : (a b : Bool) → a && not b ≡ not (not a || b)
   and-or true b = refl
   and-or false b = refl
 
-  batched : (p : Past) (us : List Update) → Batched p us
-  unfolding batch noteUpdates pairsSeen someFailed reasonAt tookEffect noteUpdate
-  batched p [] = (refl, refl, refl)
-  batched p (u ∷ us) =
+  -- each update alone
+  abbrev Alone : Past → Tables → List Update → Type 0
+  Alone p t us =
+      (eachAlone (rowsOf p) role t us .tables ≡ shows (noteUpdates p role us) .tables)
+      × (map pairOf (eachAlone (rowsOf p) role t us .reasons) ≡ pairsAlone p role us)
+      × (every (eqb 0) (eachAlone (rowsOf p) role t us .reasons) ≡ not (someFails p role us))
+
+  alone : (p : Past) (us : List Update) → Alone p (shows p .tables) us
+  unfolding eachAlone noteUpdates pairsAlone someFails reasonAt succeeds noteUpdate
+  alone p [] = (refl, refl, refl)
+  alone p (u ∷ us) =
       let r : ℕ = reasonAt p role u in
-      let h : Batched (noteUpdate p role u) us = batched (noteUpdate p role u) us in
-      let e : shows (noteUpdate p role u) .tables ≡ apply r u (shows p .tables) = noted-update p role u in
-      let g : Batched′ (apply r u (shows p .tables)) = subst Batched′ e h in
-      (g .0, ap (λ l. pairOf r ∷ l) (g .1), ap₂ _&&_ (eqb-sym 0 r) (g .2) ∙ and-or (eqb r 0) (someFailed (noteUpdate p role u) role us))
+      let q : Past = noteUpdate p role u in
+      let g : Alone q (apply r u (shows p .tables)) us = subst (λ (t : Tables). Alone q t us) (noted-update p role u) (alone q us) in
+      (g .0, ap (λ l. pairOf r ∷ l) (g .1), ap₂ _&&_ (eqb-sym 0 r) (g .2) ∙ and-or (eqb r 0) (someFails q role us))
+
+  -- the first update that fails, if any
+  abbrev Failing : Option (ℕ × ℕ) → Past → List Update → Type 0
+  Failing none p us = someFails p role us ≡ false
+  Failing (some f) p us =
+      (someFails p role us ≡ true)
+      × (map pairOf (rolledBack (length us) f) ≡ pairsRolledBack p role us)
+      × (every (eqb 0) (rolledBack (length us) f) ≡ false)
+
+  all-25 : (us : List Update) → map pairOf (replicate (length us) 25) ≡ map (λ (v : Update). pairOf 25) us
+  all-25 [] = refl
+  all-25 (u ∷ us) = ap (λ l. pairOf 25 ∷ l) (all-25 us)
+
+  module _ (p : Past) (u : Update) (us : List Update) where
+    passing : succeeds p role u ≡ true
+        → (someFails p role (u ∷ us) ≡ someFails (noteUpdate p role u) role us)
+        × (pairsRolledBack p role (u ∷ us) ≡ pairOf 25 ∷ pairsRolledBack (noteUpdate p role u) role us)
+    unfolding someFails pairsRolledBack
+    passing e = rw e (refl, refl)
+
+    first-failing : succeeds p role u ≡ false
+        → (someFails p role (u ∷ us) ≡ true) × (pairsRolledBack p role (u ∷ us) ≡ pairOf (reasonAt p role u) ∷ map (λ (v : Update). pairOf 25) us)
+    unfolding someFails pairsRolledBack
+    first-failing e = rw e (refl, refl)
+
+  failing : (p : Past) (us : List Update) → Failing (failure (rowsOf p) role (shows p .tables) us) p us
+  unfolding failure someFails pairsRolledBack reasonAt succeeds noteUpdate
+  failing p [] = refl
+  failing p (u ∷ us) =
+      go (eqb r 0) refl (failure (rowsOf p) role (apply r u (shows p .tables)) us)
+      (subst (λ (t : Tables). Failing (failure (rowsOf p) role t us) q us) (noted-update p role u) (failing q us))
     where
-      Batched′ : Tables → Type 0
-      Batched′ t =
-          (batch (p .control .rows) role t us .tables ≡ shows (noteUpdates (noteUpdate p role u) role us) .tables)
-          × (map pairOf (batch (p .control .rows) role t us .reasons) ≡ pairsSeen (noteUpdate p role u) role us)
-          × (every (eqb 0) (batch (p .control .rows) role t us .reasons) ≡ not (someFailed (noteUpdate p role u) role us))
+      r : ℕ
+      r = reasonAt p role u
 
-pub batch-shows : (p : Past) (role : ℕ) (us : List Update)
-    → batch (p .control .rows) role (shows p .tables) us .tables ≡ shows (noteUpdates p role us) .tables
-batch-shows p role us = batched role p us .0
+      q : Past
+      q = noteUpdate p role u
 
--- a batch changes no row
-pub batch-control : (p : Past) (role : ℕ) (us : List Update) → noteUpdates p role us .control ≡ p .control
+      go : (b : Bool) → eqb r 0 ≡ b → (o : Option (ℕ × ℕ)) → Failing o q us → Failing (if b then oneFurther o else some (0, r)) p (u ∷ us)
+      go true e none h = passing p u us e .0 ∙ h
+      go true e (some f) h =
+          let z = passing p u us e in
+          (z .0 ∙ h .0, ap (λ l. pairOf 25 ∷ l) (h .1) ∙ sym (z .1), refl)
+      go false e o h =
+          let z = first-failing p u us e in
+          (z .0, ap (λ l. pairOf r ∷ l) (all-25 us) ∙ sym (z .1), ap (λ (b : Bool). b && every (eqb 0) (replicate (length us) 25)) (eqb-sym 0 r ∙ e))
+
+  -- a batch of either atomicity
+  abbrev Batched : Past → ℕ → List Update → Type 0
+  Batched p atomicity us =
+      (batch atomicity (rowsOf p) role (shows p .tables) us .tables ≡ shows (noteBatch p role atomicity us) .tables)
+      × (map pairOf (batch atomicity (rowsOf p) role (shows p .tables) us .reasons) ≡ pairsSeen p role atomicity us)
+      × (every (eqb 0) (batch atomicity (rowsOf p) role (shows p .tables) us .reasons) ≡ not (someFails p role us))
+
+  batched : (p : Past) (atomicity : ℕ) (us : List Update) → Batched p atomicity us
+  unfolding batch allOrNone noteBatch pairsSeen
+  batched p atomicity us = go (eqb atomicity 1) (failure (rowsOf p) role t us) (failing p us)
+    where
+      t : Tables
+      t = shows p .tables
+
+      go : (b : Bool) (o : Option (ℕ × ℕ)) → Failing o p us →
+          let x = if b then unlessFailed o t us (eachAlone (rowsOf p) role t us) else eachAlone (rowsOf p) role t us in
+          (x .tables ≡ shows (if b && someFails p role us then p else noteUpdates p role us) .tables)
+          × (map pairOf (x .reasons) ≡ (if b && someFails p role us then pairsRolledBack p role us else pairsAlone p role us))
+          × (every (eqb 0) (x .reasons) ≡ not (someFails p role us))
+      go true none h = let g = alone p us in (rw h (g .0), rw h (g .1), g .2)
+      go true (some f) h = (rw (h .0), rw (h .0) (h .1), rw (h .0) (h .2))
+      go false o h = alone p us
+
+pub alone-shows : (p : Past) (role : ℕ) (us : List Update)
+    → eachAlone (p .control .rows) role (shows p .tables) us .tables ≡ shows (noteUpdates p role us) .tables
+alone-shows p role us = alone role p us .0
+
+-- an update changes no row
+pub noted-control : (p : Past) (role : ℕ) (us : List Update) → noteUpdates p role us .control ≡ p .control
 unfolding noteUpdates noteUpdate
-batch-control p role [] = refl
-batch-control p role (u ∷ us) = batch-control (noteUpdate p role u) role us
+noted-control p role [] = refl
+noted-control p role (u ∷ us) = noted-control (noteUpdate p role u) role us
 
 -- ---- READ
 
@@ -209,14 +269,14 @@ answers-agree p (OPEN n) = refl
 answers-agree p (CLOSE n) = refl
 answers-agree p (ARBITRATE n h) = refl
 answers-agree p (CONFIGURE h rows) = refl
-answers-agree p (WRITE h atomicity us) = rw (b .1, b .2) (go (someFailed p (h .role) us))
+answers-agree p (WRITE h atomicity us) = rw (b .1, b .2) (go (someFails p (h .role) us))
   where
-    b : Batched (h .role) p us
-    b = batched (h .role) p us
+    b : Batched (h .role) p atomicity us
+    b = batched (h .role) p atomicity us
 
     told : ℕ → Answer
     told reason =
-        if accepted (shows p) (WRITE h atomicity us) then record { reason = reason; records = pairsSeen p (h .role) us } else
+        if accepted (shows p) (WRITE h atomicity us) then record { reason = reason; records = pairsSeen p (h .role) atomicity us } else
         plain (refusal (shows p) (WRITE h atomicity us))
 
     go : (t : Bool) → told (if not t then 0 else 23) ≡ told (if t then 23 else 0)
@@ -243,9 +303,9 @@ tables-agree p (CONFIGURE h rows) = go (accepted (shows p) (CONFIGURE h rows))
     go false = refl
 tables-agree p (WRITE h atomicity us) = go (accepted (shows p) (WRITE h atomicity us))
   where
-    go : (b : Bool) → (if b then batch (p .control .rows) (h .role) (shows p .tables) us .tables else shows p .tables) .entries
-        ≡ present (if b then noteUpdates p (h .role) us .effects else p .effects)
-    go true = ap (λ t. t .entries) (batched (h .role) p us .0)
+    go : (b : Bool) → (if b then batch atomicity (p .control .rows) (h .role) (shows p .tables) us .tables else shows p .tables) .entries
+        ≡ present (if b then noteBatch p (h .role) atomicity us .effects else p .effects)
+    go true = ap (λ t. t .entries) (batched (h .role) p atomicity us .0)
     go false = refl
 tables-agree p (READ q) = unnoted (accepted (shows p) (READ q)) (p .effects)
 
@@ -305,7 +365,7 @@ returned-accepted s (CLOSE n) = its-reason s (CLOSE n) _ refl
 returned-accepted s (ARBITRATE n h) = its-reason s (ARBITRATE n h) _ refl
 returned-accepted s (CONFIGURE h rows) = its-reason s (CONFIGURE h rows) _ refl
 returned-accepted s (WRITE h atomicity us) =
-    one-of-two s (WRITE h atomicity us) _ (head-reason (every (eqb 0) (batch (s .control .rows) (h .role) (s .tables) us .reasons)))
+    one-of-two s (WRITE h atomicity us) _ (head-reason (every (eqb 0) (batch atomicity (s .control .rows) (h .role) (s .tables) us .reasons)))
     (accepted s (WRITE h atomicity us)) refl
   where
     head-reason : (b : Bool) → _≡_ {A = ℕ} (if b then 0 else 23) 0 ⊎ _≡_ {A = ℕ} (if b then 0 else 23) 23
@@ -314,62 +374,34 @@ returned-accepted s (WRITE h atomicity us) =
 returned-accepted s (READ q) =
     one-of-two s (READ q) (record { reason = 0; records = shown s q }) (inl refl) (accepted s (READ q)) refl
 
--- ---- the pairs of a WRITE
+-- ---- a batch that was rolled back
 
-pairs-split : (p : Past) (role : ℕ) (earlier : List Update) (u : Update) (later : List Update)
-    → pairsSeen p role (earlier ++ u ∷ later)
-    ≡ pairsSeen p role earlier
-    ++ pairOf (reasonAt (noteUpdates p role earlier) role u) ∷ pairsSeen (noteUpdate (noteUpdates p role earlier) role u) role later
-unfolding pairsSeen noteUpdates
-pairs-split p role [] u later = refl
-pairs-split p role (v ∷ earlier) u later = ap (λ l. pairOf (reasonAt p role v) ∷ l) (pairs-split (noteUpdate p role v) role earlier u later)
-
-pub pairs-length : (p : Past) (role : ℕ) (us : List Update) → length (concat (pairsSeen p role us)) ≡ 2 * length us
-unfolding pairsSeen
-pairs-length p role [] = refl
-pairs-length p role (u ∷ us) = omega (arith, pairs-length (noteUpdate p role u) role us)
-
--- the pair behind a head of four bytes and n pairs
-pair-there : (a b c d n r : ℕ) (before after : List (List ℕ)) → length (concat before) ≡ 2 * n
-    → pairAt n (a ∷ b ∷ c ∷ d ∷ concat (before ++ pairOf r ∷ after)) ≡ pairOf r
-unfolding pairAt
-pair-there a b c d n r before after e =
-    rw (concat-append before (pairOf r ∷ after), drop-at (a ∷ b ∷ c ∷ d ∷ concat before) (concat (pairOf r ∷ after)) (4 + 2 * n) (omega arith))
-
-pair-zero : (r : ℕ) → (pairOf r ≡ 0 ∷ 0 ∷ []) ↔ (r ≡ 0)
-unfolding codeOf pairs
-pair-zero r = (λ e. cc, λ e. rw e)
-
--- the pair of an update in the bytes of an accepted WRITE
-update-pair : (p : Past) (h : Head) (atomicity : ℕ) (earlier : List Update) (u : Update) (later : List Update)
-    → accepted (shows p) (WRITE h atomicity (earlier ++ u ∷ later)) ≡ true
-    → pairAt (length earlier) (replySeen p (WRITE h atomicity (earlier ++ u ∷ later)) .written)
-    ≡ pairOf (reasonAt (noteUpdates p (h .role) earlier) (h .role) u)
-unfolding replySeen replyOf answerSeen answerBytes bytesOf
-update-pair p h atomicity earlier u later q = rw (q, pairs-split p (h .role) earlier u later) (go (someFailed p (h .role) (earlier ++ u ∷ later)))
+-- a WRITE with atomicity 1 that returned 23 leaves the agent as it was
+left : (s : State) (h : Head) (us : List Update) → reply s (WRITE h 1 us) .returned ≡ 23 → next s (WRITE h 1 us) ≡ s
+unfolding reply replyOf answer next nextControl nextTables
+left s h us e = ap (λ (t : Tables). record { control = s .control; tables = t }) (go (accepted s c) refl e)
   where
-    r : ℕ
-    r = reasonAt (noteUpdates p (h .role) earlier) (h .role) u
+    c : Command
+    c = WRITE h 1 us
 
-    before : List (List ℕ)
-    before = pairsSeen p (h .role) earlier
+    rs : List ℕ
+    rs = batchOf s h 1 us .reasons
 
-    after : List (List ℕ)
-    after = pairsSeen (noteUpdate (noteUpdates p (h .role) earlier) (h .role) u) (h .role) later
-
-    go : (b : Bool) → pairAt (length earlier) (replyOf (record { reason = if b then 23 else 0; records = before ++ pairOf r ∷ after }) .written) ≡ pairOf r
-    go true = pair-there _ _ _ _ (length earlier) r before after (pairs-length p (h .role) earlier)
-    go false = pair-there _ _ _ _ (length earlier) r before after (pairs-length p (h .role) earlier)
+    go : (b : Bool) → accepted s c ≡ b → (if b then record { reason = headOf rs; records = map pairOf rs } else plain (refusal s c)) .reason ≡ 23
+        → (if b then batchOf s h 1 us .tables else s .tables) ≡ s .tables
+    go true q z = rollback (s .control .rows) (h .role) (s .tables) .left us z
+    go false q z = refl
 
 -- ---- the claim
 
 pub agreement : (room device : ℕ) (before : List Call) (c : Call) → Agreement room device before c
-unfolding replyAfter pastOf reply replySeen tookEffect
+unfolding replyAfter pastOf reply replySeen
 agreement room device before c = record {
   replies = replies;
   acceptance = subst (λ s. ((reply s (commandOf room c) .returned ≡ 0) ⊎ (reply s (commandOf room c) .returned ≡ 23)) ↔ (accepted (shows p) (commandOf room c) ≡ true))
       (sym shown-past) (returned-accepted (shows p) (commandOf room c));
   updates = updates;
+  rolled-back = undone;
 }
   where
     p : Past
@@ -385,10 +417,19 @@ agreement room device before c = record {
         → commandOf room c ≡ WRITE h atomicity (earlier ++ u ∷ later)
         → accepted (shows p) (commandOf room c) ≡ true
         → (pairAt (length earlier) (reply (run (fresh device) (commandsOf room before)) (commandOf room c) .written) ≡ 0 ∷ 0 ∷ [])
-        ↔ (eqb (reasonAt (noteUpdates p (h .role) earlier) (h .role) u) 0 ≡ true)
+        ↔ (tookEffect p (h .role) atomicity earlier u later ≡ true)
     updates h atomicity earlier u later e q =
-        let r : ℕ = reasonAt (noteUpdates p (h .role) earlier) (h .role) u in
-        let w : pairAt (length earlier) (reply (run (fresh device) (commandsOf room before)) (commandOf room c) .written) ≡ pairOf r =
+        let x = seen-at (h .role) p atomicity earlier u later in
+        let w : pairAt (length earlier) (reply (run (fresh device) (commandsOf room before)) (commandOf room c) .written) ≡ pairOf (x .0) =
         ap (λ a. pairAt (length earlier) (a .written)) (replies ∙ ap (replySeen p) e)
-        ∙ update-pair p h atomicity earlier u later (subst (λ x. accepted (shows p) x ≡ true) e q) in
-        (λ z. eq-eqb r 0 (pair-zero r .0 (sym w ∙ z)), λ z. w ∙ pair-zero r .1 (eqb-true r 0 z))
+        ∙ update-pair p h atomicity (earlier ++ u ∷ later) (length earlier) (x .0) (x .2) (subst (λ y. accepted (shows p) y ≡ true) e q) in
+        (λ z. x .1 .0 (pair-zero (x .0) .0 (sym w ∙ z)), λ z. w ∙ pair-zero (x .0) .1 (x .1 .1 z))
+
+    s : State
+    s = run (fresh device) (commandsOf room before)
+
+    undone : (h : Head) (us : List Update) → commandOf room c ≡ WRITE h 1 us → reply s (commandOf room c) .returned ≡ 23
+        → (q : Query) → reply s (READ q) ≡ reply (next s (commandOf room c)) (READ q)
+    undone h us e r q =
+        let same : next s (WRITE h 1 us) ≡ s = left s h us (subst (λ (x : Command). reply s x .returned ≡ 23) e r) in
+        sym (ap (λ (t : State). reply t (READ q)) (ap (next s) e ∙ same))

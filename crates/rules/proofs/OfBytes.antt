@@ -20,7 +20,8 @@ use Rattle.rules.specs.Keys.{ofBytes}
 use Rattle.rules.proofs.Tests.{and-true, both-true, every-append, every-take, every-drop, every-part}
 use Rattle.rules.proofs.Formed.{read-law, call-law}
 use Rattle.rules.proofs.Shortest.{digits, digits-length, short-law}
-use Rattle.rules.proofs.Tables.{batch-every}
+use Rattle.rules.proofs.Tables.{alone-every}
+use Rattle.rules.proofs.Rollback.{left-either}
 
 abbrev pub isByte : ℕ → Bool
 isByte b = ltb b 256
@@ -137,8 +138,10 @@ next-bytes s (CONFIGURE e rows) b h = go (accepted s (CONFIGURE e rows))
     go false = h
 next-bytes s (WRITE e atomicity us) b h = go (accepted s (WRITE e atomicity us))
   where
-    go : (a : Bool) → AllStored (if a then batchOf s e us .tables else s .tables)
-    go true = batch-every allBytes (s .control .rows) (e .role) (s .tables) us (entries-bytes us b) h
+    go : (a : Bool) → AllStored (if a then batchOf s e atomicity us .tables else s .tables)
+    go true =
+        left-either AllStored atomicity (s .control .rows) (e .role) (s .tables) us h
+        (alone-every allBytes (s .control .rows) (e .role) (s .tables) us (entries-bytes us b) h)
     go false = h
 next-bytes s (READ q) b h = h
 

@@ -15,7 +15,7 @@ use Rattle.rules.specs.Key.{keyOf, hasKey}
 use Rattle.rules.specs.Entry.{shortEntry}
 use Rattle.rules.specs.Update.{stored, judge, judgeBy}
 use Rattle.rules.specs.Call.{Call, accepted}
-use Rattle.rules.specs.LookBack.{Effect, inserted, modified, deleted, cleared, revise, present, Past, nothing, shows, effectOf, reasonAt, tookEffect, noteUpdate, noteUpdates, noted, note, lookBack}
+use Rattle.rules.specs.LookBack.{Effect, inserted, modified, deleted, cleared, revise, present, Past, nothing, shows, effectOf, reasonAt, succeeds, noteUpdate, noteUpdates, rollsBack, noteBatch, noted, note, lookBack}
 use Rattle.rules.specs.Agreement.{commandsOf, pastOf}
 use Rattle.rules.specs.Presence.{insertsKey, setsKey, setsEntry, removesKey, Since, Present, Before, In, Ordered, Describes}
 use Rattle.rules.proofs.Tests.{clash, and-false, same-true, same-refl, same-sym, eq-same}
@@ -290,7 +290,7 @@ allowed p role u k e = go (eqb (u .type) 1) (eqb (u .type) 2) refl
 
 noted-update : (p : Past) (role : ℕ) (u : Update) → length (u .entry) ≡ 220
     → Described (p .effects) → Described (noteUpdate p role u .effects)
-unfolding noteUpdate tookEffect
+unfolding noteUpdate succeeds
 noted-update p role u k d = go (eqb (reasonAt p role u) 0) refl
   where
     go : (b : Bool) → eqb (reasonAt p role u) 0 ≡ b → Described (if b then p .effects ++ (effectOf u ∷ []) else p .effects)
@@ -303,6 +303,15 @@ unfolding noteUpdates
 noted-updates p role [] k d = d
 noted-updates p role (u ∷ us) k d = noted-updates (noteUpdate p role u) role us (k .1) (noted-update p role u (k .0) d)
 
+noted-batch : (p : Past) (role atomicity : ℕ) (us : List Update) → Whole us → Described (p .effects)
+    → Described (noteBatch p role atomicity us .effects)
+unfolding noteBatch
+noted-batch p role atomicity us k d = go (rollsBack p role atomicity us)
+  where
+    go : (b : Bool) → Described ((if b then p else noteUpdates p role us) .effects)
+    go true = d
+    go false = noted-updates p role us k d
+
 noted-call : (p : Past) (c : Command) → Formed c → Described (p .effects) → Described (noted p c)
 unfolding noted
 noted-call p cramped k d = d
@@ -311,7 +320,7 @@ noted-call p (OPEN n) k d = d
 noted-call p (CLOSE n) k d = d
 noted-call p (ARBITRATE n h) k d = d
 noted-call p (CONFIGURE h rows) k d = described-more (p .effects) cleared d (λ e i. refl)
-noted-call p (WRITE h atomicity us) k d = noted-updates p (h .role) us (k .1) d
+noted-call p (WRITE h atomicity us) k d = noted-batch p (h .role) atomicity us (k .1) d
 noted-call p (READ q) k d = d
 
 noted-calls : (p : Past) (cs : List Command) → EveryFormed cs → Described (p .effects) → Described (lookBack p cs .effects)

@@ -166,7 +166,7 @@ next-alike s (CONFIGURE h rows) n = go (accepted s (CONFIGURE h rows)) refl
 next-alike s (WRITE h atomicity us) n = go (accepted s (WRITE h atomicity us)) refl
   where
     go : (b : Bool) → accepted s (WRITE h atomicity us) ≡ b
-        → Alike s (record { control = s .control; tables = if b then batchOf s h us .tables else s .tables })
+        → Alike s (record { control = s .control; tables = if b then batchOf s h atomicity us .tables else s .tables })
     go true q = absurd (n (h .role) (h .id) (refl, refl) q)
     go false q = record { device = refl; rows = refl; tables = refl }
 next-alike s (READ q) n = record { device = refl; rows = refl; tables = refl }

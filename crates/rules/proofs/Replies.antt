@@ -45,7 +45,7 @@ answers-not-2 s (CLOSE m) n e = not-2 s (CLOSE m) n e
 answers-not-2 s (ARBITRATE m h) n e = not-2 s (ARBITRATE m h) n e
 answers-not-2 s (CONFIGURE h rows) n e = not-2 s (CONFIGURE h rows) n e
 answers-not-2 s (WRITE h atomicity us) n e =
-    either-way s (WRITE h atomicity us) _ n (head (every (eqb 0) (batchOf s h us .reasons))) (accepted s (WRITE h atomicity us)) e
+    either-way s (WRITE h atomicity us) _ n (head (every (eqb 0) (batchOf s h atomicity us .reasons))) (accepted s (WRITE h atomicity us)) e
   where
     head : (b : Bool) → _≡_ {A = ℕ} (if b then 0 else 23) 2 → ⊥
     head true q = omega arith

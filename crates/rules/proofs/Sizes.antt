@@ -4,17 +4,17 @@ use Prim.Native.Nat.{ℕ, zero, suc, _+_, _*_, _/_, _%_, _≤_}
 use mathlib.Core.Path.{_≡_, refl, _∙_}
 use mathlib.Core.Bool.{Bool, true, false}
 use mathlib.Core.List.{List, [], _∷_, _++_, map}
-use mathlib.Core.Option.{Option}
+use mathlib.Core.Option.{Option, none, some}
 use native.Mathlib.Nat.{le-trans, le-of-eq, mul-le-mul}
 use native.Mathlib.Omega.{arith}
 use lib.Dec.{eqb}
-use lib.ListN.{length, length-append, length-map, length-set}
+use lib.ListN.{length, replicate, length-append, length-map, length-set, length-replicate}
 use Rattle.rules.specs.Bytes.{if_then_else_, keep, concat, sum, between, numberFrom, int, bytesOf}
 use Rattle.rules.specs.Frame.{Head, Update, Query, Command, cramped, malformed, OPEN, CLOSE, ARBITRATE, CONFIGURE, WRITE, READ}
 use Rattle.rules.specs.Streams.{Stream, closed, unbound, bound, Streams, numbers, inRole, members, markOf, noticeOf, notification, notifyAll, is, primary, become, streamAt, leaving, closeReason, openStream, closeRecords, closeStream, arbitrateReason, binds, samePair, bindRecords, arbitrate}
 use Rattle.rules.specs.Row.{Row}
 use Rattle.rules.specs.Key.{hasKey, shortKey}
-use Rattle.rules.specs.Update.{Tables, inTable, held, judge, apply, batch}
+use Rattle.rules.specs.Update.{Tables, inTable, held, judge, apply, eachAlone, failure, unlessFailed, allOrNone, batch}
 use Rattle.rules.specs.Answer.{Answer, answerBytes, replyOf}
 use Rattle.rules.specs.Call.{State, fresh, refusal, accepted, plain, pairOf, headOf, batchOf, asked, gathered, shown, answer, commandOf, reply, run}
 use Rattle.rules.specs.Agreement.{commandsOf, replyAfter}
@@ -104,16 +104,27 @@ bind-sized e s h l =
 
 -- ---- pairs
 
-pub reasons-count : (rows : List Row) (role : ℕ) (t : Tables) (us : List Update) → length (batch rows role t us .reasons) ≡ length us
-unfolding batch
-reasons-count rows role t [] = refl
-reasons-count rows role t (u ∷ us) = omega (arith, reasons-count rows role (apply (judge rows role t u) u t) us)
+alone-count : (rows : List Row) (role : ℕ) (t : Tables) (us : List Update) → length (eachAlone rows role t us .reasons) ≡ length us
+unfolding eachAlone
+alone-count rows role t [] = refl
+alone-count rows role t (u ∷ us) = omega (arith, alone-count rows role (apply (judge rows role t u) u t) us)
 
-pairs-sized : (s : State) (h : Head) (us : List Update) → length us ≤ 64 → Sized 2 (map pairOf (batchOf s h us .reasons))
-pairs-sized s h us few =
-    let rs = batchOf s h us .reasons in (
+pub reasons-count : (atomicity : ℕ) (rows : List Row) (role : ℕ) (t : Tables) (us : List Update)
+    → length (batch atomicity rows role t us .reasons) ≡ length us
+unfolding batch allOrNone
+reasons-count atomicity rows role t us = go (eqb atomicity 1) (failure rows role t us)
+  where
+    go : (b : Bool) (o : Option (ℕ × ℕ))
+        → length ((if b then unlessFailed o t us (eachAlone rows role t us) else eachAlone rows role t us) .reasons) ≡ length us
+    go true none = alone-count rows role t us
+    go true (some f) = length-set (replicate (length us) 25) (f .0) (f .1) ∙ length-replicate (length us) 25
+    go false o = alone-count rows role t us
+
+pairs-sized : (s : State) (h : Head) (atomicity : ℕ) (us : List Update) → length us ≤ 64 → Sized 2 (map pairOf (batchOf s h atomicity us .reasons))
+pairs-sized s h atomicity us few =
+    let rs = batchOf s h atomicity us .reasons in (
       map-lengths 2 pairOf (λ (r : ℕ). refl) rs,
-      omega (arith, length-map rs pairOf, reasons-count (s .control .rows) (h .role) (s .tables) us),
+      omega (arith, length-map rs pairOf, reasons-count atomicity (s .control .rows) (h .role) (s .tables) us),
     )
 
 -- ---- entries
@@ -196,9 +207,9 @@ answer-sized s (ARBITRATE n h) f ok =
 answer-sized s (CONFIGURE h rows) f ok = none-sized 0
 answer-sized s (WRITE h atomicity us) f ok = go (accepted s (WRITE h atomicity us))
   where
-    go : (b : Bool) → Sized 2 ((if b then record { reason = headOf (batchOf s h us .reasons); records = map pairOf (batchOf s h us .reasons) } else
+    go : (b : Bool) → Sized 2 ((if b then record { reason = headOf (batchOf s h atomicity us .reasons); records = map pairOf (batchOf s h atomicity us .reasons) } else
         plain (refusal s (WRITE h atomicity us))) .records)
-    go true = pairs-sized s h us (f .0)
+    go true = pairs-sized s h atomicity us (f .0)
     go false = none-sized 2
 answer-sized s (READ q) f ok = go (accepted s (READ q))
   where
@@ -233,11 +244,11 @@ unfolding answer
 write-count s h atomicity us = go (accepted s (WRITE h atomicity us))
   where
     rs : List ℕ
-    rs = batchOf s h us .reasons
+    rs = batchOf s h atomicity us .reasons
 
     go : (b : Bool) → length ((if b then record { reason = headOf rs; records = map pairOf rs } else plain (refusal s (WRITE h atomicity us))) .records)
         ≡ (if b then length us else 0)
-    go true = length-map rs pairOf ∙ reasons-count (s .control .rows) (h .role) (s .tables) us
+    go true = length-map rs pairOf ∙ reasons-count atomicity (s .control .rows) (h .role) (s .tables) us
     go false = refl
 
 pub reply-fits : (s : State) (c : Command) → Formed c → Sound s → length (reply s c .written) ≤ 56_324

@@ -17,7 +17,8 @@ use Rattle.rules.proofs.Tests.{and-true}
 use Rattle.rules.proofs.Orders.{first-clear}
 use Rattle.rules.proofs.Formed.{Whole, Formed, EveryFormed, calls-formed}
 use Rattle.rules.proofs.Streams.{fresh-sound}
-use Rattle.rules.proofs.Tables.{batch-sound, none-sound}
+use Rattle.rules.proofs.Tables.{alone-sound, none-sound}
+use Rattle.rules.proofs.Rollback.{left-either}
 use Rattle.rules.proofs.Primary.{next-streams, next-mark}
 
 -- ---- rows that 14 allows
@@ -59,8 +60,10 @@ write-sound : (s : State) (h : Head) (atomicity : ℕ) (us : List Update) → Wh
 unfolding nextTables
 write-sound s h atomicity us w ok = go (accepted s (WRITE h atomicity us))
   where
-    go : (b : Bool) → SoundTables (s .control .rows) (if b then batchOf s h us .tables else s .tables)
-    go true = batch-sound (s .control .rows) (ids-distinct (s .control .rows) (ok .rows)) (h .role) (s .tables) us w (ok .tables)
+    go : (b : Bool) → SoundTables (s .control .rows) (if b then batchOf s h atomicity us .tables else s .tables)
+    go true =
+        left-either (SoundTables (s .control .rows)) atomicity (s .control .rows) (h .role) (s .tables) us (ok .tables)
+        (alone-sound (s .control .rows) (ids-distinct (s .control .rows) (ok .rows)) (h .role) (s .tables) us w (ok .tables))
     go false = ok .tables
 
 pub next-sound : (s : State) (c : Command) → Formed c → Sound s → Sound (next s c)

@@ -13,7 +13,7 @@ use Rattle.rules.specs.Frame.{Update}
 use Rattle.rules.specs.Row.{Row, known, rowFor}
 use Rattle.rules.specs.Key.{tableOf, keyFormed, keyFits, keyRules, keyOf, hasKey, shortKey}
 use Rattle.rules.specs.Entry.{actionFormed, actionFits, passes, shortEntry}
-use Rattle.rules.specs.Update.{Tables, noEntries, inTable, stored, held, isInsert, isModify, judge, judgeBy, perform, apply, batch}
+use Rattle.rules.specs.Update.{Tables, noEntries, inTable, stored, held, isInsert, isModify, judge, judgeBy, perform, apply, eachAlone}
 use Rattle.rules.specs.Sound.{Stored, EveryStored, Distinct, Within, SoundTables}
 use Rattle.rules.proofs.Tests.{or-false, and-true, and-false, both-true, same-true, same-sym}
 use Rattle.rules.proofs.Orders.{first-clear}
@@ -162,15 +162,15 @@ module _ (p : List ℕ → Bool) where
       go true false false = every-keep p _ (t .entries) h
       go false b c = h
 
-  pub batch-every : (rows : List Row) (role : ℕ) (t : Tables) (us : List Update)
+  pub alone-every : (rows : List Row) (role : ℕ) (t : Tables) (us : List Update)
       → every (λ (u : Update). p (shortEntry (u .entry))) us ≡ true → every p (t .entries) ≡ true
-      → every p (batch rows role t us .tables .entries) ≡ true
-  unfolding batch
-  batch-every rows role t [] q h = h
-  batch-every rows role t (u ∷ us) q h =
+      → every p (eachAlone rows role t us .tables .entries) ≡ true
+  unfolding eachAlone
+  alone-every rows role t [] q h = h
+  alone-every rows role t (u ∷ us) q h =
       let w = and-true (p (shortEntry (u .entry))) (every (λ (u : Update). p (shortEntry (u .entry))) us) q in
       let r : ℕ = judge rows role t u in
-      batch-every rows role (apply r u t) us (w .1) (apply-every r u t (w .0) h)
+      alone-every rows role (apply r u t) us (w .1) (apply-every r u t (w .0) h)
 
 -- ---- no table holds more than its size
 
@@ -363,10 +363,10 @@ module _ (rows : List Row) (apart : distinct (map (λ (r : Row). r .table) rows)
       go true false false p q = delete-sound t _ ok
       go false b c p q = ok
 
-  pub batch-sound : (role : ℕ) (t : Tables) (us : List Update) → Whole us → SoundTables rows t → SoundTables rows (batch rows role t us .tables)
-  unfolding batch
-  batch-sound role t [] h ok = ok
-  batch-sound role t (u ∷ us) h ok = batch-sound role (apply (judge rows role t u) u t) us (h .1) (apply-sound role t u (h .0) ok)
+  pub alone-sound : (role : ℕ) (t : Tables) (us : List Update) → Whole us → SoundTables rows t → SoundTables rows (eachAlone rows role t us .tables)
+  unfolding eachAlone
+  alone-sound role t [] h ok = ok
+  alone-sound role t (u ∷ us) h ok = alone-sound role (apply (judge rows role t u) u t) us (h .1) (apply-sound role t u (h .0) ok)
 
 none-within : (rows : List Row) → Within rows noEntries
 unfolding held

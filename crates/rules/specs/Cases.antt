@@ -10,6 +10,7 @@ use Rattle.rules.specs.Call.{fresh, commandOf, reply}
 use Rattle.rules.specs.Sample.{table#, by, unset, headBy, open!, close!, arbitrate!, configure!, write!, read!, readFrom, readAll!, readOne, field, action, rowWith, row, sizeless, val1, val2, key, entryWith, item, insert!, modify!, delete!, leading, two, configured, commandIn, holding, bytes, ok, refused, done, Each, InTurn, batch!, all}
 use Rattle.rules.specs.StreamCases.{eight, Frames, Elections}
 use Rattle.rules.specs.EntryCases.{Entries, Configurations, Updates}
+use Rattle.rules.specs.RollbackCases.{Rollbacks}
 
 -- table n of an owner, of size 1: a range of width 8, and action 1 with a parameter of width 8
 abbrev ranges : ℕ → ℕ → List ℕ
@@ -137,19 +138,28 @@ pub record Orders : Type 0 where
       ∷ (configure! (by 0 6) sizeless, refused 10 7)
       ∷ (configure! (by 0 5) sizeless, refused 14 3)
       ∷ []))
-  -- WRITE 1, 5, 6, 10 (id unset, under the mark, over it), 12, 13 (atomicity 1, 2), and then what its update is refused for
+  -- WRITE 1, 5, 6, 10 (id unset, under the mark, over it), 12, 13 (atomicity 2), and then, with atomicity 1 and 0, what its update
+  -- is refused for
   pub write : InTurn leading
+      ((write! (headBy 2 8 2 0) 2 stray, refused 1 3)
+      ∷ (write! (headBy 2 8 0 0) 2 stray, refused 5 5)
+      ∷ (write! (unset 8) 2 stray, refused 6 5)
+      ∷ (write! (unset 0) 2 stray, refused 10 7)
+      ∷ (write! (by 0 4) 2 stray, refused 10 7)
+      ∷ (write! (by 0 6) 2 stray, refused 10 7)
+      ∷ (write! (by 0 5) 2 stray, refused 12 9)
+      ∷ (configure! (by 0 5) (ranges 1 0 ∷ []), ok)
+      ∷ (write! (by 0 5) 2 stray, refused 13 12)
+      ∷ (write! (by 0 5) 1 stray, bytes 23 2 1 ((15 ∷ 5 ∷ []) ∷ []))
+      ∷ (write! (by 0 5) 0 stray, bytes 23 2 1 ((15 ∷ 5 ∷ []) ∷ []))
+      ∷ [])
+  -- atomicity 1 in the place of 2: the same refusals, but for 13
+  pub write-atomic : InTurn leading
       ((write! (headBy 2 8 2 0) 1 stray, refused 1 3)
       ∷ (write! (headBy 2 8 0 0) 1 stray, refused 5 5)
       ∷ (write! (unset 8) 1 stray, refused 6 5)
       ∷ (write! (unset 0) 1 stray, refused 10 7)
-      ∷ (write! (by 0 4) 1 stray, refused 10 7)
-      ∷ (write! (by 0 6) 1 stray, refused 10 7)
       ∷ (write! (by 0 5) 1 stray, refused 12 9)
-      ∷ (configure! (by 0 5) (ranges 1 0 ∷ []), ok)
-      ∷ (write! (by 0 5) 1 stray, refused 13 12)
-      ∷ (write! (by 0 5) 2 stray, refused 13 12)
-      ∷ (write! (by 0 5) 0 stray, bytes 23 2 1 ((15 ∷ 5 ∷ []) ∷ []))
       ∷ [])
   -- READ 1, 5, 6, 12, then for a named table 15 and 16 and, with only 1 and not with only 0, 17 to 19 on its key: 19 for its
   -- bounds and its priority, and for each of these alone
@@ -188,6 +198,7 @@ pub record Witnesses : Type 0 where
   pub frames : Frames
   pub elections : Elections
   pub entries : Entries
+  pub rollbacks : Rollbacks
   pub orders : Orders
   pub configurations : Configurations
   pub updates : Updates

@@ -17,17 +17,17 @@ abbrev send : List (List ℕ) → List ℕ
 send us = write! (by 0 5) 0 us
 
 -- tables 2 and 1, in this order, of owners 1 and 0, each of size 2, with an exact field and two actions
-abbrev tables : List (List ℕ)
+abbrev pub tables : List (List ℕ)
 tables = map (λ (n : ℕ). rowWith n (n - 1) 2 (field exact 8 ∷ []) (action 1 [] ∷ action 2 [] ∷ [])) (2 ∷ 1 ∷ [])
 
 -- and both full, their entries inserted in turn
-abbrev stocked : List (List ℕ)
+abbrev pub stocked : List (List ℕ)
 stocked =
     configured tables
     ++ (send (insert! (item 1 1 1) ∷ insert! (item 2 1 1) ∷ insert! (item 1 2 1) ∷ insert! (item 2 2 1) ∷ []) ∷ [])
 
 -- what a READ of all then shows: by configuration row and then in order of insertion
-abbrev stock : Reply
+abbrev pub stock : Reply
 stock = bytes 0 0 4 (item 2 1 1 ∷ item 2 2 1 ∷ item 1 1 1 ∷ item 1 2 1 ∷ [])
 
 -- table 1 with an optional, a ternary, a range and an lpm field of width 16, and action 1 with four parameters of width 16

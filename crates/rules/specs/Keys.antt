@@ -66,9 +66,9 @@ pub record KeysCompared (room device : ℕ) (before : List Call) (c : Call) : Ty
   pub updates : (h : Head) (atomicity : ℕ) (earlier : List Update) (u : Update) (later : List Update)
       → commandOf room c ≡ WRITE h atomicity (earlier ++ u ∷ later)
       → Compared (noteUpdates (pastOf room device before) (h .role) earlier) (h .role) u
-  -- which is what the rules have stored then,
+  -- which is what the rules have stored then (with atomicity 1 an update is judged where the earlier ones succeed, by the same),
   pub entries : (h : Head) (earlier : List Update)
-      → batchOf (run (fresh device) (commandsOf room before)) h earlier .tables
+      → batchOf (run (fresh device) (commandsOf room before)) h 0 earlier .tables
       ≡ shows (noteUpdates (pastOf room device before) (h .role) earlier) .tables
   -- and an accepted READ of one key shows exactly the entries that have the same numbers.
   pub reads : (q : Query) → commandOf room c ≡ READ q → q .only ≡ 1

@@ -1,4 +1,4 @@
--- Document 01 as definitions, in its order; then what is claimed of them.
+-- Document 01, as document 02 amends it, as definitions in its order; then what is claimed of them.
 pub mod Bytes
 pub mod Reason
 pub mod Frame
@@ -18,8 +18,10 @@ pub mod Keys
 pub mod Sizes
 pub mod Sound
 pub mod Refused
+pub mod Rollback
 pub mod Sample
 pub mod Bench
 pub mod StreamCases
 pub mod EntryCases
+pub mod RollbackCases
 pub mod Cases

@@ -3,7 +3,7 @@
 -- Shared with the rules: the orders of refusals, what calls make of streams, marks and rows, and `judge` of one update. Defined
 -- here, from the effects alone: the entries present, a batch, the pairs of a WRITE, the records of a READ. Assumes nothing.
 use mathlib.Core.Bool.{Bool, true, false, _&&_, _||_, not}
-use mathlib.Core.List.{List, [], _∷_, _++_}
+use mathlib.Core.List.{List, [], _∷_, _++_, map}
 use Prim.Native.Nat.{ℕ}
 use lib.Dec.{eqb}
 use Rattle.rules.specs.Bytes.{if_then_else_, keep, same}
@@ -76,21 +76,39 @@ effectOf u =
     let e = shortEntry (u .entry) in
     if eqb (u .type) 1 then inserted e else if eqb (u .type) 2 then modified e else deleted (keyOf e)
 
--- an update's reason after the past p; it took effect where its pair is (0, 0)
+-- an update's reason after the past p, and whether it has none and so *succeeds*
 unfoldable pub reasonAt : Past → ℕ → Update → ℕ
 reasonAt p role u = judge (p .control .rows) role (shows p .tables) u
 
-unfoldable pub tookEffect : Past → ℕ → Update → Bool
-tookEffect p role u = eqb (reasonAt p role u) 0
+unfoldable pub succeeds : Past → ℕ → Update → Bool
+succeeds p role u = eqb (reasonAt p role u) 0
 
--- the past after one more update, and after several
+-- the past after one more update, and after several: each is judged after those before it
 unfoldable pub noteUpdate : Past → ℕ → Update → Past
 noteUpdate p role u =
-    record { control = p .control; effects = if tookEffect p role u then p .effects ++ (effectOf u ∷ []) else p .effects }
+    record { control = p .control; effects = if succeeds p role u then p .effects ++ (effectOf u ∷ []) else p .effects }
 
 unfoldable pub noteUpdates : Past → ℕ → List Update → Past
 noteUpdates p role [] = p
 noteUpdates p role (u ∷ us) = noteUpdates (noteUpdate p role u) role us
+
+-- an update of the batch fails, each judged after those before it
+unfoldable pub someFails : Past → ℕ → List Update → Bool
+someFails p role [] = false
+someFails p role (u ∷ us) = not (succeeds p role u) || someFails (noteUpdate p role u) role us
+
+-- An update u of a batch *took effect*: with atomicity 0 where it succeeds after the earlier ones, with atomicity 1 where no update
+-- of the batch fails (document 02, request Two).
+unfoldable pub tookEffect : Past → ℕ → ℕ → List Update → Update → List Update → Bool
+tookEffect p role atomicity earlier u later =
+    if eqb atomicity 1 then not (someFails p role (earlier ++ u ∷ later)) else succeeds (noteUpdates p role earlier) role u
+
+-- a batch is rolled back; then no update of it is counted
+abbrev pub rollsBack : Past → ℕ → ℕ → List Update → Bool
+rollsBack p role atomicity us = eqb atomicity 1 && someFails p role us
+
+unfoldable pub noteBatch : Past → ℕ → ℕ → List Update → Past
+noteBatch p role atomicity us = if rollsBack p role atomicity us then p else noteUpdates p role us
 
 -- what an accepted call adds to the effects
 unfoldable pub noted : Past → Command → List Effect
@@ -100,7 +118,7 @@ noted p (OPEN n) = p .effects
 noted p (CLOSE n) = p .effects
 noted p (ARBITRATE n h) = p .effects
 noted p (CONFIGURE h rows) = p .effects ++ (cleared ∷ [])
-noted p (WRITE h atomicity us) = noteUpdates p (h .role) us .effects
+noted p (WRITE h atomicity us) = noteBatch p (h .role) atomicity us .effects
 noted p (READ q) = p .effects
 
 -- the past after one more call, and after a list of them, refused ones included
@@ -116,15 +134,21 @@ lookBack p (c ∷ cs) = lookBack (note p c) cs
 
 -- ---- what each call answers
 
--- the pairs of a WRITE: each update after those before it in the batch
-unfoldable pub pairsSeen : Past → ℕ → List Update → List (List ℕ)
-pairsSeen p role [] = []
-pairsSeen p role (u ∷ us) = pairOf (reasonAt p role u) ∷ pairsSeen (noteUpdate p role u) role us
+-- the pairs of a batch that is not rolled back: each update after those before it
+unfoldable pub pairsAlone : Past → ℕ → List Update → List (List ℕ)
+pairsAlone p role [] = []
+pairsAlone p role (u ∷ us) = pairOf (reasonAt p role u) ∷ pairsAlone (noteUpdate p role u) role us
 
--- an update of the batch failed
-unfoldable pub someFailed : Past → ℕ → List Update → Bool
-someFailed p role [] = false
-someFailed p role (u ∷ us) = not (tookEffect p role u) || someFailed (noteUpdate p role u) role us
+-- and of one that is: 25 for the updates that succeed, its own reason for the first that fails, 25 for all after that
+unfoldable pub pairsRolledBack : Past → ℕ → List Update → List (List ℕ)
+pairsRolledBack p role [] = []
+pairsRolledBack p role (u ∷ us) =
+    if succeeds p role u then pairOf 25 ∷ pairsRolledBack (noteUpdate p role u) role us else
+    pairOf (reasonAt p role u) ∷ map (λ (v : Update). pairOf 25) us
+
+-- the pairs of a WRITE
+unfoldable pub pairsSeen : Past → ℕ → ℕ → List Update → List (List ℕ)
+pairsSeen p role atomicity us = if rollsBack p role atomicity us then pairsRolledBack p role us else pairsAlone p role us
 
 abbrev pub named : Query → Bool
 named q = not (eqb (q .table) 0)
@@ -152,7 +176,7 @@ answerSeen p (ARBITRATE n h) = heard (arbitrate (p .control .device) (p .control
 answerSeen p (CONFIGURE h rows) = plain (refusal (shows p) (CONFIGURE h rows))
 answerSeen p (WRITE h atomicity us) =
     if accepted (shows p) (WRITE h atomicity us)
-    then record { reason = if someFailed p (h .role) us then 23 else 0; records = pairsSeen p (h .role) us }
+    then record { reason = if someFails p (h .role) us then 23 else 0; records = pairsSeen p (h .role) atomicity us }
     else plain (refusal (shows p) (WRITE h atomicity us))
 answerSeen p (READ q) =
     if accepted (shows p) (READ q)

@@ -225,6 +225,10 @@ told s role status mark = toldLong s role status (id16 mark)
 abbrev pub done : List ℕ
 done = 0 ∷ 0 ∷ []
 
+-- and of one that was rolled back or never tried, another of its batch having failed
+abbrev pub rolledBack : List ℕ
+rolledBack = 25 ∷ 10 ∷ []
+
 -- ---- frames with their answers
 
 -- Each frame, sent by itself after the frames fs, gets the answer beside it.
@@ -235,12 +239,18 @@ Each fs cases = map (λ (c : List ℕ × Reply). answerTo fs (c .0)) cases ≡ m
 abbrev pub InTurn : List (List ℕ) → List (List ℕ × Reply) → Type 0
 InTurn fs cases = answers (after fs) (map (λ (c : List ℕ × Reply). c .0) cases) ≡ map (λ (c : List ℕ × Reply). c .1) cases
 
--- A WRITE of updates and its answer, the pair of each update beside it.
-abbrev pub batch! : List ℕ → ℕ → ℕ → ℕ → List (List ℕ × List ℕ) → List ℕ × Reply
-batch! h reason code count cases = (
-  write! h 0 (map (λ (c : List ℕ × List ℕ). c .0) cases),
+-- A WRITE of updates, of atomicity 0 or 1, and its answer, the pair of each update beside it.
+abbrev pub batchOf! : ℕ → List ℕ → ℕ → ℕ → ℕ → List (List ℕ × List ℕ) → List ℕ × Reply
+batchOf! atomicity h reason code count cases = (
+  write! h atomicity (map (λ (c : List ℕ × List ℕ). c .0) cases),
   bytes reason code count (map (λ (c : List ℕ × List ℕ). c .1) cases),
 )
+
+abbrev pub batch! : List ℕ → ℕ → ℕ → ℕ → List (List ℕ × List ℕ) → List ℕ × Reply
+batch! = batchOf! 0
+
+abbrev pub atomic! : List ℕ → ℕ → ℕ → ℕ → List (List ℕ × List ℕ) → List ℕ × Reply
+atomic! = batchOf! 1
 
 -- one answer, or one pair, for all of them
 module _ {A : Type 0} where
