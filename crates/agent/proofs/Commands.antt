@@ -166,27 +166,27 @@ module _ (a : Agent) (h : Head) (rows : List (List ℕ)) where
 module _ (a : Agent) (h : Head) (atomicity : ℕ) where
   pub write-order : {here primary empty : Bool} {r : ℕ} → here ≡ eqb (h .device) (a .device)
       → primary ≡ streams.byPrimary (controlOf a .streams) (h .role) (h .id) → empty ≡ unconfigured (controlOf a .rows)
-      → r ≡ first ((not here, 5) ∷ (ltb 7 (h .role), 6) ∷ (not primary, 10) ∷ (empty, 12) ∷ (ltb 0 atomicity, 13) ∷ [])
+      → r ≡ first ((not here, 5) ∷ (ltb 7 (h .role), 6) ∷ (not primary, 10) ∷ (empty, 12) ∷ (ltb 1 atomicity, 13) ∷ [])
       → writeReason (controlOf a) h atomicity ≡ r
   unfolding writeReason
   write-order e p u q = rw (q, e, p, u)
 
   pub was-written : (us : List Update) (store store′ d out : List ℕ) (r : Wrote) (w : Written) → writeReason (controlOf a) h atomicity ≡ 0
-      → BatchApplied (controlOf a .rows) (h .role) (a .count) store store′ us w
+      → BatchApplied (batchOf (flat a store) h atomicity us) store store′ w
       → r .count ≡ w .count → r .reason ≡ (if w .failed then 23 else 0)
-      → out ≡ splice d 0 (answerBytes (record { reason = r .reason; records = map pairOf (batchOf (flat a store) h us .reasons) }))
+      → out ≡ splice d 0 (answerBytes (record { reason = r .reason; records = map pairOf (batchOf (flat a store) h atomicity us .reasons) }))
       → Correct Flat (atTables a (tablesIn (a .count) store)) (WRITE h atomicity us) (memory a store) d (result (wrote a r) store′ out)
   unfolding next nextControl nextTables answer refusal
   was-written us store store′ d out r w e b c q o =
-      let told : r .reason ≡ headOf (batchOf (flat a store) h us .reasons) = q ∙ head-told (every (eqb 0) (batchOf (flat a store) h us .reasons)) (b .failed) in
-      let x : Answer = record { reason = headOf (batchOf (flat a store) h us .reasons); records = map pairOf (batchOf (flat a store) h us .reasons) } in
+      let told : r .reason ≡ headOf (batchOf (flat a store) h atomicity us .reasons) = q ∙ head-told (every (eqb 0) (batchOf (flat a store) h atomicity us .reasons)) (b .failed) in
+      let x : Answer = record { reason = headOf (batchOf (flat a store) h atomicity us .reasons); records = map pairOf (batchOf (flat a store) h atomicity us .reasons) } in
       let y : answer (flat a store) (WRITE h atomicity us) ≡ x = rw e in
-      let i : entriesIn (w .count) store′ ≡ batchOf (flat a store) h us .tables .entries = b .left .holds in
+      let i : entriesIn (w .count) store′ ≡ batchOf (flat a store) h atomicity us .tables .entries = b .left .holds in
       record {
         state = record { control = refl; tables = rw e (ap (λ (l : List (List ℕ)). record { entries = l }) (ap (λ (n : ℕ). entriesIn n store′) c ∙ i)) };
         returned = replies (flat a store) (WRITE h atomicity us) x y told;
         filled = fills (flat a store) (WRITE h atomicity us) x y d (λ z. let w : _≡_ {A = ℕ} 0 1 = cc in omega arith)
-            (o ∙ ap (λ (m : ℕ). splice d 0 (answerBytes (record { reason = m; records = map pairOf (batchOf (flat a store) h us .reasons) }))) told);
+            (o ∙ ap (λ (m : ℕ). splice d 0 (answerBytes (record { reason = m; records = map pairOf (batchOf (flat a store) h atomicity us .reasons) }))) told);
         room = b .left .room;
         beyond = b .left .beyond;
         untouched = λ z. absurd (true≢false (sym (eq-eqb (writeReason (controlOf a) h atomicity) 0 e) ∙ z));

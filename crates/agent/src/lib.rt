@@ -62,7 +62,7 @@ pub struct Wrote {
 
 // 5, 6, 10, 12 and 13.
 fn write_reason(here: bool, role: u8, primary: bool, unconfigured: bool, atomicity: u8) -> u8
-    ensures { λ r. ⌜ r ≡ first ((not here, 5) ∷ (ltb 7 role, 6) ∷ (not primary, 10) ∷ (unconfigured, 12) ∷ (ltb 0 atomicity, 13) ∷ []) ⌝ }
+    ensures { λ r. ⌜ r ≡ first ((not here, 5) ∷ (ltb 7 role, 6) ∷ (not primary, 10) ∷ (unconfigured, 12) ∷ (ltb 1 atomicity, 13) ∷ []) ⌝ }
 {
     if !here {
         return 5;
@@ -76,7 +76,7 @@ fn write_reason(here: bool, role: u8, primary: bool, unconfigured: bool, atomici
     if unconfigured {
         return 12;
     }
-    if 0 < atomicity {
+    if 1 < atomicity {
         return 13;
     }
     0
@@ -92,7 +92,7 @@ fn head_reason(failed: bool) -> u8
     0
 }
 
-// Takes the updates in order; their pairs stand from byte 4 on, and before them the head.
+// Takes the updates in order, by their atomicity; their pairs are from byte 4 on, and before them the head.
 fn write(
     agent: Agent,
     head: Head,
@@ -118,7 +118,16 @@ fn write(
             reason: refused,
         };
     }
-    let done = entry_store::batch(rows, head.role, store, count, updates, n, &mut answer[4..]);
+    let done = entry_store::batch(
+        rows,
+        head.role,
+        atomicity,
+        store,
+        count,
+        updates,
+        n,
+        &mut answer[4..],
+    );
     let reason = head_reason(done.failed);
     answers::write_head(reason, n, answer);
     Wrote {

@@ -80,16 +80,16 @@ returns-2 c =
     let g = c .before .before .before .before .head-reason in
     let h = c .before .before .write-head2 in
     let us = updatesIn (a .n) (now (a .updates)) in
-    let rs = batchOf (flat (a .agent) (now (a .store))) (headOf (a .head)) us .reasons in
+    let rs = batchOf (flat (a .agent) (now (a .store))) (headOf (a .head)) (a .atomicity) us .reasons in
     let n : a .n ≡ length (map pairOf rs) =
-    sym (length-map rs pairOf ∙ reasons-count (rowsOf (a .agent .rows)) (a .head .role) (tablesIn (a .agent .count) (now (a .store))) us
+    sym (length-map rs pairOf ∙ reasons-count (a .atomicity) (rowsOf (a .agent .rows)) (a .head .role) (tablesIn (a .agent .count) (now (a .store))) us
     ∙ length-map (parts (a .n) 221 (now (a .updates))) updateOf ∙ parts-count (a .n) 221 (now (a .updates))) in
-    flat-handles (a .agent) _ (now (a .store)) (now (a .answer)) _ (b .last .1 .1 .0) (h .last .1 .1 .0) (λ k.
+    flat-handles (a .agent) _ (now (a .store)) (now (a .answer)) _ (b .last .1 .1 .1 .0) (h .last .1 .1 .0) (λ k.
     let t = tidy (a .agent) (now (a .store)) k in
-    was-written (a .agent) (headOf (a .head)) (a .atomicity) us (now (a .store)) (b .last .1 .1 .0) (now (a .answer)) (h .last .1 .1 .0)
+    was-written (a .agent) (headOf (a .head)) (a .atomicity) us (now (a .store)) (b .last .1 .1 .1 .0) (now (a .answer)) (h .last .1 .1 .0)
     (record { count = b .result .count; reason = g .result }) (b .result) (order (c .before .before .before .before .before .before .before .before .before .before .before .before .before) ∙ c .before .before .before .before .before .before .before .before .before .before .before .before .if1 .left) (b .ensures .0 t) refl (g .ensures)
-    (records-then-head (g .result) (a .n) (map pairOf rs) (now (a .answer)) (b .last .1 .1 .1 .1 .1 .1 .0) (h .last .1 .1 .0) (omega (arith, c .before .before .before .before .before .before .before .before .before .before .before .before .before .before .before .before .before .before .before .before .before .before .before .pre .3))
-    n (b .kept .1 .1 .1 .1 .1 .1 .0) (b .ensures .1 t) (h .ensures)))
+    (records-then-head (g .result) (a .n) (map pairOf rs) (now (a .answer)) (b .last .1 .1 .1 .1 .1 .1 .1 .0) (h .last .1 .1 .0) (omega (arith, c .before .before .before .before .before .before .before .before .before .before .before .before .before .before .before .before .before .before .before .before .before .before .before .pre .3))
+    n (b .kept .1 .1 .1 .1 .1 .1 .1 .0) (b .ensures .1 t) (h .ensures)))
 
 pub write-spec : {M : Type 1} → statement M
 write-spec =
