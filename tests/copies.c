@@ -1,10 +1,13 @@
 /* Counts the copies of memory in one call of each kind: memcpy and memmove are replaced by ones that count. Prints a table, with the
- * counts of the library's first version beside it (docs/SPEED.md). Exit status 0: no call makes more than half as many copies as it
- * did then, nor moves more than half as many bytes.
+ * counts of the library's first version beside it (docs/SPEED.md). Each call is made on a stack of its own, of which it is seen
+ * afterwards how much was used. Exit status 0: no call makes more than half as many copies as it did then, nor moves more than half as
+ * many bytes, and none uses more stack than the header says.
  * cc -std=c11 -O1 -fno-builtin -Iinclude tests/copies.c target/staticlib/libsavorylatch.a -o copies && ./copies */
+#define _XOPEN_SOURCE 700
 #include "savorylatch.h"
 
 #include <stdio.h>
+#include <ucontext.h>
 
 static savorylatch_agent agent;
 static uint8_t store[SAVORYLATCH_STORE], answer[SAVORYLATCH_ANSWER], frame[SAVORYLATCH_FRAME];
@@ -138,12 +141,47 @@ static size_t but(size_t length, size_t at, uint8_t byte) {
     return length;
 }
 
+/* ---- the stack */
+
+enum { UNUSED = 0xA5 };
+static uint8_t stack[1 << 17];
+static ucontext_t here, there;
+static size_t length, buffer, deepest;
+static uint8_t returned;
+
+static void on_stack(void) {
+    returned = savorylatch_call(&agent, frame, length, store, sizeof store, answer, buffer);
+}
+
+/* One call on a stack that is marked beforehand; it grows down, so that the marks that are left are at its start. */
+static uint8_t call_in(size_t frame_length, size_t buffer_length) {
+    length = frame_length;
+    buffer = buffer_length;
+    for (size_t i = 0; i < sizeof stack; i++) {
+        stack[i] = UNUSED;
+    }
+    getcontext(&there);
+    there.uc_stack.ss_sp = stack;
+    there.uc_stack.ss_size = sizeof stack;
+    there.uc_link = &here;
+    makecontext(&there, on_stack, 0);
+    swapcontext(&here, &there);
+    size_t left = 0;
+    while (left < sizeof stack && stack[left] == UNUSED) {
+        left++;
+    }
+    if (deepest < sizeof stack - left) {
+        deepest = sizeof stack - left;
+    }
+    return returned;
+}
+
 /* ---- the table */
 
 static int failed;
 
 static uint8_t call(size_t length) {
-    return savorylatch_call(&agent, frame, length, store, sizeof store, answer, sizeof answer);
+    return call_in(length, sizeof answer);
 }
 
 static void counted(const char *what, unsigned reason, unsigned returned, size_t first, size_t first_bytes) {
@@ -226,7 +264,7 @@ static void refused_events(void) {
 
 static void malformed(void) {
     kinds = 0;
-    counted("answer buffer too short", 2, savorylatch_call(&agent, frame, write(1, 0, 9, 0, 1, 1), store, sizeof store, answer, 57343), 3, 4392);
+    counted("answer buffer too short", 2, call_in(write(1, 0, 9, 0, 1, 1), 57343), 3, 4392);
     row("no byte", 1, 0, 3, 4392);
     row("command 07", 1, start(7), 3, 4392);
     row("OPEN, malformed", 1, event(1, 32), 3, 4392);
@@ -274,5 +312,6 @@ int main(void) {
     events();
     refused_events();
     commands();
-    return failed;
+    printf("stack: %zu bytes at most, where the header says %d\n", deepest, SAVORYLATCH_STACK);
+    return failed || deepest > SAVORYLATCH_STACK;
 }
