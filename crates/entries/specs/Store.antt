@@ -35,6 +35,10 @@ placeOf Absent = none
 abbrev pub without : ℕ → List (List ℕ) → List (List ℕ)
 without i es = take i es ++ drop (suc i) es
 
+-- a list with an element put in before its element i, the opposite of `without`
+abbrev pub insertedAt : ℕ → List ℕ → List (List ℕ) → List (List ℕ)
+insertedAt i e es = take i es ++ (e ∷ drop i es)
+
 -- After a change the store holds these entries, is as long as before, and its bytes from 56,320 on are untouched.
 pub record Left (before after : List ℕ) (count : ℕ) (entries : List (List ℕ)) : Type 0 where
   pub holds : entriesIn count after ≡ entries

@@ -1,11 +1,11 @@
-// The store of entries in shortest form: key search, counting, deletion, and gathering for READ.
+// The store of entries in shortest form: key search, counting, deletion, undoing, and gathering for READ.
 ghost use mathlib.Core.Path.{_≡_};
 ghost use Prim.Native.Nat.{_+_, _*_, _-_, _/_, _≤_, _<_, min};
-ghost use lib.ListN.{length, take};
+ghost use lib.ListN.{length, take, set};
 ghost use Rattle.rules.specs.Bytes.{keep, concat, part, same};
 ghost use Rattle.rules.specs.Update.{inTable, held as heldIn};
 ghost use Rattle.buffers.specs.Splice.{splice};
-ghost use Rattle.entries.specs.Store.{entriesIn, tablesIn, place, placeOf, without, Left};
+ghost use Rattle.entries.specs.Store.{entriesIn, tablesIn, place, placeOf, without, insertedAt, Left};
 use numbers::integer;
 
 // Where the entry of a key is.
@@ -73,6 +73,28 @@ pub fn remove(store: &mut [u8], count: usize, i: usize)
     let from = to + 220;
     let end = 220 * count;
     buffers::move_down(store, to, from, end - from);
+}
+
+// Puts an entry in before entry i: the later entries move up.
+pub fn put_back(store: &mut [u8], count: usize, i: usize, entry: &[u8])
+    requires { ⌜ (i ≤ count) × (count < 256) × (56320 ≤ length (now store)) × (length (now entry) ≡ 220) ⌝ }
+    ensures { λ _. ⌜ Left (now (store .entry)) (now (store .exit)) (count + 1) (insertedAt i (now (entry .entry)) (entriesIn count (now (store .entry)))) ⌝ }
+{
+    let at = 220 * i;
+    let to = at + 220;
+    let end = 220 * count;
+    buffers::move_up(store, at, to, end - at);
+    buffers::copy(entry, &mut store[at..to]);
+}
+
+// Writes an entry over entry i.
+pub fn replace(store: &mut [u8], count: usize, i: usize, entry: &[u8])
+    requires { ⌜ (i < count) × (count ≤ 256) × (56320 ≤ length (now store)) × (length (now entry) ≡ 220) ⌝ }
+    ensures { λ _. ⌜ Left (now (store .entry)) (now (store .exit)) count (set (entriesIn count (now (store .entry))) i (now (entry .entry))) ⌝ }
+{
+    let at = 220 * i;
+    let end = at + 220;
+    buffers::copy(entry, &mut store[at..end]);
 }
 
 // Copies an entry to the start of dst: a record of 220 bytes.

@@ -1,2 +1,3 @@
--- What an update is judged by, and what it leaves.
+-- What an update is judged by, what it leaves, and what undoing it leaves.
 pub mod Update
+pub mod Undo

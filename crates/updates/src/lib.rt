@@ -1,10 +1,10 @@
-// One update, judged and applied (document 01, "The maker of an update").
+// One update, judged and applied (document 01, "The maker of an update"), and undone (document 02, request Two).
 ghost use mathlib.Core.Path.{_≡_};
 ghost use mathlib.Core.Bool.{false, _&&_, not};
 ghost use mathlib.Core.List.{[], _∷_, _++_};
-ghost use Prim.Native.Nat.{_+_, _*_, _≤_, _<_};
+ghost use Prim.Native.Nat.{_+_, _*_, _-_, _≤_, _<_};
 ghost use lib.ListN.{length, drop, getD, set};
-ghost use Rattle.rules.specs.Bytes.{if_then_else_, byte};
+ghost use Rattle.rules.specs.Bytes.{if_then_else_, byte, part};
 ghost use Rattle.rules.specs.Reason.{first};
 ghost use Rattle.rules.specs.Frame.{updateOf};
 ghost use lib.Dec.{leb};
@@ -13,6 +13,7 @@ ghost use Rattle.rules.specs.Entry.{actionFormed, actionFits, shortEntry};
 ghost use Rattle.rules.specs.Update.{isInsert, held as heldIn, judgeBy};
 ghost use Rattle.rows.specs.Meaning.{rowOf};
 ghost use Rattle.entries.specs.Store.{entriesIn, tablesIn, place, placeOf, Left};
+ghost use Rattle.updates.specs.Undo.{noteOf, noted, Undone};
 ghost use Rattle.updates.specs.Update.{entryReason, placeReason, reasonOf, Meant, changed, Performed, Applied};
 use entries::Found;
 use numbers::integer;
@@ -226,6 +227,80 @@ pub fn apply(verdict: Verdict, store: &mut [u8], count: usize, update: &[u8]) ->
     ensures left { λ r. ⌜ Applied verdict (now (update .entry)) count (now (store .entry)) (now (store .exit)) r ⌝ }
 {
     perform(verdict, store, count, &update[1..])
+}
+
+// ---- undoing
+
+// Notes entry i as it is: a note of 222 bytes.
+fn note_entry(kind: u8, store: &[u8], i: usize, note: &mut [u8])
+    requires { ⌜ (i < 256) × (220 * i + 220 ≤ length (now store)) × (length (now note) ≡ 222) ⌝ }
+    ensures { λ _. ⌜ now (note .exit) ≡ kind ∷ i ∷ part (220 * i) 220 (now (store .entry)) ⌝ }
+{
+    let from = 220 * i;
+    let end = from + 220;
+    note[0] = kind;
+    note[1] = i as u8;
+    buffers::copy(&store[from..end], &mut note[2..222]);
+}
+
+// Notes what doing a verdict will do, so that it can be undone.
+pub fn note(verdict: Verdict, store: &[u8], count: usize, note: &mut [u8])
+    requires { ⌜ (count ≤ 256) × (56320 ≤ length (now store)) × (length (now note) ≡ 222) ⌝ }
+    ensures { λ _. ⌜ now (note .exit) ≡ noted verdict count (now (store .entry)) (now (note .entry)) ⌝ }
+{
+    match verdict {
+        Verdict::Refused(_) => {}
+        Verdict::Insert => {
+            note[0] = 1;
+        }
+        Verdict::Modify(i) => {
+            if i < count {
+                note_entry(2, store, i, note);
+            }
+        }
+        Verdict::Delete(i) => {
+            if i < count {
+                note_entry(3, store, i, note);
+            }
+        }
+    }
+}
+
+// One less than n, and 0 of 0.
+fn one_less(n: usize) -> usize
+    ensures { λ r. ⌜ r ≡ n - 1 ⌝ }
+{
+    if n == 0 {
+        return 0;
+    }
+    n - 1
+}
+
+// Undoes what was noted last; the number of entries then.
+pub fn undo(note: &[u8], store: &mut [u8], count: usize) -> usize
+    requires { ⌜ (count ≤ 256) × (56320 ≤ length (now store)) × (length (now note) ≡ 222) ⌝ }
+    ensures bound { λ r. ⌜ r ≤ 256 ⌝ }
+    ensures left { λ r. ⌜ Undone (noteOf (now (note .entry))) count (now (store .entry)) (now (store .exit)) r ⌝ }
+{
+    let kind = note[0];
+    let i = buffers::wide(note[1]) as usize;
+    if kind == 1 {
+        return one_less(count);
+    }
+    if kind == 2 {
+        if i < count {
+            entries::replace(store, count, i, &note[2..222]);
+        }
+        return count;
+    }
+    if 256 <= count {
+        return count;
+    }
+    if count < i {
+        return count;
+    }
+    entries::put_back(store, count, i, &note[2..222]);
+    count + 1
 }
 
 impl Verdict {
