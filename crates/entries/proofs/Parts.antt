@@ -1,4 +1,4 @@
--- Entries are parts of one width: where one stands, and what writing over a part, behind the last, or over a gap leaves.
+-- Entries are parts of one width: where one stands, and what writing over a part, before one, behind the last, or over a gap leaves.
 -- Assumes nothing.
 use Prim.Native.Nat.{ℕ, zero, suc, _+_, _*_, _-_, _≤_, _<_}
 use native.Mathlib.Nat.{add-zero}
@@ -11,7 +11,7 @@ use Rattle.rules.proofs.Lists.{parts-from}
 use Rattle.rules.specs.Bytes.{part, parts}
 use Rattle.buffers.specs.Splice.{splice}
 use Rattle.buffers.proofs.Splice.{take-splice, splice-front, length-splice, part-splice, part-back, length-window}
-use Rattle.entries.specs.Store.{without}
+use Rattle.entries.specs.Store.{without, insertedAt}
 
 -- ---- where a part stands
 
@@ -102,3 +102,28 @@ parts-close (suc i) (suc n) w k l h g e =
     let r : parts n w (splice (drop w l) (w * i) (take k (drop (w * suc i + w) l))) ≡ without i (parts (suc n) w (drop w l)) =
     rw (a, ← drop-drop (w * i + w) w l) (parts-close i n w k (drop w l) (omega arith) (omega arith) (omega arith)) in
     behind-first i n w l (take k (drop (w * suc i + w) l)) _ (omega arith) r
+
+-- the parts from part i on moved up by one, and a part written before them
+pub parts-open : (i n w : ℕ) (l e : List ℕ) (k : ℕ) → i ≤ n → w * n ≤ length l → w * i + k ≡ w * n → length e ≡ w
+    → parts (suc n) w (splice l (w * i) (e ++ take k (drop (w * i) l))) ≡ insertedAt i e (parts n w l)
+unfolding parts
+parts-open zero n w l e k h g m s =
+    let z : w * 0 ≡ 0 = omega arith in
+    let q : k ≡ w * n = omega arith in
+    let ys : List ℕ = e ++ take (w * n) l in
+    rw (z, q, splice-front l ys, append-assoc, take-at e (take (w * n) l ++ drop (length ys) l) w s, drop-at e (take (w * n) l ++ drop (length ys) l) w s)
+    (ap {B = List (List ℕ)} (λ r. e ∷ r) (parts-front n w l _ g))
+parts-open (suc i) zero w l e k h g m s = absurd (omega arith)
+parts-open (suc i) (suc n) w l e k h g m s =
+    let a : w * suc i ≡ w + w * i = omega arith in
+    let d : length (drop w l) ≡ length l - w = length-drop w l in
+    let r : parts (suc n) w (splice (drop w l) (w * i) (e ++ take k (drop (w * suc i) l))) ≡ insertedAt i e (parts n w (drop w l)) =
+    rw (a, ← drop-drop (w * i) w l) (parts-open i n w (drop w l) e k (omega arith) (omega arith) (omega arith) s) in
+    behind-first i (suc n) w l (e ++ take k (drop (w * suc i) l)) _ (omega arith) r
+
+-- the first m of n parts
+pub parts-fewer : (m n w : ℕ) (l : List ℕ) → m ≤ n → take m (parts n w l) ≡ parts m w l
+unfolding parts
+parts-fewer zero n w l h = refl
+parts-fewer (suc m) zero w l h = absurd (omega arith)
+parts-fewer (suc m) (suc n) w l h = ap {B = List (List ℕ)} (λ r. take w l ∷ r) (parts-fewer m n w (drop w l) (omega arith))
