@@ -2,3 +2,4 @@
 pub mod Verdicts
 pub mod Judging
 pub mod Updates
+pub mod Undoing

@@ -1,0 +1,102 @@
+-- Right because an INSERT needs no more than its type, and the others the entry that they found. Assumes nothing.
+use native.Mathlib.Omega.{arith}
+use Prim.Native.Nat.{ℕ, _<_}
+use denote.Ref.{now}
+use mathlib.Core.Path.{_≡_, refl, sym, ap, _∙_}
+use mathlib.Core.List.{List, _∷_}
+use Rattle.entries.proofs.Parts.{parts-at}
+use Rattle.updates.proofs.Undoing.{type-written, noted-inside, noted-outside}
+use borrow.Author.Needs.{needs}
+use Rattle.updates.proofs.note.Statement.{statement}
+use Rattle.updates.proofs.note.Tie as tie
+
+enum-told : tie.Need-enum-told
+enum-told c = search needs
+
+enum-told-2 : tie.Need-enum-told-2
+enum-told-2 c = search needs
+
+slice-write-note : tie.Need-slice-write-note
+slice-write-note c = search needs
+
+enum-known-verdict : tie.Need-enum-known-verdict
+enum-known-verdict c = search needs
+
+note-entry-requires : tie.Need-note-entry-requires
+note-entry-requires c κs = search needs
+
+enum-known-verdict-2 : tie.Need-enum-known-verdict-2
+enum-known-verdict-2 c = search needs
+
+note-entry-requires-2 : tie.Need-note-entry-requires-2
+note-entry-requires-2 c κs = search needs
+
+returns : tie.Need-returns
+returns c = rw (c .enum-told .given .1) refl
+
+same-length : tie.Need-same-length
+same-length c = search needs
+
+returns-2 : tie.Need-returns-2
+returns-2 c = rw (c .enum-told2 .given .1) (type-written (now (c .before .before .before .before .args .note)) 1 (search needs))
+
+same-length-2 : tie.Need-same-length-2
+same-length-2 c = search needs
+
+returns-3 : tie.Need-returns-3
+returns-3 c =
+    let a = c .before .before .before .before .before .before .before .before .before .before .args in
+    let v = c .before .before .before .before .before .before .verdict in
+    let i : ℕ = v .given .0 .0 in
+    let h : i < a .count = omega arith in
+    rw (v .given .1)
+    (c .before .before .note-entry .ensures
+    ∙ ap (λ (e : List ℕ). 2 ∷ i ∷ e) (sym (parts-at i (a .count) 220 (now (a .store)) h))
+    ∙ sym (noted-inside (a .count) i (now (a .store)) (now (a .note)) h .0))
+
+returns-4 : tie.Need-returns-4
+returns-4 c =
+    let a = c .before .before .before .before .before .before .args in
+    let v = c .before .before .verdict in
+    rw (v .given .1) (sym (noted-outside (a .count) (v .given .0 .0) (now (a .store)) (now (a .note)) (omega arith) .0))
+
+same-length-3 : tie.Need-same-length-3
+same-length-3 c = search needs
+
+returns-5 : tie.Need-returns-5
+returns-5 c =
+    let a = c .before .before .before .before .before .before .before .before .before .before .args in
+    let v = c .before .before .before .before .before .before .verdict2 in
+    let i : ℕ = v .given .0 .0 in
+    let h : i < a .count = omega arith in
+    rw (v .given .1)
+    (c .before .before .note-entry2 .ensures
+    ∙ ap (λ (e : List ℕ). 3 ∷ i ∷ e) (sym (parts-at i (a .count) 220 (now (a .store)) h))
+    ∙ sym (noted-inside (a .count) i (now (a .store)) (now (a .note)) h .1))
+
+returns-6 : tie.Need-returns-6
+returns-6 c =
+    let a = c .before .before .before .before .before .before .args in
+    let v = c .before .before .verdict2 in
+    rw (v .given .1) (sym (noted-outside (a .count) (v .given .0 .0) (now (a .store)) (now (a .note)) (omega arith) .1))
+
+pub note-spec : {M : Type 1} → statement M
+note-spec =
+    tie.close
+    (tie.spec
+    enum-told
+    enum-told-2
+    slice-write-note
+    enum-known-verdict
+    note-entry-requires
+    enum-known-verdict-2
+    note-entry-requires-2
+    returns
+    same-length
+    returns-2
+    same-length-2
+    returns-3
+    returns-4
+    same-length-3
+    returns-5
+    returns-6)
