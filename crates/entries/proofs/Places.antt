@@ -13,8 +13,9 @@ use Rattle.rules.specs.Key.{keyOf, hasKey}
 use Rattle.rules.specs.Update.{stored}
 use Rattle.rules.specs.Sound.{Distinct}
 use Rattle.rules.proofs.Tests.{or-false, same-true}
+use Rattle.rules.proofs.Formed.{parts-count}
 use Rattle.rules.proofs.Tables.{Free}
-use Rattle.entries.specs.Store.{placeFrom, place, without}
+use Rattle.entries.specs.Store.{entriesIn, placeFrom, place, without}
 
 -- entry i is the first that has the key
 data At (k : List ℕ) : List (List ℕ) → ℕ → Type 0 where
@@ -64,6 +65,10 @@ pub place-stored : (k : List ℕ) (es : List (List ℕ))
     → (i < length es) × (stored k (record { entries = es }) ≡ true) × (hasKey k (getD es i []) ≡ true))
 unfolding stored
 place-stored k es = (free k 0 es, λ i p. let a = at k es i p in (inside a, is-stored a, has-key a))
+
+-- the place found in a store is that of one of its entries
+pub place-below : (k : List ℕ) (count : ℕ) (store : List ℕ) (i : ℕ) → place k (entriesIn count store) ≡ some i → i < count
+place-below k count store i p = omega (arith, place-stored k (entriesIn count store) .1 i p .0, parts-count count 220 store)
 
 -- ---- entries without the key
 

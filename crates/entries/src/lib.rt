@@ -1,4 +1,4 @@
-// The store of entries in shortest form: key search, counting, deletion, undoing, and gathering for READ.
+// The store of entries in shortest form: key search, counting, deletion, putting back, and gathering for READ.
 ghost use mathlib.Core.Path.{_≡_};
 ghost use Prim.Native.Nat.{_+_, _*_, _-_, _/_, _≤_, _<_, min};
 ghost use lib.ListN.{length, take, set};

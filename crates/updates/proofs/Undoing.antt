@@ -3,19 +3,17 @@ use Prim.Native.Nat.{ℕ, suc, _+_, _-_, _≤_, _<_}
 use native.Mathlib.Omega.{arith}
 use mathlib.Core.Path.{_≡_, refl, sym, ap, _∙_}
 use mathlib.Core.List.{List, [], _∷_, _++_}
-use mathlib.Core.Option.{some}
 use lib.ListN.{length, take, drop, getD, set, length-append, length-drop}
 use lib.Seq.{take-all, take-at, drop-at, split-at, set-set, set-getD, length-take-le}
 use borrow.Author.Tests.{lt-ltb, le-ltb, ne-eqb, eqb-false}
 use Rattle.rules.specs.Bytes.{byte}
 use Rattle.rules.specs.Key.{shortKey}
 use Rattle.rules.proofs.Formed.{parts-count}
-use Rattle.entries.specs.Store.{entriesIn, tablesIn, place, without, insertedAt, Left}
+use Rattle.entries.specs.Store.{entriesIn, without, Left}
 use Rattle.entries.proofs.Parts.{parts-fewer}
-use Rattle.entries.proofs.Places.{place-stored}
+use Rattle.entries.proofs.Places.{place-below}
 use Rattle.updates.specs.Undo.{Note, Added, Changed, Removed, noteOf, noted, undone, Fits, Undone, Undoing, UndoAfterApply}
-use Rattle.updates.specs.Update.{Meant, Performed}
-use Rattle.updates.specs.declared.Verdict.{Verdict}
+use Rattle.updates.specs.Update.{Performed}
 use Rattle.updates.specs.declared.Verdict.the-variants.{Refused, Insert, Modify, Delete}
 
 -- ---- undo after apply, on the entries
@@ -75,10 +73,6 @@ module _ (e : List ℕ) (count : ℕ) (before after note : List ℕ) (n : ℕ) (
   abbrev es : List (List ℕ)
   es = entriesIn count before
 
-  -- the place found is that of an entry
-  inside : (i : ℕ) → place (shortKey e) es ≡ some i → i < count
-  inside i p = omega (arith, parts-count count 220 before, place-stored (shortKey e) es .1 i p .0)
-
   insert-undone : Performed Insert count before after e n → count < 256
       → Undoing (noteOf (noted Insert count before note)) (entriesIn n after) es
   insert-undone p h =
@@ -111,9 +105,9 @@ undo-after-apply (Refused r) type e count before after note n few z m p = absurd
 undo-after-apply Insert type e count before after note n few z m p =
     insert-undone e count before after note n few p (omega (arith, m .1, parts-count count 220 before))
 undo-after-apply (Modify i) type e count before after note n few z m p =
-    modify-undone e count before after note n few i p (inside e count before after note n few i (m .2))
+    modify-undone e count before after note n few i p (place-below (shortKey e) count before i (m .2))
 undo-after-apply (Delete i) type e count before after note n few z m p =
-    delete-undone e count before after note n few i p (inside e count before after note n few i (m .2))
+    delete-undone e count before after note n few i p (place-below (shortKey e) count before i (m .2))
 
 -- ---- what undoing a note that fits leaves
 

@@ -22,7 +22,7 @@ use Rattle.rules.proofs.Formed.{parts-count}
 use Rattle.rules.proofs.Shortest.{key-of-short}
 use Rattle.rules.proofs.Tables.{revised, distinct-map, distinct-keep, distinct-snoc, keep-fewer}
 use Rattle.entries.specs.Store.{entriesIn, tablesIn, place, without, Left}
-use Rattle.entries.proofs.Places.{modify-place, delete-place, place-stored}
+use Rattle.entries.proofs.Places.{modify-place, delete-place, place-stored, place-below}
 use Rattle.updates.specs.Update.{reasonOf, Meant, changed, Performed, Tidy}
 use Rattle.updates.specs.declared.Verdict.{Verdict}
 use Rattle.updates.specs.declared.Verdict.the-variants.{Refused, Insert, Modify, Delete}
@@ -60,10 +60,6 @@ module _ (count : ℕ) (before after u : List ℕ) (long : length u ≡ 221) (d 
   whole : length (drop 1 u) ≡ 220
   whole = omega (arith, length-drop 1 u)
 
-  -- the place found is that of an entry
-  inside : (i : ℕ) → place (shortKey (drop 1 u)) (entriesIn count before) ≡ some i → i < count
-  inside i p = omega (arith, parts-count count 220 before, place-stored (shortKey (drop 1 u)) (entriesIn count before) .1 i p .0)
-
   pub performed : (v : Verdict) (n : ℕ) → Meant v (byte 0 u) (drop 1 u) (tablesIn count before)
       → Performed v count before after (drop 1 u) n
       → Left before after n (apply (reasonOf v) (updateOf u) (tablesIn count before) .entries)
@@ -71,9 +67,9 @@ module _ (count : ℕ) (before after u : List ℕ) (long : length u ≡ 221) (d 
   performed (Refused r) n m p = rw (p .0, p .1) (refused-left r (updateOf u) count before (λ z. omega arith))
   performed Insert n m p = rw (m .0) (p .0 (omega (arith, m .1, parts-count count 220 before)) .1)
   performed (Modify i) n m p =
-      rw (m .0, m .1, ← modified (drop 1 u) (entriesIn count before) i whole d (m .2)) (p .0 (inside i (m .2)) .1)
+      rw (m .0, m .1, ← modified (drop 1 u) (entriesIn count before) i whole d (m .2)) (p .0 (place-below (shortKey (drop 1 u)) count before i (m .2)) .1)
   performed (Delete i) n m p =
-      rw (m .0, m .1, ← deleted (drop 1 u) (entriesIn count before) i whole d (m .2)) (p .0 (inside i (m .2)) .1)
+      rw (m .0, m .1, ← deleted (drop 1 u) (entriesIn count before) i whole d (m .2)) (p .0 (place-below (shortKey (drop 1 u)) count before i (m .2)) .1)
 
 -- ---- an update keeps a store tidy
 

@@ -48,7 +48,7 @@ Fits Added count = 0 < count
 Fits (Changed i old) count = i < count
 Fits (Removed i old) count = (i ≤ count) × (count < 256)
 
--- What undoing a note leaves of a store. A place that no entry is at, or where the store has no room, changes nothing.
+-- what undoing a note leaves of a store; one that does not fit changes nothing
 abbrev pub Undone : Note → ℕ → List ℕ → List ℕ → ℕ → Type 0
 Undone Added count before after n = (n ≡ count - 1) × (after ≡ before)
 Undone (Changed i old) count before after n =
