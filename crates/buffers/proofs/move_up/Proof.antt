@@ -1,5 +1,5 @@
--- Right because a byte is read before the write that runs down behind it can reach it. Assumes nothing.
-use lib.ListN.{length-set, length-drop, length, take, drop, getD, set, drop-of-length-le}
+-- Right because, from the last byte down, each is read before a write reaches it. Assumes nothing.
+use lib.ListN.{length-set, length, take, drop, getD, set, drop-of-length-le}
 use lib.Seq.{getD-drop, getD-take}
 use Rattle.buffers.proofs.Splice.{getD-splice-before, splice-none, splice-less, length-window}
 use native.Mathlib.Nat.{add-zero}

@@ -1,9 +1,7 @@
 -- Right because the entry is written over the bytes of entry i. Assumes nothing.
 use Prim.Native.Nat.{ℕ, _+_, _*_, _-_}
 use native.Mathlib.Omega.{arith}
-use mathlib.Core.Path.{_≡_}
 use mathlib.Core.List.{List}
-use lib.ListN.{length}
 use denote.Ref.{now}
 use Rattle.buffers.proofs.Splice.{part-copied, drop-splice, length-splice}
 use Rattle.entries.proofs.Parts.{parts-replace}

@@ -2,7 +2,7 @@
 use native.Mathlib.Omega.{arith}
 use Prim.Native.Nat.{ℕ, _<_}
 use denote.Ref.{now}
-use mathlib.Core.Path.{_≡_, refl, sym, ap, _∙_}
+use mathlib.Core.Path.{refl, sym, ap, _∙_}
 use mathlib.Core.List.{List, _∷_}
 use Rattle.entries.proofs.Parts.{parts-at}
 use Rattle.updates.proofs.Undoing.{type-written, noted-inside, noted-outside}
