@@ -4,6 +4,7 @@
 //! are timed at once. Any other is brought back after each step by calls that are not timed. No
 //! state is copied: a copied `Vec` has no room to spare, and would be charged for it.
 
+mod atomic;
 mod entries;
 mod growth;
 mod keys;
@@ -11,6 +12,7 @@ mod refusals;
 mod state;
 mod streams;
 
+pub use atomic::{Batch, Way};
 pub use growth::Growth;
 pub use keys::Keys;
 pub use state::DEVICE;
@@ -34,8 +36,28 @@ pub struct Step {
 pub struct Expect {
     pub reason: u8,
     pub records: usize,
-    /// The reason in each pair of a WRITE.
-    pub pair: Option<u8>,
+    /// The reasons in the pairs of a WRITE.
+    pub pairs: Option<Pairs>,
+}
+
+/// The reasons in the pairs of a WRITE.
+#[derive(Clone, Copy, Debug)]
+pub enum Pairs {
+    /// The same in each.
+    Each(u8),
+    /// This one at this place, 25 in every other.
+    RolledBack { at: usize, reason: u8 },
+}
+
+impl Pairs {
+    /// The reason in the pair at a place.
+    pub fn reason(self, place: usize) -> u8 {
+        match self {
+            Pairs::Each(reason) => reason,
+            Pairs::RolledBack { at, reason } if at == place => reason,
+            Pairs::RolledBack { .. } => 25,
+        }
+    }
 }
 
 /// One case.
@@ -54,6 +76,8 @@ pub struct Case {
     pub copy: Option<usize>,
     /// The series that the case is a point of, and the number of entries there.
     pub growth: Option<(Growth, usize)>,
+    /// The row of the table of atomic batches that the case is in, and the way it goes.
+    pub atomic: Option<(Batch, Way)>,
 }
 
 /// Every case of the table, in its order.
@@ -65,6 +89,7 @@ pub fn table() -> Vec<Case> {
         entries::write(Keys::Early),
         entries::write(Keys::Late),
         entries::write_four_slots(),
+        atomic::all(),
         entries::read_many(),
         entries::read_key(),
         refusals::calls(),
@@ -81,6 +106,13 @@ pub fn series() -> Vec<Case> {
 }
 
 impl Case {
+    /// Is it in the table of all commands? The series are not, nor the plain batches that are
+    /// measured again beside atomic ones.
+    pub fn in_commands(&self) -> bool {
+        let plain = matches!(self.atomic, Some((_, Way::Plain)));
+        self.growth.is_none() && !plain
+    }
+
     /// Is there nothing to undo?
     pub fn looped(&self) -> bool {
         self.steps.iter().all(|step| step.undo.is_empty())
@@ -132,7 +164,17 @@ impl Case {
         self.expect = Expect {
             reason: if pair == 0 { 0 } else { 23 },
             records,
-            pair: Some(pair),
+            pairs: Some(Pairs::Each(pair)),
+        };
+        self
+    }
+
+    /// A WRITE of so many updates that is rolled back: the one at a place has this reason.
+    fn pairs_rolled_back(mut self, records: usize, at: usize, reason: u8) -> Case {
+        self.expect = Expect {
+            reason: 23,
+            records,
+            pairs: Some(Pairs::RolledBack { at, reason }),
         };
         self
     }
@@ -140,5 +182,18 @@ impl Case {
     fn beside_copy(mut self, bytes: usize) -> Case {
         self.copy = Some(bytes);
         self
+    }
+}
+
+#[cfg(test)]
+mod tests {
+    use super::*;
+
+    #[test]
+    fn reasons_in_pairs() {
+        let reasons = |pairs: Pairs| [0, 1, 2].map(|place| pairs.reason(place));
+        assert_eq!(reasons(Pairs::Each(22)), [22, 22, 22]);
+        let rolled_back = Pairs::RolledBack { at: 1, reason: 20 };
+        assert_eq!(reasons(rolled_back), [25, 20, 25]);
     }
 }

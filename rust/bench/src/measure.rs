@@ -385,12 +385,12 @@ impl Pair<'_> {
         let reason = self.call(frame)?;
         let answer = &self.answers[0];
         let records = usize::from(u16::from_be_bytes([answer[2], answer[3]]));
-        let mut pairs = answer[4..].chunks(2).take(records);
+        let mut pairs = answer[4..].chunks(2).take(records).enumerate();
         let kept = reason == expect.reason
             && reason == answer[0]
             && records == expect.records
-            && match expect.pair {
-                Some(pair) => pairs.all(|given| given[0] == pair),
+            && match expect.pairs {
+                Some(expected) => pairs.all(|(at, given)| given[0] == expected.reason(at)),
                 None => true,
             };
         let found = format!("reason {reason} and {records} records are not what the case names");

@@ -2,7 +2,7 @@
 
 use std::fs;
 
-use crate::cases::{Growth, Keys, ENTRY, FULL};
+use crate::cases::{Batch, Growth, Keys, Way, ENTRY, FULL};
 use crate::measure::{Bench, Plan, Summary, QUIET};
 use crate::plot::{self, Line};
 
@@ -12,7 +12,13 @@ const COPY_COLOUR: &str = "#666";
 
 /// The tables.
 pub fn tables(benches: &[Bench]) -> String {
-    [commands(benches), copies(benches), series(benches)].concat()
+    [
+        commands(benches),
+        atomic(benches),
+        copies(benches),
+        series(benches),
+    ]
+    .concat()
 }
 
 /// The file BENCHMARKS.md.
@@ -134,7 +140,7 @@ fn machine() -> String {
 fn commands(benches: &[Bench]) -> String {
     let rows: Vec<(&Bench, Summary)> = benches
         .iter()
-        .filter(|bench| bench.case.growth.is_none())
+        .filter(|bench| bench.case.in_commands())
         .map(|bench| (bench, bench.summary()))
         .collect();
     let above = rows.iter().filter(|(_, summary)| summary.ratio > 1.0);
@@ -161,6 +167,62 @@ fn commands(benches: &[Bench]) -> String {
         );
     }
     out + "\n"
+}
+
+/// Atomic batches beside plain ones, of the proved agent.
+fn atomic(benches: &[Bench]) -> String {
+    let mut rows = String::new();
+    for keys in [Keys::Early, Keys::Late] {
+        for batch in Batch::ALL {
+            let proved = |way: Way| {
+                let is_it = |bench: &&Bench| {
+                    bench.case.atomic == Some((batch, way)) && bench.case.keys == Some(keys)
+                };
+                let bench = benches.iter().find(is_it);
+                bench.map(|bench| bench.summary().proved)
+            };
+            if batch.ways().iter().any(|&way| proved(way).is_some()) {
+                let cells = atomic_cells(proved);
+                rows += &format!("| {} | {} | {cells} |\n", batch.name, keys.name());
+            }
+        }
+    }
+    if rows.is_empty() {
+        return rows;
+    }
+    format!(
+        "## Atomic batches\n\n\
+         The proved agent only: nanoseconds for one WRITE with atomicity 0 (*plain*) and with \
+         atomicity 1, and ratios of these medians, all measured in the same passes. *Accepted* is to \
+         the plain one. *Rolled back* fails at its 64th update, *failing* at its second of 64; both \
+         are to the accepted one. They leave the state as it was, so that many are timed at once, as \
+         MODIFYs are; accepted INSERTs and DELETEs are undone after each.\n\n\
+         Goals: accepted at most 1.25 (64 INSERTs into an empty store) and 1.50 (64 DELETEs, and 1 \
+         MODIFY in a store of 192); rolled back at the 64th at most 2.00 (DELETEs 2.50); failing at \
+         the second at most 0.25.\n\n\
+         | Batch | Keys | Plain, ns | Accepted, ns | Ratio | Rolled back at the 64th, ns | Ratio | \
+         Failing at the 2nd, ns | Ratio |\n\
+         |---|---|--:|--:|--:|--:|--:|--:|--:|\n{rows}\n"
+    )
+}
+
+/// A row's times and ratios; a cell is empty where nothing was measured.
+fn atomic_cells(proved: impl Fn(Way) -> Option<f64>) -> String {
+    let time = |way: Way| proved(way).map_or(String::new(), nanos);
+    let ratio = |way: Way, to: Way| match (proved(way), proved(to)) {
+        (Some(one), Some(other)) => format!("{:.2}", one / other),
+        _ => String::new(),
+    };
+    [
+        time(Way::Plain),
+        time(Way::Accepted),
+        ratio(Way::Accepted, Way::Plain),
+        time(Way::LastFails),
+        ratio(Way::LastFails, Way::Accepted),
+        time(Way::SecondFails),
+        ratio(Way::SecondFails, Way::Accepted),
+    ]
+    .join(" | ")
 }
 
 /// READ of all entries beside a plain copy of the same bytes.
@@ -321,6 +383,20 @@ fn grouped(number: usize) -> String {
 #[cfg(test)]
 mod tests {
     use super::*;
+
+    #[test]
+    fn ratios_of_atomic_batches() {
+        let full = |way: Way| match way {
+            Way::Plain => Some(1000.0),
+            Way::Accepted => Some(1250.0),
+            Way::LastFails => Some(2000.0),
+            Way::SecondFails => Some(250.0),
+        };
+        let cells = "1,000 | 1,250 | 1.25 | 2,000 | 1.60 | 250 | 0.20";
+        assert_eq!(atomic_cells(full), cells);
+        let one = |way: Way| (way == Way::Accepted).then_some(99.0);
+        assert_eq!(atomic_cells(one), " | 99.0 |  |  |  |  | ");
+    }
 
     #[test]
     fn numbers_in_a_table() {

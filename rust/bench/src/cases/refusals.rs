@@ -42,7 +42,7 @@ pub fn calls() -> Vec<Case> {
         call(10, "CONFIGURE of 8, not the mark", configure(lower)),
         call(12, "WRITE of 64, not configured", write(primary(), 0)),
         call(12, "READ, not configured", read(DEVICE)),
-        call(13, "WRITE of 64, atomicity 1", write(primary(), 1)),
+        call(13, "WRITE of 64, atomicity 2", write(primary(), 2)),
         call(14, "CONFIGURE of 8, last width 129", bad_rows),
     ]
 }
