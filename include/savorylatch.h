@@ -137,6 +137,15 @@ SAVORYLATCH_FIELD(savorylatch_agent, count, 1456, 8);
 #undef SAVORYLATCH_ALIGN
 #undef SAVORYLATCH_HOLDS
 
+/* ---- what is sent */
+
+/* The atomicity of a WRITE, byte 27 of its frame: how the updates stand together. The names are P4Runtime's. */
+enum savorylatch_atomicity {
+    SAVORYLATCH_ATOMICITY_CONTINUE_ON_ERROR = 0, /* each update succeeds or fails alone */
+    SAVORYLATCH_ATOMICITY_ROLLBACK_ON_ERROR = 1, /* all or none: at the first that fails the entries are those before the call */
+    SAVORYLATCH_ATOMICITY_DATAPLANE_ATOMIC = 2   /* not offered: refused under 13 */
+};
+
 /* ---- what comes back */
 
 /* Why a call, or an update of a WRITE, was refused; in brackets the status code that goes with it. */
@@ -157,7 +166,7 @@ enum savorylatch_reason {
     SAVORYLATCH_REASON_NOT_PRIMARY = 10,      /* id unset, or no primary, or not the mark (7) */
     SAVORYLATCH_REASON_NOT_ROLE_0 = 11,       /* CONFIGURE by role 1 to 7 (7) */
     SAVORYLATCH_REASON_NOT_CONFIGURED = 12,   /* no configuration (9) */
-    SAVORYLATCH_REASON_ATOMICITY = 13,        /* atomicity 1 or 2 (12) */
+    SAVORYLATCH_REASON_ATOMICITY = 13,        /* atomicity 2 (12) */
     SAVORYLATCH_REASON_ROWS_NOT_ALLOWED = 14, /* a configuration that is not allowed (3) */
     /* the maker of an update, or of a READ's key */
     SAVORYLATCH_REASON_NO_SUCH_TABLE = 15, /* unknown table (5) */
@@ -168,8 +177,10 @@ enum savorylatch_reason {
     SAVORYLATCH_REASON_STORED = 20,        /* INSERT while a stored entry has the key (6) */
     SAVORYLATCH_REASON_NOT_STORED = 21,    /* MODIFY or DELETE while no stored entry has the key (5) */
     SAVORYLATCH_REASON_TABLE_FULL = 22,    /* INSERT, and the table holds its size (8) */
-    SAVORYLATCH_REASON_SOME_FAILED = 23,   /* of a WRITE that was done: an update failed, and the pairs say which and why (2) */
-    SAVORYLATCH_REASON_STORE_FULL = 24     /* INSERT, and the store holds 256 entries (8) */
+    SAVORYLATCH_REASON_SOME_FAILED = 23,   /* of a WRITE that was not refused: an update failed, and the pairs say which and why; with
+                                              atomicity 1 nothing of the batch took effect (2) */
+    SAVORYLATCH_REASON_STORE_FULL = 24,    /* INSERT, and the store holds 256 entries (8) */
+    SAVORYLATCH_REASON_ROLLED_BACK = 25    /* an update of an atomic batch in which another failed: undone, or never tried (10) */
 };
 
 /* The status codes of the gRPC list that go with the reasons. */
@@ -182,6 +193,7 @@ enum savorylatch_status {
     SAVORYLATCH_STATUS_PERMISSION_DENIED = 7,
     SAVORYLATCH_STATUS_RESOURCE_EXHAUSTED = 8,
     SAVORYLATCH_STATUS_FAILED_PRECONDITION = 9,
+    SAVORYLATCH_STATUS_ABORTED = 10,
     SAVORYLATCH_STATUS_OUT_OF_RANGE = 11,
     SAVORYLATCH_STATUS_UNIMPLEMENTED = 12
 };

@@ -188,6 +188,54 @@ impl<'a> View<'a> {
         self.only(Form::Pairs).filter_map(read_pair)
     }
 
+    /// The same as [`pairs`](View::pairs), told apart by what became of the update.
+    ///
+    /// ```
+    /// use savorylatch::answer::{Outcome, View};
+    /// use savorylatch::{Command, Reason};
+    ///
+    /// // An atomic batch of three, of which the second found its key stored.
+    /// let view = View::new(&[23, 2, 0, 3, 25, 10, 20, 6, 25, 10], Command::Write)?;
+    /// let failed = Outcome::Failed(Reason::Stored);
+    /// assert!(view.outcomes().eq([Outcome::RolledBack, failed, Outcome::RolledBack]));
+    /// # Ok::<(), savorylatch::answer::Unreadable>(())
+    /// ```
+    pub fn outcomes(&self) -> impl Iterator<Item = Outcome> + 'a {
+        self.pairs().map(|(reason, _)| Outcome::of(reason))
+    }
+
+    /// The update for which a batch was rolled back: it failed, and nothing of the batch took
+    /// effect. `None` if the batch was not rolled back.
+    ///
+    /// The answer does not say which atomicity the WRITE had. A batch of one update that failed is
+    /// answered alike with both, and counts as rolled back: nothing of it took effect.
+    ///
+    /// ```
+    /// use savorylatch::answer::{Failure, View};
+    /// use savorylatch::{Command, Reason};
+    ///
+    /// let rolled_back = |answer: &[u8]| Ok(View::new(answer, Command::Write)?.rolled_back());
+    ///
+    /// // Atomic: the second of three failed.
+    /// let cause = Failure { update: 1, reason: Reason::Stored };
+    /// assert_eq!(rolled_back(&[23, 2, 0, 3, 25, 10, 20, 6, 25, 10])?, Some(cause));
+    /// // Each alone: the second failed, and the first took effect.
+    /// assert_eq!(rolled_back(&[23, 2, 0, 2, 0, 0, 20, 6])?, None);
+    /// // All took effect.
+    /// assert_eq!(rolled_back(&[0, 0, 0, 2, 0, 0, 0, 0])?, None);
+    /// # Ok::<(), savorylatch::answer::Unreadable>(())
+    /// ```
+    pub fn rolled_back(&self) -> Option<Failure> {
+        let mut others = self
+            .outcomes()
+            .enumerate()
+            .filter(|(_, outcome)| *outcome != Outcome::RolledBack);
+        match (others.next(), others.next()) {
+            (Some((update, Outcome::Failed(reason))), None) => Some(Failure { update, reason }),
+            _ => None,
+        }
+    }
+
     /// The entries that a READ asked for: by row of the configuration, then in order of insertion.
     pub fn entries(&self) -> impl Iterator<Item = Entry> + 'a {
         self.only(Form::Entries).filter_map(Entry::read)
@@ -198,6 +246,38 @@ impl<'a> View<'a> {
         let is = self.form == Some(form);
         self.records().filter(move |_| is)
     }
+}
+
+/// What became of an update.
+#[derive(Clone, Copy, Debug, PartialEq, Eq)]
+pub enum Outcome {
+    /// It took effect.
+    TookEffect,
+    /// It failed, for this reason.
+    Failed(Reason),
+    /// Another update of its atomic batch failed. It was undone, or never tried: either way it did
+    /// not take effect, and nothing is wrong with it that is known.
+    RolledBack,
+}
+
+impl Outcome {
+    /// By the reason in the update's pair.
+    pub const fn of(reason: Reason) -> Outcome {
+        match reason {
+            Reason::Done => Outcome::TookEffect,
+            Reason::RolledBack => Outcome::RolledBack,
+            reason => Outcome::Failed(reason),
+        }
+    }
+}
+
+/// The update that an atomic batch failed with.
+#[derive(Clone, Copy, Debug, PartialEq, Eq)]
+pub struct Failure {
+    /// Its place in the batch, from 0.
+    pub update: usize,
+    /// Why it failed.
+    pub reason: Reason,
 }
 
 /// What a stream is told about its role.
@@ -362,11 +442,11 @@ mod tests {
         let error = |bytes: &[u8], command| View::new(bytes, command).err();
         // Heads.
         let head = |reason, code| Some(Unreadable::Head { reason, code });
-        assert_eq!(error(&[25, 0, 0, 0], Command::Open), head(25, 0));
+        assert_eq!(error(&[26, 0, 0, 0], Command::Open), head(26, 0));
         assert_eq!(error(&[10, 5, 0, 0], Command::Write), head(10, 5));
         // Pairs.
         let third = Some(Unreadable::Record(2));
-        for (reason, code) in [(25, 0), (10, 5)] {
+        for (reason, code) in [(26, 0), (25, 0), (10, 5)] {
             let answer = [0, 0, 0, 3, 0, 0, 0, 0, reason, code];
             assert_eq!(error(&answer, Command::Write), third);
         }
@@ -389,6 +469,40 @@ mod tests {
         // Entries: 220 bytes of anything.
         let answer = [unhex("0000 0001"), vec![0xff; 220]].concat();
         assert_eq!(error(&answer, Command::Read), first);
+    }
+
+    #[test]
+    fn a_batch_is_rolled_back_by_one_update() {
+        // Count and pairs; the update that is the cause, and its reason.
+        let stored = |update| Some((update, Reason::Stored));
+        for (records, cause) in [
+            ("0003 190a 1406 190a", stored(1)),
+            ("0003 1406 190a 190a", stored(0)),
+            ("0003 190a 190a 1608", Some((2, Reason::TableFull))),
+            // One update: nothing took effect, with whichever atomicity.
+            ("0001 1406", stored(0)),
+            ("0001 0000", None),
+            // Each alone.
+            ("0002 1406 1406", None),
+            ("0002 0000 1406", None),
+            ("0002 1406 0000", None),
+            ("0000", None),
+            // No answer of the agent.
+            ("0002 190a 190a", None),
+            ("0002 0000 190a", None),
+            ("0003 0000 1406 190a", None),
+        ] {
+            let answer = unhex(&format!("1702 {records}"));
+            let read = View::new(&answer, Command::Write).ok();
+            let found = read.and_then(|view| view.rolled_back());
+            let found = found.map(|failure| (failure.update, failure.reason));
+            assert_eq!(found, cause, "{records}");
+        }
+        // Other commands have no updates.
+        let answer = [unhex("0000 0001"), notification(1, 0, 0, Some(5))].concat();
+        let view = View::new(&answer, Command::Arbitrate).unwrap();
+        assert_eq!(view.rolled_back(), None);
+        assert_eq!(view.outcomes().count(), 0);
     }
 
     #[test]

@@ -82,19 +82,20 @@ impl Head {
     }
 }
 
-/// How a WRITE treats its updates as a whole, by the names of P4Runtime.
-///
-/// The agent has the first only; it refuses the others under
-/// [`Reason::Atomicity`](crate::Reason::Atomicity).
+/// How a WRITE treats its updates as a whole, by the names of P4Runtime; the discriminant is the
+/// byte in the frame.
 #[derive(Clone, Copy, Debug, Default, PartialEq, Eq)]
 #[repr(u8)]
 pub enum Atomicity {
     /// Each update succeeds or fails alone.
     #[default]
     ContinueOnError = 0,
-    /// All or none.
+    /// All or none, in order. At the first update that fails the batch stops, and the entries are
+    /// those before the call, order included: that update has its own reason, and every other has
+    /// [`RolledBack`](crate::Reason::RolledBack).
     RollbackOnError = 1,
-    /// All or none, for packets in flight too.
+    /// All or none, for packets in flight too. The agent does not have it: refused under
+    /// [`Atomicity`](crate::Reason::Atomicity).
     DataplaneAtomic = 2,
 }
 
@@ -195,6 +196,59 @@ pub fn configure(head: &Head, rows: &[Row]) -> Vec<u8> {
 /// let batch = [Update::delete(to_port(7)), Update::insert(to_port(8))];
 /// let frame = frame::write(&head, Atomicity::ContinueOnError, &batch);
 /// assert_eq!(frame.len(), 29 + 221 * 2);
+/// ```
+///
+/// With [`Atomicity::RollbackOnError`] all of them take effect, or none does:
+/// [`View::rolled_back`](crate::answer::View::rolled_back) says which update was the cause. Here a
+/// tenant is moved from one table to another, but the other is full:
+///
+/// ```
+/// use savorylatch::answer::{Failure, Outcome};
+/// use savorylatch::frame::{self, Action, Atomicity, Entry, Field, Head, Kind};
+/// use savorylatch::frame::{Query, Row, Slot, Update, Value, Wanted};
+/// use savorylatch::{Agent, Answer, Command, Reason, Store};
+///
+/// const EAST: u32 = 0x0200_0001;
+/// const WEST: u32 = 0x0200_0002;
+/// const FORWARD: u32 = 0x0100_0001;
+/// let row = |table, size| Row {
+///     table,
+///     owner: 0,
+///     size,
+///     fields: vec![Field { kind: Kind::Exact, width: 32 }],
+///     actions: vec![Action { id: FORWARD, widths: vec![9] }],
+/// };
+/// let tenant = |table, address, port| {
+///     Entry::new(table, 0, [Slot::exact(address)], FORWARD, [Value::new(port)])
+/// };
+/// let head = Head { device: 1, role: 0, id: Some(5) };
+///
+/// let (mut agent, mut store, mut answer) = (Agent::new(1), Store::new(), Answer::new());
+/// let mut call = |frame: Vec<u8>| agent.call(&frame, &mut store, &mut answer);
+/// assert_eq!(call(frame::open(1)), Reason::Done);
+/// assert_eq!(call(frame::arbitrate(1, &head)), Reason::Done);
+/// assert_eq!(call(frame::configure(&head, &[row(EAST, 4), row(WEST, 1)])), Reason::Done);
+/// let before = [tenant(EAST, 0x0a00_0001, 7), tenant(WEST, 0x0a00_0009, 8)];
+/// let batch = before.map(Update::insert);
+/// assert_eq!(call(frame::write(&head, Atomicity::ContinueOnError, &batch)), Reason::Done);
+///
+/// let batch = [
+///     Update::delete(tenant(EAST, 0x0a00_0001, 7)),
+///     Update::insert(tenant(WEST, 0x0a00_0001, 8)),
+/// ];
+/// let reason = call(frame::write(&head, Atomicity::RollbackOnError, &batch));
+/// assert_eq!(reason, Reason::SomeFailed);
+/// let view = answer.view(Command::Write)?;
+/// let cause = Failure { update: 1, reason: Reason::TableFull };
+/// assert_eq!(view.rolled_back(), Some(cause));
+/// let outcomes: Vec<_> = view.outcomes().collect();
+/// assert_eq!(outcomes, [Outcome::RolledBack, Outcome::Failed(Reason::TableFull)]);
+///
+/// // The tenant is where it was.
+/// let everything = Query { device: 1, role: 0, wanted: Wanted::Everything };
+/// agent.call(&frame::read(&everything), &mut store, &mut answer);
+/// assert!(answer.view(Command::Read)?.entries().eq(before));
+/// # Ok::<(), savorylatch::answer::Unreadable>(())
 /// ```
 pub fn write(head: &Head, atomicity: Atomicity, updates: &[Update]) -> Vec<u8> {
     let mut frame = vec![Command::Write as u8];
@@ -312,11 +366,14 @@ mod tests {
         );
         let hex = format!("05 {HEAD_HEX} 02 02  02 {entry_hex}  03 {entry_hex}");
         assert_eq!(frame, unhex(&hex));
-        assert_eq!(
-            write(&HEAD, Atomicity::ContinueOnError, &[]).len(),
-            29,
-            "no update"
-        );
+        for (atomicity, byte) in [
+            (Atomicity::ContinueOnError, "00"),
+            (Atomicity::RollbackOnError, "01"),
+            (Atomicity::DataplaneAtomic, "02"),
+        ] {
+            let none = unhex(&format!("05 {HEAD_HEX} {byte} 00"));
+            assert_eq!(write(&HEAD, atomicity, &[]), none, "no update");
+        }
     }
 
     #[test]

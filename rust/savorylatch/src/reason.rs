@@ -50,7 +50,7 @@ pub enum Reason {
     NotRole0 = 11,
     /// There is no configuration.
     NotConfigured = 12,
-    /// Atomicity 1 or 2, which the agent does not have.
+    /// Atomicity 2, which the agent does not have.
     Atomicity = 13,
     /// The rows of a CONFIGURE are not allowed.
     RowsNotAllowed = 14,
@@ -71,10 +71,14 @@ pub enum Reason {
     NotStored = 21,
     /// INSERT, and the table holds its size.
     TableFull = 22,
-    /// The WRITE was done, but an update failed; the pairs say which and why.
+    /// An update of the WRITE failed; the pairs say which and why. With
+    /// [`ContinueOnError`](crate::frame::Atomicity::ContinueOnError) the others took effect, with
+    /// [`RollbackOnError`](crate::frame::Atomicity::RollbackOnError) none did.
     SomeFailed = 23,
     /// INSERT, and the store holds 256 entries.
     StoreFull = 24,
+    /// Another update of the atomic batch failed: this one was undone, or never tried.
+    RolledBack = 25,
 }
 
 impl Reason {
@@ -105,6 +109,7 @@ impl Reason {
         Reason::TableFull,
         Reason::SomeFailed,
         Reason::StoreFull,
+        Reason::RolledBack,
     ];
 
     /// The number that stands in the answer.
@@ -146,6 +151,7 @@ impl Reason {
             Reason::TableFull => "table-full",
             Reason::SomeFailed => "some-failed",
             Reason::StoreFull => "store-full",
+            Reason::RolledBack => "rolled-back",
         }
     }
 
@@ -172,13 +178,14 @@ impl Reason {
             Reason::AlreadyOpen | Reason::Rebound | Reason::NotConfigured => {
                 Code::FailedPrecondition
             }
+            Reason::RolledBack => Code::Aborted,
             Reason::TooWide => Code::OutOfRange,
             Reason::Atomicity => Code::Unimplemented,
         }
     }
 
-    /// Was the call accepted? So it was under [`Done`](Reason::Done) and, being a WRITE that was
-    /// done, under [`SomeFailed`](Reason::SomeFailed).
+    /// Was the call accepted? So it was under [`Done`](Reason::Done) and, being a WRITE that was not
+    /// refused, under [`SomeFailed`](Reason::SomeFailed).
     pub const fn is_accepted(self) -> bool {
         matches!(self, Reason::Done | Reason::SomeFailed)
     }
@@ -209,7 +216,7 @@ impl fmt::Display for Reason {
             Reason::NotPrimary => "id unset, or no primary, or not the mark",
             Reason::NotRole0 => "CONFIGURE by role 1 to 7",
             Reason::NotConfigured => "no configuration",
-            Reason::Atomicity => "atomicity 1 or 2",
+            Reason::Atomicity => "atomicity 2",
             Reason::RowsNotAllowed => "configuration not allowed",
             Reason::NoSuchTable => "unknown table",
             Reason::NotTheRoles => "table not the role's",
@@ -221,6 +228,7 @@ impl fmt::Display for Reason {
             Reason::TableFull => "INSERT while the table holds its size",
             Reason::SomeFailed => "some update failed",
             Reason::StoreFull => "INSERT while the store holds 256 entries",
+            Reason::RolledBack => "another update of the atomic batch failed",
         })
     }
 }
@@ -255,6 +263,8 @@ pub enum Code {
     ResourceExhausted = 8,
     /// FAILED_PRECONDITION
     FailedPrecondition = 9,
+    /// ABORTED
+    Aborted = 10,
     /// OUT_OF_RANGE
     OutOfRange = 11,
     /// UNIMPLEMENTED
@@ -290,6 +300,7 @@ impl fmt::Display for Code {
             Code::PermissionDenied => "PERMISSION_DENIED",
             Code::ResourceExhausted => "RESOURCE_EXHAUSTED",
             Code::FailedPrecondition => "FAILED_PRECONDITION",
+            Code::Aborted => "ABORTED",
             Code::OutOfRange => "OUT_OF_RANGE",
             Code::Unimplemented => "UNIMPLEMENTED",
         })
@@ -316,10 +327,10 @@ mod tests {
     use super::*;
 
     #[test]
-    fn numbers_and_codes_are_document_01s() {
-        // By rising reason.
-        const CODES: [u8; 25] = [
-            0, 3, 8, 9, 5, 5, 5, 9, 3, 8, 7, 7, 9, 12, 3, 5, 7, 3, 11, 3, 6, 5, 8, 2, 8,
+    fn numbers_and_codes_are_the_documents() {
+        // By rising reason: 0 to 24 of document 01, 25 of document 02.
+        const CODES: [u8; 26] = [
+            0, 3, 8, 9, 5, 5, 5, 9, 3, 8, 7, 7, 9, 12, 3, 5, 7, 3, 11, 3, 6, 5, 8, 2, 8, 10,
         ];
         assert_eq!(Reason::ALL.len(), CODES.len());
         for (number, code) in (0..).zip(CODES) {
@@ -344,9 +355,9 @@ mod tests {
 
     #[test]
     fn other_numbers_are_unknown() {
-        assert_eq!(Reason::try_from(25), Err(UnknownNumber(25)));
+        assert_eq!(Reason::try_from(26), Err(UnknownNumber(26)));
         assert_eq!(Reason::try_from(255), Err(UnknownNumber(255)));
-        for number in [1, 4, 10, 13, 255] {
+        for number in [1, 4, 13, 255] {
             assert_eq!(Code::try_from(number), Err(UnknownNumber(number)));
         }
     }

@@ -1,7 +1,7 @@
-//! Document 01, through the wrapper: what the types build is what the agent takes, and what it
-//! answers is what they read.
+//! Documents 01 and 02, through the wrapper: what the types build is what the agent takes, and what
+//! it answers is what they read.
 
-use savorylatch::answer::{Notification, Status, View};
+use savorylatch::answer::{Failure, Notification, Outcome, Status, View};
 use savorylatch::frame::Atomicity::{ContinueOnError, DataplaneAtomic, RollbackOnError};
 use savorylatch::frame::{self, Action, Entry, Field, Head, Kind, Query, Row, Slot, Update, Value};
 use savorylatch::frame::{UpdateKind, Wanted};
@@ -557,6 +557,113 @@ fn bytes_behind_the_buffers_are_left_alone() {
         .eq((0..256).map(|k| entry(0, Slot::exact(k)))));
 }
 
+// ---- atomic batches (document 02, request Two)
+
+/// Three entries of [`one_row`] are stored, in this order.
+fn three_stored() -> (Bench, [Entry; 3]) {
+    let entries = [1, 2, 3].map(|k| entry(0, Slot::exact(k)));
+    let mut bench = Bench::configured(&[one_row(Kind::Exact, 16)]);
+    bench.done(&frame::write(
+        &with(1),
+        RollbackOnError,
+        &entries.map(Update::insert),
+    ));
+    (bench, entries)
+}
+
+#[test]
+fn an_atomic_batch_without_a_failure_takes_effect() {
+    let (mut bench, [one, two, three]) = three_stored();
+    let four = entry(0, Slot::exact(4));
+    // Each is judged as though those before it had taken effect.
+    let batch = [
+        Update::delete(one),
+        Update::insert(four),
+        Update::modify(four),
+        Update::insert(one),
+    ];
+    let view = bench.call(&frame::write(&with(1), RollbackOnError, &batch));
+    assert_eq!((view.reason(), view.count()), (Reason::Done, 4));
+    assert!(view
+        .outcomes()
+        .all(|outcome| outcome == Outcome::TookEffect));
+    assert_eq!(view.rolled_back(), None);
+    let read = bench.shows(Wanted::Everything);
+    assert_eq!(read, [two, three, four, one]);
+
+    bench.done(&frame::write(&with(1), RollbackOnError, &[]));
+    assert_eq!(bench.answer.view(Command::Write).unwrap().count(), 0);
+}
+
+#[test]
+fn an_atomic_batch_with_a_failure_leaves_everything() {
+    let (mut bench, stored) = three_stored();
+    let [one, two, _] = stored;
+    let four = entry(0, Slot::exact(4));
+    let malformed = Entry::new(TABLE, 9, [], 0, []);
+    let batch = [
+        Update::delete(one),
+        Update::modify(two),
+        Update::insert(four),
+        Update::insert(two), // stored already
+        Update::insert(malformed),
+        Update::delete(two),
+    ];
+    let view = bench.call(&frame::write(&with(1), RollbackOnError, &batch));
+    assert_eq!(view.reason(), Reason::SomeFailed);
+    let rolled_back = (Reason::RolledBack, Code::Aborted);
+    let mut pairs = [rolled_back; 6];
+    pairs[3] = (Reason::Stored, Code::AlreadyExists);
+    assert!(view.pairs().eq(pairs));
+    let cause = Failure {
+        update: 3,
+        reason: Reason::Stored,
+    };
+    assert_eq!(view.rolled_back(), Some(cause));
+    assert_eq!(bench.agent.entries(), 3);
+    assert_eq!(bench.shows(Wanted::Everything), stored);
+
+    // One update alone.
+    let view = bench.call(&frame::write(
+        &with(1),
+        RollbackOnError,
+        &[Update::delete(four)],
+    ));
+    assert!(view.pairs().eq([(Reason::NotStored, Code::NotFound)]));
+    let cause = Failure {
+        update: 0,
+        reason: Reason::NotStored,
+    };
+    assert_eq!(view.rolled_back(), Some(cause));
+}
+
+#[test]
+fn an_atomic_batch_of_64_is_rolled_back_by_its_last() {
+    let (mut bench, stored) = three_stored();
+    let mut batch = vec![Update::delete(stored[0]), Update::insert(stored[0])].repeat(32);
+    batch[63] = Update::insert(stored[1]);
+    let view = bench.call(&frame::write(&with(1), RollbackOnError, &batch));
+    let cause = Failure {
+        update: 63,
+        reason: Reason::Stored,
+    };
+    assert_eq!((view.count(), view.rolled_back()), (64, Some(cause)));
+    assert_eq!(bench.shows(Wanted::Everything), stored);
+}
+
+#[test]
+fn a_deposed_primarys_atomic_batch_is_refused_as_a_whole() {
+    let (mut bench, stored) = three_stored();
+    bench.done(&frame::open(2));
+    bench.done(&frame::arbitrate(2, &with(6)));
+    bench.done(&frame::arbitrate(2, &with(4)));
+    bench.done(&frame::close(2));
+    let batch = [Update::delete(stored[0]), Update::insert(stored[0])];
+    let resent = frame::write(&with(1), RollbackOnError, &batch);
+    bench.refused(&resent, Reason::NotPrimary);
+    assert_eq!(bench.shows(Wanted::Everything), stored);
+}
+
 // ---- what the builders say is refused
 
 #[test]
@@ -596,7 +703,8 @@ fn frames_that_are_refused() {
     for n in [65, 255, 256, 256 + 64, 512] {
         bench.refused(&write(ContinueOnError, n), Reason::BadFrame);
     }
-    bench.refused(&write(RollbackOnError, 1), Reason::Atomicity);
+    bench.refused(&write(RollbackOnError, 65), Reason::BadFrame);
+    bench.refused(&write(DataplaneAtomic, 1), Reason::Atomicity);
     bench.refused(&write(DataplaneAtomic, 0), Reason::Atomicity);
     assert_eq!(bench.agent.entries(), 0);
     assert_eq!(bench.call(&write(ContinueOnError, 64)).pairs().count(), 64);
