@@ -640,7 +640,7 @@ fn an_atomic_batch_with_a_failure_leaves_everything() {
 #[test]
 fn an_atomic_batch_of_64_is_rolled_back_by_its_last() {
     let (mut bench, stored) = three_stored();
-    let mut batch = vec![Update::delete(stored[0]), Update::insert(stored[0])].repeat(32);
+    let mut batch = [Update::delete(stored[0]), Update::insert(stored[0])].repeat(32);
     batch[63] = Update::insert(stored[1]);
     let view = bench.call(&frame::write(&with(1), RollbackOnError, &batch));
     let cause = Failure {

@@ -36,10 +36,12 @@ impl Dice {
 }
 
 /// The example scripts.
-pub const SCRIPTS: [&str; 10] = [
+pub const SCRIPTS: [&str; 12] = [
+    include_str!("../../../scripts/atomic-move.txt"),
     include_str!("../../../scripts/document-01.txt"),
     include_str!("../../../scripts/failover.txt"),
     include_str!("../../../scripts/five-events.txt"),
+    include_str!("../../../scripts/five-events-atomic.txt"),
     include_str!("../../../scripts/p2-p3-p4.txt"),
     include_str!("../../../scripts/p5.txt"),
     include_str!("../../../scripts/p9.txt"),

@@ -60,7 +60,7 @@ pub fn general(reason: Reason) -> &'static str {
         Reason::NotPrimary => "the id is unset, or the role has no primary, or it is not the mark",
         Reason::NotRole0 => "only the primary of role 0 may configure",
         Reason::NotConfigured => "there is no configuration yet",
-        Reason::Atomicity => "only atomicity 0 is offered: each update succeeds or fails alone",
+        Reason::Atomicity => "only atomicity 0 and 1 are offered",
         Reason::RowsNotAllowed => "the rows are not allowed; those before stay in force",
         Reason::NoSuchTable => "no row of the configuration has the table",
         Reason::NotTheRoles => "the table is owned by another role",
@@ -70,8 +70,9 @@ pub fn general(reason: Reason) -> &'static str {
         Reason::Stored => "an entry with this key is stored already",
         Reason::NotStored => "no entry with this key is stored",
         Reason::TableFull => "the table holds as many entries as its size allows",
-        Reason::SomeFailed => "some updates failed, each alone; the others took effect",
+        Reason::SomeFailed => "an update failed; the pairs say which, and which took effect",
         Reason::StoreFull => "the store holds 256 entries",
+        Reason::RolledBack => "another update of this batch failed: undone, or not tried",
         _ => "a reason that this program does not know",
     }
 }

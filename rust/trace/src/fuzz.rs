@@ -6,7 +6,7 @@ use crate::parse;
 use crate::session;
 
 /// Whole words and signs that a script may hold, in place of others.
-const PIECES: [&str; 41] = [
+const PIECES: [&str; 43] = [
     "open",
     "close",
     "arbitrate",
@@ -23,6 +23,8 @@ const PIECES: [&str; 41] = [
     "role",
     "id",
     "unset",
+    "atomic",
+    "atomicity",
     "only",
     "priority",
     "told",
@@ -50,10 +52,17 @@ const PIECES: [&str; 41] = [
     "0xffffffffffffffffffffffffffffffff",
 ];
 
-/// A script with some words changed: into any, or numbers into other numbers only.
+/// A script with some words changed: into any, or numbers into other numbers only. Some of its
+/// batches are made atomic.
 fn mutated(text: &str, dice: &mut Dice) -> String {
     let lines = text.lines().filter(|line| !line.starts_with('#'));
-    let text: String = lines.map(|line| format!("{line}\n")).collect();
+    let lines = lines.map(
+        |line| match line.starts_with("write ") && dice.below(3) == 0 {
+            true => format!("{} atomic\n", line.trim_end_matches(" atomic")),
+            false => format!("{line}\n"),
+        },
+    );
+    let text: String = lines.collect();
     let words = text.split_inclusive([' ', '\n', '(', '=']);
     let mut words: Vec<String> = words.map(str::to_owned).collect();
     let mild = dice.below(2) == 0;
@@ -106,7 +115,7 @@ fn reasons(trace: &str) -> Vec<&str> {
 #[test]
 fn scripts_at_random() {
     let mut dice = Dice::new(2);
-    let (mut mistakes, mut played) = (0, 0);
+    let (mut mistakes, mut played, mut rolled_back) = (0, 0, 0);
     for _ in 0..3_000 {
         let script: &str = SCRIPTS[dice.below(SCRIPTS.len())];
         let text = mutated(script, &mut dice);
@@ -121,6 +130,8 @@ fn scripts_at_random() {
             Ok(script) => {
                 played += 1;
                 let trace = session::trace(&script).unwrap();
+                rolled_back +=
+                    usize::from(trace.text.contains("-> rolled-back (25), ABORTED (10)"));
                 let quiet = session::quiet(&script, "f").unwrap();
                 assert_eq!(trace.held, quiet.held);
                 assert_eq!(reasons(&trace.text).len(), script.calls.len());
@@ -133,6 +144,7 @@ fn scripts_at_random() {
         }
     }
     assert!(mistakes > 500 && played > 500, "{mistakes} {played}");
+    assert!(rolled_back > 100, "{rolled_back}");
 }
 
 #[test]

@@ -241,8 +241,8 @@ impl<'a> Parser<'a> {
         })
     }
 
-    /// `role R [id ID | unset] [device N] [atomicity A]` to the end of the line; the latter is
-    /// given back beside the head.
+    /// `role R [id ID | unset] [device N] [atomic | atomicity A]` to the end of the line; the latter
+    /// is given back beside the head.
     fn head(&mut self, cursor: &mut Cursor, batch: bool) -> Result<(Head, u8), Mistake> {
         cursor.keyword("role")?;
         let role = cursor.number(A_ROLE)?;
@@ -254,18 +254,13 @@ impl<'a> Parser<'a> {
                 id = Some(None);
             } else if device.is_none() && cursor.takes("device") {
                 device = Some(cursor.number(A_DEVICE)?);
+            } else if batch && atomicity.is_none() && cursor.takes("atomic") {
+                atomicity = Some(1);
             } else if batch && atomicity.is_none() && cursor.takes("atomicity") {
-                let expected = "an atomicity: 0, 1 or 2";
-                let place = cursor.place();
-                let number: u8 = cursor.number(expected)?;
-                if number > 2 {
-                    let found = format!("'{number}'");
-                    return Err(Mistake::new(place, expected, found));
-                }
-                atomicity = Some(number);
+                atomicity = Some(an_atomicity(cursor)?);
             } else {
                 return Err(cursor.mistake(match batch {
-                    true => "'id', 'unset', 'device' or 'atomicity', each once",
+                    true => "'id', 'unset', 'device', 'atomic' or 'atomicity', each once",
                     false => "'id', 'unset' or 'device', each once",
                 }));
             }
@@ -367,6 +362,16 @@ fn at_most(before: usize, most: usize, what: &str, cursor: &Cursor) -> Result<()
     }
     let expected = format!("at most {most} {what}");
     Err(Mistake::new(cursor.place(), expected, "one more"))
+}
+
+/// An atomicity by its number; 1 is also the word `atomic`.
+fn an_atomicity(cursor: &mut Cursor) -> Result<u8, Mistake> {
+    let expected = "an atomicity: 0, 1 or 2";
+    let place = cursor.place();
+    match cursor.number(expected)? {
+        number @ 0..=2 => Ok(number),
+        number => Err(Mistake::new(place, expected, format!("'{number}'"))),
+    }
 }
 
 /// `raw HEX..`, with the lines under it.

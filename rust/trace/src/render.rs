@@ -188,6 +188,50 @@ mod tests {
         }
     }
 
+    /// A table of two entries, of which one is stored.
+    const TABLE: &str = "open 1\narbitrate 1 role 0 id 5\nconfigure role 0 id 5\n \
+        table t 0x02000001 owner 0 size 2 key k:exact:8 action a 0x01000001 (p:8)\n\
+        write role 0 id 5\n insert table t k=1 a(7)\n";
+
+    #[test]
+    fn an_atomic_batch_that_is_rolled_back() {
+        let batch =
+            "write role 0 id 5 atomic\n modify table t k=1 a(8)\n insert table t k=2 a(8)\n \
+                     insert table t k=3 a(8)\n type 9 table t k=1 a(8)\n";
+        let lines = [
+            "5  write role 0 id 5 atomic",
+            "     answer     some-failed (23), UNKNOWN (2): update 3 of 4 failed, so nothing of the batch took effect: the entries are as before",
+            "     update 1   modify table t k=1 a(p=8)  -> rolled-back (25), ABORTED (10)",
+            "                undone, because update 3 failed",
+            "     update 2   insert table t k=2 a(p=8)  -> rolled-back (25), ABORTED (10)",
+            "                undone, because update 3 failed",
+            "     update 3   insert table t k=3 a(p=8)  -> table-full (22), RESOURCE_EXHAUSTED (8)",
+            "                table t is full: it holds 2 entries, its size",
+            "     update 4   type 9 table t k=1 a(p=8)  -> rolled-back (25), ABORTED (10)",
+            "                not tried, because update 3 failed before it",
+            "     role 0     primary is stream 1, the mark is 5",
+        ];
+        assert_eq!(last(&format!("{TABLE}{batch}")), lines);
+    }
+
+    #[test]
+    fn other_atomic_batches() {
+        for (updates, why) in [
+            ("\n", "done (0), OK (0): there are no updates"),
+            (
+                " delete table t k=1 a(7)\n insert table t k=1 a(8)\n",
+                "done (0), OK (0): 2 updates took effect",
+            ),
+            (
+                " insert table t k=1 a(8)\n",
+                "some-failed (23), UNKNOWN (2): its update failed: the entries are as before",
+            ),
+        ] {
+            let lines = last(&format!("{TABLE}write role 0 id 5 atomic\n{updates}"));
+            assert_eq!(lines[1].trim(), format!("answer     {why}"));
+        }
+    }
+
     #[test]
     fn frames_without_a_form_are_shortened() {
         assert_eq!(
@@ -205,6 +249,10 @@ mod tests {
         assert_eq!(
             last("write role 3 id 0x10 atomicity 2")[0],
             "1  write role 3 id 0x10 atomicity 2"
+        );
+        assert_eq!(
+            last("write role 3 atomicity 1 id 0x10")[0],
+            "1  write role 3 id 0x10 atomic"
         );
     }
 }

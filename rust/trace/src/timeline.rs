@@ -52,6 +52,9 @@ fn title(outcome: &Outcome, words: &Words) -> [String; 3] {
         Ok(Call::Close { stream }) => alone(format!("close {stream}")),
         Ok(Call::Arbitrate { stream, head }) => named(&format!("arbitrate {stream}"), head),
         Ok(Call::Configure { head, .. }) => named("configure", head),
+        Ok(Call::Write {
+            head, atomicity: 1, ..
+        }) => named("write atomic", head),
         Ok(Call::Write { head, .. }) => named("write", head),
         Ok(Call::Read { role, .. }) => ["read".to_owned(), format!("role {role}"), String::new()],
         Err(_) => alone("raw".to_owned()),

@@ -29,6 +29,7 @@ impl Words<'_> {
                 head, atomicity, ..
             } => match atomicity {
                 0 => format!("write {}", self.head(head)),
+                1 => format!("write {} atomic", self.head(head)),
                 _ => format!("write {} atomicity {atomicity}", self.head(head)),
             },
             Call::Read {

@@ -42,10 +42,12 @@ fn sample(what: &str, name: &str) -> Vec<u8> {
     output.stdout
 }
 
-const SCRIPTS: [&str; 10] = [
+const SCRIPTS: [&str; 12] = [
+    "atomic-move",
     "document-01",
     "failover",
     "five-events",
+    "five-events-atomic",
     "p2-p3-p4",
     "p5",
     "p9",
@@ -53,6 +55,16 @@ const SCRIPTS: [&str; 10] = [
     "roles",
     "tenant-moved",
     "values-and-widths",
+];
+
+/// The scripts that are samples too.
+const SAMPLES: [&str; 6] = [
+    "atomic-move",
+    "document-01",
+    "five-events",
+    "p2-p3-p4",
+    "p5",
+    "p9",
 ];
 
 /// The reasons that a trace shows, by their numbers.
@@ -77,7 +89,7 @@ fn scripts_have_their_traces() {
 
 #[test]
 fn frames_are_the_samples() {
-    for name in ["document-01", "five-events", "p2-p3-p4", "p5", "p9"] {
+    for name in SAMPLES {
         let output = run(&["--frames", &format!("scripts/{name}.txt")], &[]);
         assert_eq!(output.stdout, sample("in", name), "{name}");
     }
@@ -85,7 +97,7 @@ fn frames_are_the_samples() {
 
 #[test]
 fn traces_have_the_samples_reasons() {
-    for name in ["document-01", "five-events", "p2-p3-p4", "p5", "p9"] {
+    for name in SAMPLES {
         let output = run(&["--explain", "-"], &sample("in", name));
         let lines = String::from_utf8(sample("out", name)).unwrap();
         let expected: Vec<&str> = lines.lines().filter_map(|l| l.split(' ').nth(1)).collect();
@@ -173,6 +185,8 @@ fn help_has_every_reason() {
     for word in [
         "not-primary",
         "store-full",
+        "rolled-back       ABORTED (10) ",
+        "[atomic | atomicity 0|1|2]",
         "--timeline",
         "expect told count",
         "Exit status",

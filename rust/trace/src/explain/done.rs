@@ -3,6 +3,7 @@
 use savorylatch::frame::Head;
 use savorylatch::{Agent, Reason, StreamState};
 
+use crate::explain::updates;
 use crate::play::Outcome;
 use crate::wire::Call;
 use crate::words::{some, Words};
@@ -14,6 +15,7 @@ pub fn sentence(outcome: &Outcome, words: &Words) -> Option<String> {
         Call::Close { stream } => closed(*stream, before, words),
         Call::Arbitrate { stream, head } => arbitrated(*stream, head, before, words),
         Call::Configure { rows, .. } => configured(rows.len(), before.entries()),
+        Call::Write { atomicity: 1, .. } => written_atomic(&outcome.pairs),
         Call::Write { .. } => written(&outcome.pairs),
         Call::Read { .. } => some(outcome.entries.len(), "entry", "entries"),
     })
@@ -72,6 +74,18 @@ fn configured(rows: usize, entries: usize) -> String {
         _ => format!("the {entries} entries stored before are gone"),
     };
     format!("{tables} configured; {gone}")
+}
+
+/// Of an atomic batch, that it took effect, or which update it was rolled back for.
+fn written_atomic(pairs: &[Reason]) -> String {
+    match (updates::cause(pairs), pairs.len()) {
+        (None, _) => written(pairs),
+        (Some(_), 1) => "its update failed: the entries are as before".to_owned(),
+        (Some(at), all) => format!(
+            "update {} of {all} failed, so nothing of the batch took effect: the entries are as before",
+            at + 1
+        ),
+    }
 }
 
 fn written(pairs: &[Reason]) -> String {

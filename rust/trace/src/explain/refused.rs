@@ -212,16 +212,9 @@ fn not_configured(agent: &Agent) -> Option<Finding> {
 }
 
 fn atomic(atomicity: u8) -> Option<Finding> {
-    let name = match atomicity {
-        0 => return None,
-        1 => "rollback on error",
-        _ => "dataplane atomic",
-    };
-    let text = format!(
-        "atomicity {atomicity}, {name}, is not offered; \
-         with 0 each update succeeds or fails alone"
-    );
-    Some(Finding::new(Reason::Atomicity, text))
+    let text = "atomicity 2, dataplane atomic, is not offered; \
+                with 0 each update succeeds or fails alone, with 1 all take effect or none";
+    (atomicity > 1).then(|| Finding::new(Reason::Atomicity, text))
 }
 
 fn wanted_table(role: u8, wanted: &Wanted, agent: &Agent, words: &Words) -> Option<Finding> {

@@ -8,10 +8,11 @@ use crate::names::Names;
 use crate::notation::Notations;
 use crate::parse;
 use crate::play::{Outcome, Player};
+use crate::wire::Call;
 use crate::words::Words;
 
 /// The reasons that were met, by their numbers.
-type Met = [usize; 25];
+type Met = [usize; 26];
 
 /// Plays frames and looks at each.
 fn agree(frames: &[Vec<u8>], met: &mut Met) {
@@ -37,16 +38,29 @@ fn one(outcome: &Outcome, words: &Words, met: &mut Met) {
     let found = finding.map(|finding| finding.reason);
     assert_eq!(found, refused, "{:?}", outcome.call);
 
-    let pairs = updates::each(outcome, |update, reason, past| {
-        let failed = Some(reason).filter(|&reason| reason != Reason::Done);
+    let found = updates::each(outcome, |_, update, _, past| {
         let found = past.finding(update, words).map(|finding| finding.reason);
-        assert_eq!(found, failed, "{update:?} of {:?}", outcome.call);
-        reason
+        found.unwrap_or(Reason::Done)
     });
-    assert_eq!(pairs, outcome.pairs);
+    let pairs = match outcome.call {
+        Ok(Call::Write { atomicity: 1, .. }) => all_or_none(found),
+        _ => found,
+    };
+    assert_eq!(pairs, outcome.pairs, "{:?}", outcome.call);
     for pair in pairs {
         met[usize::from(pair.number())] += 1;
     }
+}
+
+/// The pairs of an atomic batch, by what is found of its updates: from the first that fails on,
+/// nothing is said of the others.
+fn all_or_none(mut found: Vec<Reason>) -> Vec<Reason> {
+    if let Some(failed) = found.iter().position(|&reason| reason != Reason::Done) {
+        let own = found[failed];
+        found.fill(Reason::RolledBack);
+        found[failed] = own;
+    }
+    found
 }
 
 /// The frames of all scripts, each script's after a fresh start.
@@ -83,9 +97,12 @@ fn changed_frames_agree() {
         }
         agree(&frames, &mut met);
     }
-    let rare = (0..25).filter(|&number| met[number] < 20);
+    let rare = (0..26).filter(|&number| met[number] < 20);
     assert_eq!(rare.collect::<Vec<_>>(), [2, 24]);
 }
+
+/// Where the atomicity of a WRITE is.
+const ATOMICITY: usize = 27;
 
 /// Changes one byte, rather one that says something, or the length.
 fn change(frame: &mut Vec<u8>, dice: &mut Dice) {
@@ -93,6 +110,8 @@ fn change(frame: &mut Vec<u8>, dice: &mut Dice) {
     match dice.below(12) {
         0 => frame.truncate(dice.below(frame.len() + 1)),
         1 => frame.push(dice.byte()),
+        // Any batch may be an atomic one.
+        5..=7 if frame.first() == Some(&5) && frame.len() > ATOMICITY => frame[ATOMICITY] ^= 1,
         2..=4 if !frame.is_empty() => {
             let at = dice.below(frame.len());
             frame[at] = dice.byte();

@@ -8,16 +8,34 @@ use crate::play::{Outcome, Player};
 use crate::wire::{Call, Entry, Update};
 use crate::words::{some, Words};
 
-/// For each update of a WRITE that was done, a sentence if it failed.
+/// For each update of a WRITE that was not refused, a sentence if it did not take effect.
 pub fn updates(outcome: &Outcome, words: &Words) -> Vec<Option<String>> {
-    each(outcome, |update, reason, past| {
+    let cause = cause(&outcome.pairs);
+    each(outcome, |at, update, reason, past| {
         let known = match reason {
             Reason::Done => return None,
+            Reason::RolledBack => cause.map(|cause| rolled_back(at, cause)),
             _ => past.finding(update, words),
         };
         let known = known.filter(|finding| finding.reason == reason);
         Some(known.map_or(general(reason).to_owned(), |finding| finding.text))
     })
+}
+
+/// The place of the update that an atomic batch was rolled back for: the one that failed of itself.
+pub(super) fn cause(pairs: &[Reason]) -> Option<usize> {
+    let own = |reason: &Reason| !matches!(reason, Reason::Done | Reason::RolledBack);
+    pairs.iter().position(own)
+}
+
+/// What became of an update for the sake of another of its batch.
+fn rolled_back(at: usize, cause: usize) -> Finding {
+    let number = cause + 1;
+    let text = match at < cause {
+        true => format!("undone, because update {number} failed"),
+        false => format!("not tried, because update {number} failed before it"),
+    };
+    Finding::new(Reason::RolledBack, text)
 }
 
 /// What an update comes upon.
@@ -27,9 +45,12 @@ pub(super) struct Past {
     player: Player,
 }
 
-/// Looks at each update of a WRITE that was done. They are done again one by one, as what is stored
-/// changes from each to the next.
-pub(super) fn each<T>(outcome: &Outcome, look: impl Fn(&Update, Reason, &Past) -> T) -> Vec<T> {
+/// Looks at each update of a WRITE that was not refused. They are done again one by one, as what is
+/// stored changes from each to the next; so it does within an atomic batch, up to the one that fails.
+pub(super) fn each<T>(
+    outcome: &Outcome,
+    look: impl Fn(usize, &Update, Reason, &Past) -> T,
+) -> Vec<T> {
     let Ok(Call::Write { head, updates, .. }) = &outcome.call else {
         return Vec::new();
     };
@@ -39,8 +60,8 @@ pub(super) fn each<T>(outcome: &Outcome, look: impl Fn(&Update, Reason, &Past) -
         player: Player::resume(&outcome.before, &outcome.store),
     };
     let mut looks = Vec::new();
-    for (update, &reason) in updates.iter().zip(&outcome.pairs) {
-        looks.push(look(update, reason, &past));
+    for (at, (update, &reason)) in updates.iter().zip(&outcome.pairs).enumerate() {
+        looks.push(look(at, update, reason, &past));
         alone(head, update, &mut past.player);
     }
     looks

@@ -7,7 +7,7 @@ use crate::parse::cursor::Cursor;
 use crate::parse::{values, Parser, A_ROLE, A_STREAM};
 use crate::script::{Expected, ExpectedState};
 
-const WHAT: &str = "a reason by number, 0 to 24, or name, or \
+const WHAT: &str = "a reason by number, 0 to 25, or name, or \
                     told, pairs, primary, mark, entries, entry or stream";
 
 impl Parser<'_> {
@@ -95,7 +95,7 @@ impl Parser<'_> {
 fn pairs(cursor: &mut Cursor) -> Result<Expected, Mistake> {
     let mut reasons = Vec::new();
     while cursor.peek().is_some() {
-        reasons.push(reason(cursor, "a reason by number, 0 to 24, or name")?);
+        reasons.push(reason(cursor, "a reason by number, 0 to 25, or name")?);
     }
     Ok(Expected::Pairs(reasons))
 }

@@ -149,12 +149,22 @@ fn updates() {
     assert!(updates
         .iter()
         .all(|update| update.entry == updates[0].entry));
-    let empty = Call::Write {
-        head: head(0, None),
-        atomicity: 0,
+    let empty = |atomicity| Call::Write {
+        head: head(0, Some(5)),
+        atomicity,
         updates: vec![],
     };
-    assert_eq!(call("write role 0"), empty);
+    for (words, atomicity) in [
+        ("id 5", 0),
+        ("id 5 atomicity 0", 0),
+        ("id 5 atomic", 1),
+        ("atomic id 5", 1),
+        ("id 5 atomicity 1", 1),
+        ("id 5 atomicity 2", 2),
+    ] {
+        let text = format!("write role 0 {words}");
+        assert_eq!(call(&text), empty(atomicity), "{text}");
+    }
 }
 
 #[test]
