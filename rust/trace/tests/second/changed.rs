@@ -33,6 +33,15 @@ const CHANGES: &[(&str, usize, &str, &str, &str)] = &[
     ("five-events", 10, "parts", "\n      update 1   modify table tenants dst=10.0.0.1 forward(port=7)  -> not looked at", ""),
     ("five-events", 10, "parts", "\n      role", "\n      update 2   modify table tenants dst=10.0.0.1 forward(port=7)  -> not looked at\n      role"),
     ("tenant-moved", 4, "line", "update 2", "update 3"),
+    // Those of an atomic batch.
+    ("atomic-move", 7, "answer", "-failed (23)", "-failed (25)"),
+    ("atomic-move", 7, "pairs", "-full (22)", "-full (25)"),
+    ("atomic-move", 7, "pairs", "port=9)  -> rolled-back (25)", "port=9)  -> rolled-back (22)"),
+    ("atomic-move", 7, "pairs", "port=9)  -> rolled-back (25), ABORTED (10)", "port=9)  -> rolled-back (25), ABORTED (9)"),
+    ("atomic-move", 7, "line", "port=9)  -> rolled-back (25), ABORTED (10)", "port=9)  -> done (0), OK (0)"),
+    ("atomic-move", 7, "pairs", "type 9 table east dst=10.0.0.3 forward(port=7)  -> rolled-back (25), ABORTED (10)", "type 9 table east dst=10.0.0.3 forward(port=7)  -> bad-form (17), INVALID_ARGUMENT (3)"),
+    ("atomic-move", 8, "entries", "dst=10.0.0.2 forward(port=7)\n      entry 2    table east dst=10.0.0.3", "dst=10.0.0.3 forward(port=7)\n      entry 2    table east dst=10.0.0.2"),
+    ("five-events-atomic", 11, "pairs", "west dst=10.0.0.1 forward(port=8)  -> not looked at", "west dst=10.0.0.1 forward(port=8)  -> rolled-back (25), ABORTED (10)"),
     // The entries.
     ("five-events", 11, "entries", "port=8", "port=7"),
     ("five-events", 11, "entries", "dst=10.0.0.1", "dst=10.0.0.2"),
