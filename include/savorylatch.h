@@ -139,7 +139,7 @@ SAVORYLATCH_FIELD(savorylatch_agent, count, 1456, 8);
 
 /* ---- what is sent */
 
-/* The atomicity of a WRITE, byte 27 of its frame: how the updates stand together. The names are P4Runtime's. */
+/* The atomicity of a WRITE, byte 27 of its frame: whether its updates take effect alone or together. The names are P4Runtime's. */
 enum savorylatch_atomicity {
     SAVORYLATCH_ATOMICITY_CONTINUE_ON_ERROR = 0, /* each update succeeds or fails alone */
     SAVORYLATCH_ATOMICITY_ROLLBACK_ON_ERROR = 1, /* all or none: at the first that fails the entries are those before the call */

@@ -89,6 +89,14 @@
 //! # Ok::<(), savorylatch::answer::Unreadable>(())
 //! ```
 //!
+//! # All or none
+//!
+//! A WRITE with [`RollbackOnError`](frame::Atomicity::RollbackOnError) takes effect as a whole or not
+//! at all: if an update fails, the entries are those before the call.
+//! [`View::rolled_back`](answer::View::rolled_back) says which update was the cause, and
+//! [`View::outcomes`](answer::View::outcomes) what became of each. [`frame::write`] has an example:
+//! a tenant is moved, and the table that it is moved to is full.
+//!
 //! # What is left to the host
 //!
 //! What is proved of a call holds for an agent and *its* store. All else that the library asks of a
