@@ -6,16 +6,15 @@ use Prim.Native.Nat.{ℕ}
 use lib.Dec.{eqb}
 use Rattle.rules.specs.Bytes.{every, parts}
 use Rattle.rules.specs.Frame.{Update, updateOf}
-use Rattle.rules.specs.Row.{Row}
-use Rattle.rules.specs.Update.{batch}
-use Rattle.entries.specs.Store.{tablesIn, Left}
+use Rattle.rules.specs.Update.{Batch}
+use Rattle.entries.specs.Store.{Left}
 use Rattle.entry_store.specs.declared.Written.{Written}
 
 -- the updates of a batch, 221 bytes each
 abbrev pub updatesIn : ℕ → List ℕ → List Update
 updatesIn n us = map updateOf (parts n 221 us)
 
--- a batch, judged and applied in order
-pub record BatchApplied (rows : List Row) (role count : ℕ) (before after : List ℕ) (us : List Update) (w : Written) : Type 0 where
-  pub failed : w .failed ≡ not (every (eqb 0) (batch rows role (tablesIn count before) us .reasons))
-  pub left : Left before after (w .count) (batch rows role (tablesIn count before) us .tables .entries)
+-- the store holds what the batch leaves, in its order; free bytes may be any
+pub record BatchApplied (b : Batch) (before after : List ℕ) (w : Written) : Type 0 where
+  pub failed : w .failed ≡ not (every (eqb 0) (b .reasons))
+  pub left : Left before after (w .count) (b .tables .entries)

@@ -1,3 +1,4 @@
--- What a batch leaves, and what a READ asks for.
+-- What a batch leaves, how far one that rolls back came, and what a READ asks for.
 pub mod Batch
+pub mod Rollback
 pub mod Read

@@ -1,20 +1,21 @@
 // The entry store: batches of updates, and the records of a READ
-// (document 01, "Configuration and entries" and "The maker of an update").
+// (document 01, "Configuration and entries" and "The maker of an update"; document 02, request Two).
 ghost use mathlib.Core.Path.{_≡_};
-ghost use mathlib.Core.List.{map};
-ghost use Prim.Native.Nat.{_*_, _≤_};
-ghost use lib.ListN.{length};
+ghost use mathlib.Core.List.{List, map};
+ghost use Prim.Native.Nat.{ℕ, _*_, _≤_};
+ghost use lib.ListN.{length, set, replicate};
 ghost use Rattle.rules.specs.Bytes.{if_then_else_, keep, concat};
 ghost use lib.Dec.{eqb};
 ghost use Rattle.rules.specs.Row.{mayWrite};
 ghost use Rattle.rules.specs.Key.{shortKey, hasKey};
-ghost use Rattle.rules.specs.Update.{batch as batchOf};
+ghost use Rattle.rules.specs.Update.{eachAlone, allOrNone, batch as batchOf};
 ghost use Rattle.rules.specs.Call.{pairOf, asked, gathered};
 ghost use Rattle.buffers.specs.Splice.{splice};
 ghost use Rattle.rows.specs.Meaning.{rowOf, rowsOf};
-ghost use Rattle.entries.specs.Store.{entriesIn, tablesIn};
+ghost use Rattle.entries.specs.Store.{entriesIn, tablesIn, Left};
 ghost use Rattle.updates.specs.Update.{Tidy};
 ghost use Rattle.entry_store.specs.Batch.{updatesIn, BatchApplied};
+ghost use Rattle.entry_store.specs.Rollback.{Undoes, Attempted};
 ghost use Rattle.entry_store.specs.Read.{keyIn, keyReason, queryReason, readIn, Reads};
 use entries::Found;
 use numbers::integer;
@@ -27,7 +28,15 @@ pub struct Written {
     pub failed: bool,
 }
 
-// ---- a batch
+// How far a batch came: the number of entries, how many updates took effect, and the reason of the next one, which failed (0: none
+// did).
+struct Attempt {
+    count: usize,
+    done: usize,
+    reason: u8,
+}
+
+// ---- a batch with atomicity 0
 
 // Writes the pair of an update: a record of 2 bytes.
 fn write_pair(reason: u8, out: &mut [u8])
@@ -38,8 +47,8 @@ fn write_pair(reason: u8, out: &mut [u8])
     out[1] = rules::code(reason);
 }
 
-// The n updates of a batch in order, each pair written; what is left.
-pub fn batch(
+// The n updates of a batch in order, each of which succeeds or fails alone, each pair written; what is left.
+fn each_alone(
     rows: Rows,
     role: u8,
     store: &mut [u8],
@@ -48,17 +57,10 @@ pub fn batch(
     n: usize,
     answer: &mut [u8],
 ) -> Written
-    requires { ⌜ (56320 ≤ length (now store)) × (length (now updates) ≡ 221 * n) × (2 * n ≤ length (now answer)) ⌝ }
-    ensures left { λ r. ⌜ (Tidy count (now (store .entry)) → BatchApplied (rowsOf rows) role count (now (store .entry)) (now (store .exit)) (updatesIn n (now (updates .entry))) r) ⌝ }
-    ensures pairs { λ r. ⌜ (Tidy count (now (store .entry)) → now (answer .exit) ≡ splice (now (answer .entry)) 0 (concat (map pairOf (batchOf (rowsOf rows) role (tablesIn count (now (store .entry))) (updatesIn n (now (updates .entry))) .reasons)))) ⌝ }
+    requires { ⌜ (count ≤ 256) × (56320 ≤ length (now store)) × (length (now updates) ≡ 221 * n) × (2 * n ≤ length (now answer)) ⌝ }
+    ensures left { λ r. ⌜ (Tidy count (now (store .entry)) → BatchApplied (eachAlone (rowsOf rows) role (tablesIn count (now (store .entry))) (updatesIn n (now (updates .entry)))) (now (store .entry)) (now (store .exit)) r) ⌝ }
+    ensures pairs { λ _. ⌜ (Tidy count (now (store .entry)) → now (answer .exit) ≡ splice (now (answer .entry)) 0 (concat (map pairOf (eachAlone (rowsOf rows) role (tablesIn count (now (store .entry))) (updatesIn n (now (updates .entry))) .reasons)))) ⌝ }
 {
-    if 256 < count {
-        // no list of calls leaves such a count
-        return Written {
-            count,
-            failed: true,
-        };
-    }
     let mut held = count;
     let mut failed = false;
     let mut i: usize = 0;
@@ -85,6 +87,192 @@ pub fn batch(
         count: held,
         failed,
     }
+}
+
+// ---- a batch with atomicity 1: each update is noted before it is done, and where one fails those before it are undone
+
+// The n updates of a batch in order up to the first that fails, each noted in the log before it is done.
+fn attempt(
+    rows: Rows,
+    role: u8,
+    store: &mut [u8],
+    count: usize,
+    updates: &[u8],
+    n: usize,
+    log: &mut [u8],
+) -> Attempt
+    requires { ⌜ (count ≤ 256) × (56320 ≤ length (now store)) × (length (now updates) ≡ 221 * n) × (222 * n ≤ length (now log)) ⌝ }
+    ensures bound { λ r. ⌜ (r .count ≤ 256) × (r .done ≤ n) ⌝ }
+    ensures came { λ r. ⌜ (Tidy count (now (store .entry)) → Attempted (rowsOf rows) role count (updatesIn n (now (updates .entry))) (now (store .entry)) (now (store .exit)) (now (log .exit)) r) ⌝ }
+{
+    let mut held = count;
+    let mut i: usize = 0;
+    while i < n {
+        let from = 221 * i;
+        let end = from + 221;
+        // here too the row alone is handed on
+        let place = rows.position(integer(updates, from + 1, 4));
+        let nth = place % 8;
+        let row = rows.rows[nth];
+        let known = place < 8;
+        let verdict = updates::judge(known, row, role, store, held, &updates[from..end]);
+        let wrong = verdict.reason();
+        if wrong != 0 {
+            return Attempt {
+                count: held,
+                done: i,
+                reason: wrong,
+            };
+        }
+        let at = 222 * i;
+        let to = at + 222;
+        updates::note(verdict, store, held, &mut log[at..to]);
+        held = updates::apply(verdict, store, held, &updates[from..end]);
+        i += 1;
+    }
+    Attempt {
+        count: held,
+        done: n,
+        reason: 0,
+    }
+}
+
+// Undoes the first n notes of a log, the last one first; the number of entries then.
+fn roll_back(log: &[u8], n: usize, store: &mut [u8], count: usize) -> usize
+    requires { ⌜ (count ≤ 256) × (222 * n ≤ length (now log)) × (56320 ≤ length (now store)) ⌝ }
+    ensures { λ r. ⌜ ((goal : List (List ℕ)) → Undoes n (now (log .entry)) (entriesIn count (now (store .entry))) goal → Left (now (store .entry)) (now (store .exit)) r goal) ⌝ }
+{
+    let mut held = count;
+    let mut i = n;
+    while 0 < i {
+        i -= 1;
+        let at = 222 * i;
+        let end = at + 222;
+        held = updates::undo(&log[at..end], store, held);
+    }
+    held
+}
+
+// The reason that update i is answered with where update `at` failed with a reason of its own, or none did (0).
+fn outcome(i: usize, at: usize, own: u8) -> u8
+    ensures { λ r. ⌜ r ≡ (if eqb i at then own else if eqb own 0 then 0 else 25) ⌝ }
+{
+    if i == at {
+        return own;
+    }
+    if own == 0 {
+        return 0;
+    }
+    25
+}
+
+// Writes the pairs of n updates of which update `at` failed with a reason of its own, or none did (0).
+fn write_outcomes(n: usize, at: usize, own: u8, answer: &mut [u8])
+    requires { ⌜ 2 * n ≤ length (now answer) ⌝ }
+    ensures { λ _. ⌜ now (answer .exit) ≡ splice (now (answer .entry)) 0 (concat (map pairOf (set (replicate n (if eqb own 0 then 0 else 25)) at own))) ⌝ }
+{
+    let mut i: usize = 0;
+    while i < n {
+        let to = 2 * i;
+        write_pair(outcome(i, at, own), &mut answer[to..]);
+        i += 1;
+    }
+}
+
+// The n updates of a batch in order, all of them or none, each pair written; what is left. The log has room for n notes.
+fn all_or_none(
+    rows: Rows,
+    role: u8,
+    store: &mut [u8],
+    count: usize,
+    updates: &[u8],
+    n: usize,
+    log: &mut [u8],
+    answer: &mut [u8],
+) -> Written
+    requires { ⌜ (count ≤ 256) × (56320 ≤ length (now store)) × (length (now updates) ≡ 221 * n) × (222 * n ≤ length (now log)) × (2 * n ≤ length (now answer)) ⌝ }
+    ensures left { λ r. ⌜ (Tidy count (now (store .entry)) → BatchApplied (allOrNone (rowsOf rows) role (tablesIn count (now (store .entry))) (updatesIn n (now (updates .entry)))) (now (store .entry)) (now (store .exit)) r) ⌝ }
+    ensures pairs { λ _. ⌜ (Tidy count (now (store .entry)) → now (answer .exit) ≡ splice (now (answer .entry)) 0 (concat (map pairOf (allOrNone (rowsOf rows) role (tablesIn count (now (store .entry))) (updatesIn n (now (updates .entry))) .reasons)))) ⌝ }
+{
+    let came = attempt(rows, role, store, count, updates, n, log);
+    write_outcomes(n, came.done, came.reason, answer);
+    let mut held = came.count;
+    if came.reason != 0 {
+        held = roll_back(log, came.done, store, came.count);
+    }
+    Written {
+        count: held,
+        failed: came.reason != 0,
+    }
+}
+
+// The same with a log of its own, for at most 4 updates: a longer log costs more to make than they do.
+fn all_or_none_few(
+    rows: Rows,
+    role: u8,
+    store: &mut [u8],
+    count: usize,
+    updates: &[u8],
+    n: usize,
+    answer: &mut [u8],
+) -> Written
+    requires { ⌜ (count ≤ 256) × (56320 ≤ length (now store)) × (length (now updates) ≡ 221 * n) × (n ≤ 4) × (2 * n ≤ length (now answer)) ⌝ }
+    ensures left { λ r. ⌜ (Tidy count (now (store .entry)) → BatchApplied (allOrNone (rowsOf rows) role (tablesIn count (now (store .entry))) (updatesIn n (now (updates .entry)))) (now (store .entry)) (now (store .exit)) r) ⌝ }
+    ensures pairs { λ _. ⌜ (Tidy count (now (store .entry)) → now (answer .exit) ≡ splice (now (answer .entry)) 0 (concat (map pairOf (allOrNone (rowsOf rows) role (tablesIn count (now (store .entry))) (updatesIn n (now (updates .entry))) .reasons)))) ⌝ }
+{
+    let mut log = [0; 888];
+    all_or_none(rows, role, store, count, updates, n, &mut log, answer)
+}
+
+// The same for at most 64 updates.
+fn all_or_none_many(
+    rows: Rows,
+    role: u8,
+    store: &mut [u8],
+    count: usize,
+    updates: &[u8],
+    n: usize,
+    answer: &mut [u8],
+) -> Written
+    requires { ⌜ (count ≤ 256) × (56320 ≤ length (now store)) × (length (now updates) ≡ 221 * n) × (n ≤ 64) × (2 * n ≤ length (now answer)) ⌝ }
+    ensures left { λ r. ⌜ (Tidy count (now (store .entry)) → BatchApplied (allOrNone (rowsOf rows) role (tablesIn count (now (store .entry))) (updatesIn n (now (updates .entry)))) (now (store .entry)) (now (store .exit)) r) ⌝ }
+    ensures pairs { λ _. ⌜ (Tidy count (now (store .entry)) → now (answer .exit) ≡ splice (now (answer .entry)) 0 (concat (map pairOf (allOrNone (rowsOf rows) role (tablesIn count (now (store .entry))) (updatesIn n (now (updates .entry))) .reasons)))) ⌝ }
+{
+    let mut log = [0; 14208];
+    all_or_none(rows, role, store, count, updates, n, &mut log, answer)
+}
+
+// ---- a batch
+
+// The n updates of a batch by its atomicity, each pair written; what is left.
+pub fn batch(
+    rows: Rows,
+    role: u8,
+    atomicity: u8,
+    store: &mut [u8],
+    count: usize,
+    updates: &[u8],
+    n: usize,
+    answer: &mut [u8],
+) -> Written
+    requires { ⌜ (56320 ≤ length (now store)) × (length (now updates) ≡ 221 * n) × (n ≤ 64) × (2 * n ≤ length (now answer)) ⌝ }
+    ensures left { λ r. ⌜ (Tidy count (now (store .entry)) → BatchApplied (batchOf atomicity (rowsOf rows) role (tablesIn count (now (store .entry))) (updatesIn n (now (updates .entry)))) (now (store .entry)) (now (store .exit)) r) ⌝ }
+    ensures pairs { λ _. ⌜ (Tidy count (now (store .entry)) → now (answer .exit) ≡ splice (now (answer .entry)) 0 (concat (map pairOf (batchOf atomicity (rowsOf rows) role (tablesIn count (now (store .entry))) (updatesIn n (now (updates .entry))) .reasons)))) ⌝ }
+{
+    if 256 < count {
+        // no list of calls leaves such a count
+        return Written {
+            count,
+            failed: true,
+        };
+    }
+    if atomicity != 1 {
+        return each_alone(rows, role, store, count, updates, n, answer);
+    }
+    if n <= 4 {
+        return all_or_none_few(rows, role, store, count, updates, n, answer);
+    }
+    all_or_none_many(rows, role, store, count, updates, n, answer)
 }
 
 // ---- READ
