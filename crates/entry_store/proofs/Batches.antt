@@ -1,5 +1,5 @@
--- A batch before its update i: what the updates left will do to the store as it is now, after what was done, is what all of them
--- do to the store at the start. Assumes nothing.
+-- A batch with atomicity 0 before its update i: what the updates left will do to the store as it is now, after what was done, is
+-- what all of them do to the store at the start. And what both kinds of batch are proved with. Assumes nothing.
 use Prim.Native.Nat.{ℕ, _+_, _*_, _%_, _≤_}
 use native.Mathlib.Omega.{arith}
 use mathlib.Core.Path.{_≡_, refl, sym, ap, _∙_}
@@ -12,7 +12,7 @@ use Rattle.rules.specs.Bytes.{if_then_else_, every, concat, part, number, int}
 use Rattle.rules.specs.Frame.{Update, updateOf}
 use Rattle.rules.specs.Row.{Row, known, rowFor}
 use Rattle.rules.specs.Key.{tableOf}
-use Rattle.rules.specs.Update.{Tables, Batch, judgeBy, judge, apply, batch}
+use Rattle.rules.specs.Update.{Tables, Batch, judgeBy, judge, apply, eachAlone}
 use Rattle.rules.specs.Call.{pairOf}
 use Rattle.rules.proofs.Lists.{part-part}
 use Rattle.rows.specs.declared.Rows.{Rows}
@@ -66,7 +66,7 @@ row-found c us i at {table} e k found role t r j =
 module _ (rows : List Row) (role : ℕ) where
   -- what updates do to a store as it is
   abbrev does : ℕ → List ℕ → List Update → Batch
-  does held store us = batch rows role (tablesIn held store) us
+  does held store us = eachAlone rows role (tablesIn held store) us
 
   -- `all` is what all updates do to the store `start`, with the answer `out`; us are those left
   pub record Batching (all : Batch) (start out : List ℕ) (us : List Update) (store answer : List ℕ) (held : ℕ) (failed : Bool)
@@ -84,7 +84,7 @@ module _ (rows : List Row) (role : ℕ) where
       record { tidy = ok; room = refl; beyond = refl; tables = refl; failing = refl; pairs = written-none 2 _ out }
 
   -- an update leaves a tidy store
-  still-tidy : {held : ℕ} {store : List ℕ} (u : Update) (n : ℕ) (after : List ℕ) → length (u .entry) ≡ 220 → Tidy held store
+  pub still-tidy : {held : ℕ} {store : List ℕ} (u : Update) (n : ℕ) (after : List ℕ) → length (u .entry) ≡ 220 → Tidy held store
       → entriesIn n after ≡ apply (judge rows role (tablesIn held store) u) u (tablesIn held store) .entries → Tidy n after
   unfolding judge
   still-tidy {held} {store} u = applied-tidy (known (tableOf (u .entry)) rows) (rowFor (tableOf (u .entry)) rows) role held store u
@@ -97,7 +97,7 @@ module _ (rows : List Row) (role : ℕ) where
         → failed′ ≡ flagged reason failed
         → answer′ ≡ splice answer (2 * i) (pairOf reason)
         → Batching all start out us after answer′ n failed′ (i + 1)
-    unfolding batch
+    unfolding eachAlone
     batch-next {u} {us} {after} {answer′} {reason} {n} b l h e left f w =
         let before : Tables = tablesIn held store in
         let t : tablesIn n after ≡ apply (judge rows role before u) u before =
@@ -113,9 +113,9 @@ module _ (rows : List Row) (role : ℕ) where
 
   pub batch-end : {count : ℕ} {us : List Update} {start out store answer : List ℕ} {held i : ℕ} {failed : Bool}
       → Batching (does count start us) start out [] store answer held failed i
-      → BatchApplied rows role count start store us (record { count = held; failed = failed })
+      → BatchApplied (does count start us) start store (record { count = held; failed = failed })
       × (answer ≡ splice out 0 (concat (map pairOf (does count start us .reasons))))
-  unfolding batch
+  unfolding eachAlone
   batch-end {count} {us} {start} {store} {held} {failed} b = (
     record {
       failed = flag failed (b .failing);

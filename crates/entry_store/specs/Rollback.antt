@@ -12,7 +12,7 @@ use Rattle.rules.specs.Row.{Row}
 use Rattle.rules.specs.Update.{eachAlone, failure}
 use Rattle.entries.specs.Store.{entriesIn, tablesIn, Left}
 use Rattle.updates.specs.Undo.{Note, noteOf, undone, Fits}
-use Rattle.entry_store.specs.declared.Attempt.{Attempt}
+use Rattle.entry_store.specs.declared.Progress.{Progress}
 
 -- ---- the notes
 
@@ -28,12 +28,18 @@ Undoes (suc k) log es goal = Fits (noteAt k log) (length es) × Undoes k log (un
 -- ---- the batch
 
 -- the update that failed, if one did: how many are before it, and its reason
-abbrev pub failureOf : Attempt → Option (ℕ × ℕ)
+abbrev pub failureOf : Progress → Option (ℕ × ℕ)
 failureOf a = if eqb (a .reason) 0 then none else some (a .done, a .reason)
 
 -- Updates were done up to the first that fails. The store holds what they leave, and their notes bring the entries back.
-pub record Attempted (rows : List Row) (role count : ℕ) (us : List Update) (before after log : List ℕ) (a : Attempt) : Type 0 where
+pub record Attempted (rows : List Row) (role count : ℕ) (us : List Update) (before after log : List ℕ) (a : Progress) : Type 0 where
   pub failed : failureOf a ≡ failure rows role (tablesIn count before) us
   pub whole : a .reason ≡ 0 → a .done ≡ length us
   pub left : Left before after (a .count) (eachAlone rows role (tablesIn count before) (take (a .done) us) .tables .entries)
   pub undoes : Undoes (a .done) log (entriesIn (a .count) after) (entriesIn count before)
+
+-- ---- the pairs
+
+-- the reason of every update but the one that failed, by that one's own: 25, and 0 where none failed
+abbrev pub othersOf : ℕ → ℕ
+othersOf own = if eqb own 0 then 0 else 25

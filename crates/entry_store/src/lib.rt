@@ -15,7 +15,7 @@ ghost use Rattle.rows.specs.Meaning.{rowOf, rowsOf};
 ghost use Rattle.entries.specs.Store.{entriesIn, tablesIn, Left};
 ghost use Rattle.updates.specs.Update.{Tidy};
 ghost use Rattle.entry_store.specs.Batch.{updatesIn, BatchApplied};
-ghost use Rattle.entry_store.specs.Rollback.{Undoes, Attempted};
+ghost use Rattle.entry_store.specs.Rollback.{Undoes, Attempted, othersOf};
 ghost use Rattle.entry_store.specs.Read.{keyIn, keyReason, queryReason, readIn, Reads};
 use entries::Found;
 use numbers::integer;
@@ -30,7 +30,7 @@ pub struct Written {
 
 // How far a batch came: the number of entries, how many updates took effect, and the reason of the next one, which failed (0: none
 // did).
-struct Attempt {
+struct Progress {
     count: usize,
     done: usize,
     reason: u8,
@@ -100,7 +100,7 @@ fn attempt(
     updates: &[u8],
     n: usize,
     log: &mut [u8],
-) -> Attempt
+) -> Progress
     requires { ⌜ (count ≤ 256) × (56320 ≤ length (now store)) × (length (now updates) ≡ 221 * n) × (222 * n ≤ length (now log)) ⌝ }
     ensures bound { λ r. ⌜ (r .count ≤ 256) × (r .done ≤ n) ⌝ }
     ensures came { λ r. ⌜ (Tidy count (now (store .entry)) → Attempted (rowsOf rows) role count (updatesIn n (now (updates .entry))) (now (store .entry)) (now (store .exit)) (now (log .exit)) r) ⌝ }
@@ -118,7 +118,7 @@ fn attempt(
         let verdict = updates::judge(known, row, role, store, held, &updates[from..end]);
         let wrong = verdict.reason();
         if wrong != 0 {
-            return Attempt {
+            return Progress {
                 count: held,
                 done: i,
                 reason: wrong,
@@ -130,7 +130,7 @@ fn attempt(
         held = updates::apply(verdict, store, held, &updates[from..end]);
         i += 1;
     }
-    Attempt {
+    Progress {
         count: held,
         done: n,
         reason: 0,
@@ -155,7 +155,7 @@ fn roll_back(log: &[u8], n: usize, store: &mut [u8], count: usize) -> usize
 
 // The reason that update i is answered with where update `at` failed with a reason of its own, or none did (0).
 fn outcome(i: usize, at: usize, own: u8) -> u8
-    ensures { λ r. ⌜ r ≡ (if eqb i at then own else if eqb own 0 then 0 else 25) ⌝ }
+    ensures { λ r. ⌜ r ≡ (if eqb i at then own else othersOf own) ⌝ }
 {
     if i == at {
         return own;
@@ -169,7 +169,7 @@ fn outcome(i: usize, at: usize, own: u8) -> u8
 // Writes the pairs of n updates of which update `at` failed with a reason of its own, or none did (0).
 fn write_outcomes(n: usize, at: usize, own: u8, answer: &mut [u8])
     requires { ⌜ 2 * n ≤ length (now answer) ⌝ }
-    ensures { λ _. ⌜ now (answer .exit) ≡ splice (now (answer .entry)) 0 (concat (map pairOf (set (replicate n (if eqb own 0 then 0 else 25)) at own))) ⌝ }
+    ensures { λ _. ⌜ now (answer .exit) ≡ splice (now (answer .entry)) 0 (concat (map pairOf (set (replicate n (othersOf own)) at own))) ⌝ }
 {
     let mut i: usize = 0;
     while i < n {

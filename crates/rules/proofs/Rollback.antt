@@ -30,12 +30,12 @@ stopped-at (v ∷ earlier) u later r = ap (λ (l : List ℕ). 25 ∷ l) (stopped
 
 module _ (rows : List Row) (role : ℕ) where
   -- what the first update that fails, if any, says of a batch
-  abbrev Told : Option (ℕ × ℕ) → Tables → List Update → Type 0
+  abbrev pub Told : Option (ℕ × ℕ) → Tables → List Update → Type 0
   Told none t us = every (eqb 0) (eachAlone rows role t us .reasons) ≡ true
   Told (some f) t us =
       (every (eqb 0) (eachAlone rows role t us .reasons) ≡ false) × (every (eqb 0) (rolledBack (length us) f) ≡ false)
 
-  told : (t : Tables) (us : List Update) → Told (failure rows role t us) t us
+  pub told : (t : Tables) (us : List Update) → Told (failure rows role t us) t us
   unfolding failure eachAlone
   told t [] = refl
   told t (u ∷ us) = go (eqb r 0) refl (failure rows role (apply r u t) us) (told (apply r u t) us)
@@ -49,7 +49,7 @@ module _ (rows : List Row) (role : ℕ) where
       go true q (some f) h = (rw (eqb-sym 0 r, q) (h .0), refl)
       go false q o h = (rw (eqb-sym 0 r, q), rw (eqb-sym 0 r, q))
 
-  failure-at : (t : Tables) (earlier : List Update) (u : Update) (later : List Update)
+  pub failure-at : (t : Tables) (earlier : List Update) (u : Update) (later : List Update)
       → every (eqb 0) (eachAlone rows role t earlier .reasons) ≡ true
       → (judge rows role (eachAlone rows role t earlier .tables) u ≡ 0 → ⊥)
       → failure rows role t (earlier ++ u ∷ later) ≡ some (length earlier, judge rows role (eachAlone rows role t earlier .tables) u)

@@ -14,7 +14,7 @@ use denote.Ref.{now}
 use borrow.Author.Needs.{needs}
 use Rattle.rules.specs.Bytes.{part, parts}
 use Rattle.rules.specs.Frame.{updateOf}
-use Rattle.rules.specs.Update.{apply, batch}
+use Rattle.rules.specs.Update.{apply, eachAlone}
 use Rattle.rows.specs.Meaning.{rowsOf}
 use Rattle.entries.specs.Store.{tablesIn, Left}
 use Rattle.rules.proofs.Lists.{parts-from}
@@ -23,8 +23,8 @@ use Rattle.updates.specs.Update.{Tidy}
 use Rattle.updates.proofs.Updates.{refused-left}
 use Rattle.entry_store.specs.Batch.{updatesIn}
 use Rattle.entry_store.proofs.Batches.{Batching, batch-start, batch-next, batch-end, flag-set, flag-kept, row-found}
-use Rattle.entry_store.proofs.batch.Statement.{statement}
-use Rattle.entry_store.proofs.batch.Tie as tie
+use Rattle.entry_store.proofs.each_alone.Statement.{statement}
+use Rattle.entry_store.proofs.each_alone.Tie as tie
 
 abbrev Inv-loop : tie.InvT-loop
 Inv-loop role store₀ count updates n answer₀ rows held₀ failed₀ i₀ store answer held failed i =
@@ -33,14 +33,11 @@ Inv-loop role store₀ count updates n answer₀ rows held₀ failed₀ i₀ sto
     × (length store ≡ length store₀)
     × (length answer ≡ length answer₀)
     × (Tidy count store₀
-    → Batching (rowsOf rows) role (batch (rowsOf rows) role (tablesIn count store₀) (updatesIn n updates)) store₀ answer₀
+    → Batching (rowsOf rows) role (eachAlone (rowsOf rows) role (tablesIn count store₀) (updatesIn n updates)) store₀ answer₀
     (map updateOf (drop i (parts n 221 updates))) store answer held failed i)
 
 abbrev μ-loop : tie.MeasureT-loop
 μ-loop role store₀ count updates n answer₀ rows held₀ failed₀ i₀ store answer held failed i = n - i
-
-returns : tie.Need-returns Inv-loop μ-loop
-returns c = (λ t. absurd (omega (arith, t .few)), λ t. absurd (omega (arith, t .few)))
 
 loop-holds : tie.Need-loop-holds Inv-loop μ-loop
 loop-holds c = (omega arith, omega arith, refl, refl, λ t. batch-start _ _ _ _ _ _ t)
@@ -117,7 +114,7 @@ loop-less c = search needs
 -- update i and its pair have their places
 places : (c : tie.In-loop Inv-loop μ-loop)
     → let l = c .before in
-    let a = l .before .before .before .before .before .args in
+    let a = l .before .before .before .before .args in
     (l .loop .i < a .n)
     × (221 * l .loop .i + 221 ≤ length (now (a .updates)))
     × (2 * l .loop .i + 2 ≤ length (now (a .answer)))
@@ -133,7 +130,7 @@ loop-again c =
     let p = v .before .before .before .before in
     let g = p .before .before in
     let l = g .before in
-    let a = l .before .before .before .before .before .args in
+    let a = l .before .before .before .before .args in
     let us : List ℕ = now (a .updates) in
     let s : List ℕ = l .loop .store in
     let x : List ℕ = l .loop .answer in
@@ -149,9 +146,9 @@ loop-again c =
     let written = part-copied x (w .last .1 .0) (pairOf r) (2 * i) (length x - 2 * i) (w .ensures)
     (omega (arith, at .3)) (omega (arith, at .3)) in
     let f : Bool = l .loop .failed in
-    let flag = ⊎-elim (λ y. flag-set r f (y .0 .taken) (y .1)) (λ y. flag-kept r f (y .0 .left) (y .1)) (d .before .before .if2 .came) in
-    let done : (c .if3 .held ≤ 256) × (length (c .if3 .store) ≡ length s)
-    × (Tidy (l .loop .held) s → Left s (c .if3 .store) (c .if3 .held) (apply r (updateOf u) (tablesIn (l .loop .held) s) .entries)) =
+    let flag = ⊎-elim (λ y. flag-set r f (y .0 .taken) (y .1)) (λ y. flag-kept r f (y .0 .left) (y .1)) (d .before .before .if1 .came) in
+    let done : (c .if2 .held ≤ 256) × (length (c .if2 .store) ≡ length s)
+    × (Tidy (l .loop .held) s → Left s (c .if2 .store) (c .if2 .held) (apply r (updateOf u) (tablesIn (l .loop .held) s) .entries)) =
     ⊎-elim
     (λ y. rw (y .6, y .7) (
       y .3 .ensures .0,
@@ -163,7 +160,7 @@ loop-again c =
       refl,
       λ t. refused-left r (updateOf u) (l .loop .held) s (λ z. omega (arith, y .0 .left)),
     ))
-    (c .if3 .came) in (
+    (c .if2 .came) in (
       omega (arith, at .0),
       done .0,
       done .1 ∙ l .loop .inv .2,
@@ -179,22 +176,21 @@ same-length c = search needs
 same-length-2 : tie.Need-same-length-2 Inv-loop μ-loop
 same-length-2 c = search needs
 
-returns-2 : tie.Need-returns-2 Inv-loop μ-loop
-returns-2 c =
-    let a = c .before .before .before .before .before .before .args in
+returns : tie.Need-returns Inv-loop μ-loop
+returns c =
+    let a = c .before .before .before .before .before .args in
     let i : ℕ = c .before .loop .i in
     let us : List (List ℕ) = parts (a .n) 221 (now (a .updates)) in
     let none : drop i us ≡ [] = drop-of-length-le us {i = i} (omega (arith, parts-count (a .n) 221 (now (a .updates)))) in
     let b = c .before .loop .inv .4 in
     (λ t. batch-end _ _ (rw none at (b t)) .0, λ t. batch-end _ _ (rw none at (b t)) .1)
 
-pub batch-spec : {M : Type 1} → statement M
-batch-spec =
+pub each-alone-spec : {M : Type 1} → statement M
+each-alone-spec =
     tie.close
     (tie.spec
     Inv-loop
     μ-loop
-    returns
     loop-holds
     mul-from
     add-end
@@ -222,4 +218,4 @@ batch-spec =
     loop-again
     same-length
     same-length-2
-    returns-2)
+    returns)

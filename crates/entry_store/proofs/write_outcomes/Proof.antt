@@ -1,0 +1,104 @@
+-- Right because the pairs written and those left are all of them. Assumes nothing.
+use Prim.Native.Nat.{ℕ, _+_, _*_, _-_, _≤_, _<_}
+use native.Mathlib.Omega.{arith}
+use mathlib.Core.Path.{_≡_, refl, ap, _∙_}
+use mathlib.Core.List.{List, [], map}
+use lib.ListN.{length, drop, set, replicate, length-set, length-replicate, drop-of-length-le}
+use borrow.Rule.Slice.PartMut.{same-len-mid}
+use denote.Ref.{now}
+use Rattle.rules.specs.Call.{pairOf}
+use Rattle.buffers.proofs.Splice.{part-copied}
+use Rattle.buffers.proofs.Written.{Written, written-none, written-next, written-all}
+use Rattle.entry_store.specs.Rollback.{othersOf}
+use Rattle.entry_store.proofs.Rollbacks.{outcomes-from}
+use borrow.Author.Needs.{needs}
+use Rattle.entry_store.proofs.write_outcomes.Statement.{statement}
+use Rattle.entry_store.proofs.write_outcomes.Tie as tie
+
+-- the reasons of all
+abbrev reasons : ℕ → ℕ → ℕ → List ℕ
+reasons n at own = set (replicate n (othersOf own)) at own
+
+abbrev Inv-loop : tie.InvT-loop
+Inv-loop n at own answer₀ i₀ answer i =
+    (i ≤ n)
+    × (length answer ≡ length answer₀)
+    × Written 2 (map pairOf (reasons n at own)) answer₀ (map pairOf (drop i (reasons n at own))) answer i
+
+abbrev μ-loop : tie.MeasureT-loop
+μ-loop n at own answer₀ i₀ answer i = n - i
+
+loop-holds : tie.Need-loop-holds Inv-loop μ-loop
+loop-holds c = (omega arith, refl, written-none 2 _ _)
+
+mul-to : tie.Need-mul-to Inv-loop μ-loop
+mul-to c = search needs
+
+outcome-requires : tie.Need-outcome-requires Inv-loop μ-loop
+outcome-requires c κs = search needs
+
+sub-write-pair : tie.Need-sub-write-pair Inv-loop μ-loop
+sub-write-pair c = search needs
+
+part-write-pair-start : tie.Need-part-write-pair-start Inv-loop μ-loop
+part-write-pair-start c = search needs
+
+part-write-pair-end : tie.Need-part-write-pair-end Inv-loop μ-loop
+part-write-pair-end c = search needs
+
+write-pair-requires : tie.Need-write-pair-requires Inv-loop μ-loop
+write-pair-requires c κs = search needs
+
+add-i : tie.Need-add-i Inv-loop μ-loop
+add-i c = search needs
+
+loop-less : tie.Need-loop-less Inv-loop μ-loop
+loop-less c = search needs
+
+loop-again : tie.Need-loop-again Inv-loop μ-loop
+loop-again c =
+    let w = c .before .before .write-pair in
+    let o = c .before .before .before .before .outcome in
+    let l = c .before .before .before .before .before .before .loop in
+    let a = c .before .before .before .before .before .before .before .before .args in
+    let x : List ℕ = l .answer in
+    let i : ℕ = l .i in
+    let h : i < a .n = omega arith in
+    let room : 2 * i + 2 ≤ length x = omega arith in
+    let start : 2 * i ≤ length (now (a .answer)) = omega arith in
+    let written = part-copied x (w .last .1 .0) (pairOf (o .result)) (2 * i) (length x - 2 * i) (w .ensures) (omega (arith, room)) (omega (arith, room)) in (
+      omega arith,
+      same-len-mid (2 * i) (length x - 2 * i) x (w .last .1 .0) (w .kept .1 .0) ∙ l .inv .1,
+      written-next (l .inv .2) (ap (map pairOf) (outcomes-from (a .n) (othersOf (a .own)) (a .at) (a .own) i h)) refl start (rw (o .ensures) at written) refl,
+    )
+
+same-length : tie.Need-same-length Inv-loop μ-loop
+same-length c = search needs
+
+returns : tie.Need-returns Inv-loop μ-loop
+returns c =
+    let l = c .before .loop in
+    let a = c .before .before .before .args in
+    let rs : List ℕ = reasons (a .n) (a .at) (a .own) in
+    let k : length rs ≡ a .n = length-set (replicate (a .n) (othersOf (a .own))) (a .at) (a .own) ∙ length-replicate (a .n) (othersOf (a .own)) in
+    let none : drop (l .i) rs ≡ [] = drop-of-length-le rs {i = l .i} (omega arith) in
+    written-all (l .inv .2) (ap (map pairOf) none) .1
+
+pub write-outcomes-spec : {M : Type 1} → statement M
+write-outcomes-spec =
+    tie.close
+    (tie.spec
+    Inv-loop
+    μ-loop
+    loop-holds
+    mul-to
+    outcome-requires
+    sub-write-pair
+    part-write-pair-start
+    part-write-pair-end
+    write-pair-requires
+    add-i
+    loop-less
+    loop-again
+    same-length
+    returns)
