@@ -111,12 +111,11 @@ module _ (rows : List Row) (role : ℕ) where
           pairs = rw t (written-next (b .pairs) refl refl h (rw e at w) refl);
         }
 
-  pub batch-end : {count : ℕ} {us : List Update} {start out store answer : List ℕ} {held i : ℕ} {failed : Bool}
-      → Batching (does count start us) start out [] store answer held failed i
-      → BatchApplied (does count start us) start store (record { count = held; failed = failed })
-      × (answer ≡ splice out 0 (concat (map pairOf (does count start us .reasons))))
+  pub batch-end : {all : Batch} {start out store answer : List ℕ} {held i : ℕ} {failed : Bool}
+      → Batching all start out [] store answer held failed i
+      → BatchApplied all start store (record { count = held; failed = failed }) × (answer ≡ splice out 0 (concat (map pairOf (all .reasons))))
   unfolding eachAlone
-  batch-end {count} {us} {start} {store} {held} {failed} b = (
+  batch-end {all} {failed = failed} b = (
     record {
       failed = flag failed (b .failing);
       left = record { holds = sym (ap (λ (t : Tables). t .entries) (b .tables)); room = b .room; beyond = b .beyond };
@@ -124,7 +123,6 @@ module _ (rows : List Row) (role : ℕ) where
     written-all (b .pairs) refl .1,
   )
     where
-      flag : (f : Bool) → every (eqb 0) (does count start us .reasons) ≡ (not f && true)
-          → f ≡ not (every (eqb 0) (does count start us .reasons))
+      flag : (f : Bool) → every (eqb 0) (all .reasons) ≡ (not f && true) → f ≡ not (every (eqb 0) (all .reasons))
       flag true q = rw q
       flag false q = rw q

@@ -150,7 +150,7 @@ module _ (rows : List Row) (role : ℕ) where
           → Attempted rows role count us start store log (record { count = held; done = i; reason = reason })
       attempt-stop {reason} e n =
           let t : Tables = tablesIn count start in
-          let no : judge rows role (eachAlone rows role t (b .earlier) .tables) u ≡ 0 → ⊥ = rw now-is at (λ z. n (e ∙ z)) in
+          let no : judge rows role (eachAlone rows role t (b .earlier) .tables) u ≡ 0 → ⊥ = λ z. n (e ∙ rw now-is z) in
           record {
             failed = rw (ne-eqb reason 0 n, b .split, failure-at rows role t (b .earlier) u later (b .passed) no, b .many, ← now-is, e) refl;
             whole = λ z. absurd (n z);
@@ -217,7 +217,7 @@ module _ {rows : List Row} {role count : ℕ} {us : List Update} {before mid log
     kept-reasons =
         let n : length (each .reasons) ≡ length us = reasons-count 0 rows role t us in
         let r : each .reasons ≡ replicate (length us) 0 = all-zero (each .reasons) passed ∙ ap (λ (k : ℕ). replicate k 0) n in
-        rw (all-each, z) (r ∙ sym (set-out (replicate (length us) 0) (a .done) 0 (omega (arith, length-replicate (length us) 0, h .whole z))))
+        rw (all-each, z) (r ∙ sym (set-out (replicate (length us) 0) (a .done) 0 (omega (arith, length-replicate {A = ℕ} (length us) 0, h .whole z))))
 
   module _ (n : a .reason ≡ 0 → ⊥) where
     one-failed : failureOf a ≡ some (a .done, a .reason)
