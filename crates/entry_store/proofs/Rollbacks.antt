@@ -4,7 +4,7 @@ use Prim.Native.Nat.{ℕ, zero, suc, _+_, _*_, _≤_, _<_}
 use native.Mathlib.Omega.{arith}
 use native.Mathlib.Numerals.{add-one}
 use mathlib.Core.Path.{_≡_, refl, sym, ap, _∙_}
-use mathlib.Core.Bool.{Bool, true, false}
+use mathlib.Core.Bool.{Bool, true, false, not}
 use mathlib.Core.Option.{Option, none, some}
 use mathlib.Core.List.{List, [], _∷_, _++_, append-assoc, append-nil}
 use lib.Dec.{eqb}
@@ -196,6 +196,14 @@ module _ {rows : List Row} {role count : ℕ} {us : List Update} {before mid log
   said : Told rows role (failureOf a) t us
   said = rw (h .failed) (told rows role t us)
 
+  -- whether an update failed
+  abbrev failed : Bool
+  failed = not (eqb (a .reason) 0)
+
+  -- the reasons that were answered
+  abbrev outcomes : ℕ → List ℕ
+  outcomes n = set (replicate n (othersOf (a .reason))) (a .done) (a .reason)
+
   module _ (z : a .reason ≡ 0) where
     none-failed : failureOf a ≡ none
     none-failed = rw z refl
@@ -206,13 +214,13 @@ module _ {rows : List Row} {role count : ℕ} {us : List Update} {before mid log
     passed : every (eqb 0) (each .reasons) ≡ true
     passed = rw none-failed at said
 
-    pub kept : BatchApplied all before mid (record { count = a .count; failed = false })
+    pub kept : BatchApplied all before mid (record { count = a .count; failed = failed })
     kept = rw all-each (record {
-      failed = rw passed refl;
+      failed = rw (z, passed) refl;
       left = rw (take-all (a .done) us (omega (arith, h .whole z))) at (h .left);
     })
 
-    pub kept-reasons : all .reasons ≡ set (replicate (length us) (othersOf (a .reason))) (a .done) (a .reason)
+    kept-reasons : all .reasons ≡ outcomes (length us)
     unfolding batch
     kept-reasons =
         let n : length (each .reasons) ≡ length us = reasons-count 0 rows role t us in
@@ -231,16 +239,23 @@ module _ {rows : List Row} {role count : ℕ} {us : List Update} {before mid log
 
     pub rolled : {after : List ℕ} {n : ℕ}
         → ((goal : List (List ℕ)) → Undoes (a .done) log (entriesIn (a .count) mid) goal → Left mid after n goal)
-        → BatchApplied all before after (record { count = n; failed = true })
+        → BatchApplied all before after (record { count = n; failed = failed })
     rolled back =
         let u = back (entriesIn count before) (h .undoes) in
         rw all-rolled (record {
-          failed = rw failing refl;
+          failed = rw (ne-eqb (a .reason) 0 n, failing) refl;
           left = record { holds = u .holds; room = u .room ∙ h .left .room; beyond = u .beyond ∙ h .left .beyond };
         })
 
-    pub rolled-reasons : all .reasons ≡ set (replicate (length us) (othersOf (a .reason))) (a .done) (a .reason)
+    rolled-reasons : all .reasons ≡ outcomes (length us)
     rolled-reasons = rw (all-rolled, ne-eqb (a .reason) 0 n) refl
+
+  pub all-reasons : {n : ℕ} → length us ≡ n → all .reasons ≡ outcomes n
+  all-reasons e = go (eqb (a .reason) 0) refl ∙ ap outcomes e
+    where
+      go : (b : Bool) → eqb (a .reason) 0 ≡ b → all .reasons ≡ outcomes (length us)
+      go true q = kept-reasons (eqb-true (a .reason) 0 q)
+      go false q = rolled-reasons (eqb-false (a .reason) 0 q)
 
 -- ---- the pairs
 
