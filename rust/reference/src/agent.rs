@@ -5,7 +5,8 @@
 //! early `?` therefore reads as the next refusal in line.
 
 use crate::answer::Answer;
-use crate::frame::{parts, Atomicity, Command, Head, Wanted};
+use crate::batch;
+use crate::frame::{Atomicity, Command, Head, Wanted};
 use crate::reason::Reason;
 use crate::rows::read_rows;
 use crate::streams::{is_role, Streams};
@@ -114,7 +115,7 @@ impl Agent {
         Ok(Reason::Done)
     }
 
-    /// 5, 6, 10, 12, 13; then each update in order, on its own.
+    /// 5, 6, 10, 12, 13; then the updates, as the atomicity has it.
     fn write(
         &mut self,
         head: &Head,
@@ -125,19 +126,17 @@ impl Agent {
         self.check_caller(head.device, head.role)?;
         self.streams.speaks_as_primary(head.role, head.id)?;
         let tables = self.tables.as_mut().ok_or(Reason::NotConfigured)?;
-        if atomicity != Atomicity::Continue {
-            return Err(Reason::NotSupported);
-        }
+        let reasons = match atomicity {
+            Atomicity::Continue => batch::each_alone(tables, head.role, updates),
+            Atomicity::Rollback => batch::all_or_none(tables, head.role, updates),
+            Atomicity::Dataplane => return Err(Reason::NotSupported),
+        };
         let mut overall = Reason::Done;
-        for update in parts(updates) {
-            let reason = match tables.update(head.role, update) {
-                Ok(()) => Reason::Done,
-                Err(reason) => {
-                    overall = Reason::SomeFailed;
-                    reason
-                }
-            };
+        for reason in reasons {
             answer.record(&[reason.number(), reason.code()]);
+            if reason != Reason::Done {
+                overall = Reason::SomeFailed;
+            }
         }
         Ok(overall)
     }

@@ -1,6 +1,7 @@
 //! The hall switch agent, a second time.
 //!
-//! A second implementation of document 01, for comparison with the proved one.
+//! A second implementation of document 01 and of request Two of document 02,
+//! for comparison with the proved one.
 //! It shares nothing with that: types, layout and control flow are its own.
 //!
 //! Two evaluations of the same rules live side by side here:
@@ -16,12 +17,13 @@
 //! Reading order: [`reason`] (numbers and status codes), [`frame`] (what a
 //! frame says), [`streams`] (who is primary), [`rows`] (configuration),
 //! [`entry`] (what an entry must look like), [`tables`] (what is stored),
-//! [`agent`] (the order of refusals).
+//! [`batch`] (the updates of a WRITE), [`agent`] (the order of refusals).
 
 #![forbid(unsafe_code)]
 
 pub mod agent;
 pub mod answer;
+pub mod batch;
 pub mod bytes;
 pub mod entry;
 pub mod frame;

@@ -1,7 +1,8 @@
 //! Looking back: what every call must answer, told from the calls before it.
 //!
 //! [`Past`] judges a list of calls the way document 01's "Looking back" words
-//! it. It keeps two logs, both oldest first:
+//! it, and request Two of document 02 for batches that roll back. It keeps two
+//! logs, both oldest first:
 //!
 //! * what happened to streams: opened, closed, an ARBITRATE accepted;
 //! * what happened to entries: inserted, modified, deleted, all cleared.
@@ -90,6 +91,7 @@ fn status_code(reason: u8) -> u8 {
         10 | 11 | 16 => 7,
         2 | 9 | 22 | 24 => 8,
         3 | 7 | 12 => 9,
+        25 => 10,
         18 => 11,
         13 => 12,
         _ => unreachable!("reason {reason} is not listed"),
@@ -174,7 +176,7 @@ impl Past {
     /// The bytes of the entries present now, in the order of their latest
     /// INSERTs over all tables: what a store must hold from its first byte on.
     pub fn store_image(&self) -> Vec<u8> {
-        self.present().concat()
+        self.present(&[]).concat()
     }
 
     /// Looking back over the streams: is the id the highest one in any accepted
@@ -384,13 +386,15 @@ impl Past {
         if self.rows.is_empty() {
             return Expected::refused(12);
         }
-        if atomicity != 0 {
+        if atomicity == 2 {
             return Expected::refused(13);
         }
-        let reasons: Vec<u8> = updates
-            .chunks(221)
-            .map(|update| self.update(role, update[0], &update[1..]))
-            .collect();
+        let updates: Vec<&[u8]> = updates.chunks(221).collect();
+        let reasons = if atomicity == 0 {
+            self.alone(role, &updates)
+        } else {
+            self.together(role, &updates)
+        };
         let pairs: Vec<Vec<u8>> = reasons
             .iter()
             .map(|&reason| vec![reason, status_code(reason)])
@@ -406,49 +410,74 @@ impl Past {
         }
     }
 
-    /// The reason of one update; adds what it did to the log.
-    fn update(&mut self, role: u8, kind: u8, entry: &[u8]) -> u8 {
-        if !(1..=3).contains(&kind) {
-            return 17;
+    /// Atomicity 0: the reasons of the updates, each of which takes effect where
+    /// it does not fail.
+    fn alone(&mut self, role: u8, updates: &[&[u8]]) -> Vec<u8> {
+        let mut reasons = Vec::new();
+        for update in updates {
+            match self.judge(&[], role, update) {
+                Ok(effect) => {
+                    self.effects.push(effect);
+                    reasons.push(0);
+                }
+                Err(reason) => reasons.push(reason),
+            }
         }
-        let row = match self.row_for(role, &entry[..4]) {
-            Ok(row) => row,
-            Err(reason) => return reason,
-        };
+        reasons
+    }
+
+    /// Atomicity 1: an update takes effect exactly when no update of the batch
+    /// fails, each judged as though those before it had taken effect. Until the
+    /// last one has passed, what they would do is only supposed.
+    fn together(&mut self, role: u8, updates: &[&[u8]]) -> Vec<u8> {
+        let mut supposed = Vec::new();
+        for (failed, update) in updates.iter().enumerate() {
+            match self.judge(&supposed, role, update) {
+                Ok(effect) => supposed.push(effect),
+                Err(reason) => {
+                    let own = |at| if at == failed { reason } else { 25 };
+                    return (0..updates.len()).map(own).collect();
+                }
+            }
+        }
+        self.effects.extend(supposed);
+        vec![0; updates.len()]
+    }
+
+    /// What one update does to the entries, or its reason if it fails. The log
+    /// is looked at as though the supposed effects were its last.
+    fn judge(&mut self, supposed: &[Effect], role: u8, update: &[u8]) -> Result<Effect, u8> {
+        let (kind, entry) = (update[0], &update[1..]);
+        if !(1..=3).contains(&kind) {
+            return Err(17);
+        }
+        let row = self.row_for(role, &entry[..4])?;
         let (key, deed) = (&entry[4..148], &entry[148..220]);
         if key_has_wrong_form(&row, key) || deed_has_wrong_form(&row, deed) {
-            return 17;
+            return Err(17);
         }
         if key_is_too_wide(&row, key) || deed_is_too_wide(&row, deed) {
-            return 18;
+            return Err(18);
         }
         if key_breaks_rule(&row, key) {
-            return 19;
+            return Err(19);
         }
         let full_name = shortened_name(&entry[..4], key);
         let deed = shortened_deed(deed);
-        let present = self.is_present(&full_name);
+        let present = self.is_present(supposed, &full_name);
         match kind {
-            1 if present => 20,
-            1 if self.present_in(&entry[..4]).len() >= size(&row) => 22,
-            1 if self.present().len() >= 256 => 24,
-            1 => {
-                let name = self.names.number(full_name);
-                self.effects.push(Effect::Inserted { name, deed });
-                0
-            }
-            _ if !present => 21,
-            2 => {
-                let name = self.names.number(full_name);
-                self.effects.push(Effect::Modified { name, deed });
-                0
-            }
-            _ => {
-                let name = self.names.number(full_name);
-                self.effects.push(Effect::Deleted { name });
-                0
-            }
+            1 if present => return Err(20),
+            1 if self.present_in(supposed, &entry[..4]).len() >= size(&row) => return Err(22),
+            1 if self.present(supposed).len() >= 256 => return Err(24),
+            2 | 3 if !present => return Err(21),
+            _ => {}
         }
+        let name = self.names.number(full_name);
+        Ok(match kind {
+            1 => Effect::Inserted { name, deed },
+            2 => Effect::Modified { name, deed },
+            _ => Effect::Deleted { name },
+        })
     }
 
     /// `wanted` is the byte `only` and the key after it.
@@ -467,7 +496,7 @@ impl Past {
                 .rows
                 .iter()
                 .filter(|row| may_write(role, row))
-                .flat_map(|row| self.present_in(&row[..4]))
+                .flat_map(|row| self.present_in(&[], &row[..4]))
                 .collect();
             return Expected::new(0, &asked);
         }
@@ -475,7 +504,7 @@ impl Past {
             Ok(row) => row,
             Err(reason) => return Expected::refused(reason),
         };
-        let mut asked = self.present_in(table);
+        let mut asked = self.present_in(&[], table);
         if wanted[0] == 1 {
             let key = &wanted[1..];
             if key_has_wrong_form(&row, key) {
@@ -502,13 +531,18 @@ impl Past {
         }
     }
 
+    /// The log from its end, with supposed effects after its last.
+    fn back<'a>(&'a self, supposed: &'a [Effect]) -> impl Iterator<Item = &'a Effect> {
+        supposed.iter().rev().chain(self.effects.iter().rev())
+    }
+
     /// Looking back from the end: an INSERT of the name comes before any DELETE
     /// of it and before any clearing.
-    fn is_present(&self, wanted: &Name) -> bool {
+    fn is_present(&self, supposed: &[Effect], wanted: &Name) -> bool {
         let Some(wanted) = self.names.known(wanted) else {
             return false;
         };
-        for effect in self.effects.iter().rev() {
+        for effect in self.back(supposed) {
             match *effect {
                 Effect::Cleared => return false,
                 Effect::Deleted { name } if name == wanted => return false,
@@ -522,11 +556,11 @@ impl Past {
     /// All entries present, in the order of their latest INSERTs. On the way
     /// back the first INSERT or MODIFY met gives action and parameters, the
     /// first INSERT or DELETE met decides on presence.
-    fn present(&self) -> Vec<Vec<u8>> {
+    fn present(&self, supposed: &[Effect]) -> Vec<Vec<u8>> {
         let mut decided = vec![false; self.names.count()];
         let mut latest: Vec<Option<&Deed>> = vec![None; self.names.count()];
         let mut found = Vec::new();
-        for effect in self.effects.iter().rev() {
+        for effect in self.back(supposed) {
             match effect {
                 Effect::Cleared => break,
                 Effect::Deleted { name } => decided[*name] = true,
@@ -547,14 +581,14 @@ impl Past {
     }
 
     /// The present entries of one table.
-    fn present_in(&self, table: &[u8]) -> Vec<Vec<u8>> {
-        let mut present = self.present();
+    fn present_in(&self, supposed: &[Effect], table: &[u8]) -> Vec<Vec<u8>> {
+        let mut present = self.present(supposed);
         present.retain(|entry| entry[..4] == *table);
         present
     }
 }
 
-/// All names that were ever inserted, numbered in order of appearance. A
+/// All names that an update that passed had, numbered in order of appearance. A
 /// number stands for the bytes of a name and for nothing else.
 #[derive(Clone, Debug, Default)]
 struct Names {

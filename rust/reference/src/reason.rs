@@ -10,6 +10,7 @@ mod grpc {
     pub const PERMISSION_DENIED: u8 = 7;
     pub const RESOURCE_EXHAUSTED: u8 = 8;
     pub const FAILED_PRECONDITION: u8 = 9;
+    pub const ABORTED: u8 = 10;
     pub const OUT_OF_RANGE: u8 = 11;
     pub const UNIMPLEMENTED: u8 = 12;
 }
@@ -45,7 +46,7 @@ pub enum Reason {
     NotDefaultRole = 11,
     /// There is no configuration.
     NotConfigured = 12,
-    /// Atomicity 1 or 2.
+    /// Atomicity 2.
     NotSupported = 13,
     /// The rows of a CONFIGURE do not hold together.
     BadRows = 14,
@@ -69,10 +70,13 @@ pub enum Reason {
     SomeFailed = 23,
     /// INSERT into a store that holds 256 entries.
     StoreFull = 24,
+    /// An update of a batch with atomicity 1 in which another update failed:
+    /// rolled back or never tried.
+    BatchFailed = 25,
 }
 
 /// The status code of each reason, by the reason's number.
-const CODES: [u8; 25] = [
+const CODES: [u8; 26] = [
     grpc::OK,                  // 0
     grpc::INVALID_ARGUMENT,    // 1
     grpc::RESOURCE_EXHAUSTED,  // 2
@@ -98,6 +102,7 @@ const CODES: [u8; 25] = [
     grpc::RESOURCE_EXHAUSTED,  // 22
     grpc::UNKNOWN,             // 23
     grpc::RESOURCE_EXHAUSTED,  // 24
+    grpc::ABORTED,             // 25
 ];
 
 impl Reason {

@@ -112,7 +112,7 @@ fn counts_rule_the_length() {
 #[test]
 fn atomicity_goes_up_to_2() {
     let mut bench = Bench::configured(&[plain_row(TABLE, 0, 4)]);
-    bench.refused(&write(primary(), 1, &[]), 13, 12);
+    bench.ok(&write(primary(), 1, &[]));
     bench.refused(&write(primary(), 2, &[]), 13, 12);
     bench.refused(&write(primary(), 3, &[]), 1, 3);
     bench.refused(&write(primary(), 255, &[]), 1, 3);

@@ -1,5 +1,6 @@
-//! Document 01 as tests. Expected answers are written out from the text; every
-//! call is played to the agent and to the look-back evaluator alike.
+//! Document 01, and request Two of document 02, as tests. Expected answers are
+//! written out from the text; every call is played to the agent and to the
+//! look-back evaluator alike.
 
 mod bench_cases;
 mod configuration;
@@ -9,6 +10,7 @@ mod lists;
 mod looking_back;
 mod reads;
 mod reasons;
+mod rollback;
 mod streams;
 mod support;
 mod writes;

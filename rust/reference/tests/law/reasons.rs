@@ -30,6 +30,7 @@ fn every_reason_has_its_code() {
         (Reason::TableFull, 22, 8),
         (Reason::SomeFailed, 23, 2),
         (Reason::StoreFull, 24, 8),
+        (Reason::BatchFailed, 25, 10),
     ];
     for (reason, number, code) in listed {
         assert_eq!((reason.number(), reason.code()), (number, code));

@@ -21,7 +21,6 @@ fn refusals_come_in_order() {
     bench.refused(&write(primary(), 2, &update), 12, 9);
     bench.ok(&configure(primary(), &[plain_row(FIRST, 0, 4)]));
     bench.refused(&write(primary(), 2, &update), 13, 12);
-    bench.refused(&write(primary(), 1, &update), 13, 12);
     bench.shows(&read_all(DEVICE, 0, 0), &[]);
     bench.writes(&update, (0, 0), &[(0, 0)]);
 }
@@ -31,7 +30,7 @@ fn no_update_at_all() {
     let mut bench = Bench::configured(&[plain_row(FIRST, 0, 4)]);
     bench.writes(&[], (0, 0), &[]);
     bench.refused(&write(Head::set(DEVICE, 0, 9), 0, &[]), 10, 7);
-    bench.refused(&write(primary(), 1, &[]), 13, 12);
+    bench.refused(&write(primary(), 2, &[]), 13, 12);
 }
 
 #[test]
