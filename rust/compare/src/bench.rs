@@ -6,6 +6,7 @@
 
 use reference::Expected;
 
+use crate::again::Reads;
 use crate::describe::hex;
 use crate::dice::noise;
 
@@ -168,6 +169,8 @@ pub struct Seen<'a> {
     pub reason: u8,
     /// The bytes that were written.
     pub answer: &'a [u8],
+    /// Is it a READ that was made before a batch that was rolled back too?
+    pub after_rollback: bool,
 }
 
 /// The library beside the two that it is compared with.
@@ -175,6 +178,7 @@ pub struct Bench<S, L> {
     library: savorylatch::Agent,
     second: S,
     past: L,
+    reads: Reads,
     store: Vec<u8>,
     /// The store as the last call found it.
     before: Vec<u8>,
@@ -192,6 +196,7 @@ impl<S: Second, L: LookBack> Bench<S, L> {
             library: savorylatch::Agent::new(device),
             second: S::fresh(device),
             past: L::fresh(device),
+            reads: Reads::default(),
             before: store.clone(),
             store,
             used: 0,
@@ -240,8 +245,12 @@ impl<S: Second, L: LookBack> Bench<S, L> {
                 _ => Ok(()),
             }
         });
-        if let Err(text) = verdict {
-            return Err(Difference(format!(
+        let verdict = verdict.and_then(|()| {
+            let answer = &self.answer[..expected.answer.len()];
+            self.reads.note(&call.frame, answer)
+        });
+        let after_rollback = verdict.map_err(|text| {
+            Difference(format!(
                 "{text}\n  library:               returned {returned}, answer {}\n  \
                  second implementation: returned {second}, answer {}\n  \
                  looking back:          returned {}, answer {}",
@@ -249,8 +258,8 @@ impl<S: Second, L: LookBack> Bench<S, L> {
                 shown(written(&self.other, fill)),
                 expected.reason,
                 shown(&expected.answer),
-            )));
-        }
+            ))
+        })?;
         if let Some(image) = image {
             self.used = image.len();
             self.before.copy_from_slice(&self.store);
@@ -258,6 +267,7 @@ impl<S: Second, L: LookBack> Bench<S, L> {
         Ok(Seen {
             reason: returned,
             answer: &self.answer[..expected.answer.len()],
+            after_rollback,
         })
     }
 

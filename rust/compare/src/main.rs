@@ -8,13 +8,15 @@
 //! were, and the store: its entries, the bytes that are never touched, and
 //! that a refused call changes nothing.
 //!
-//! Reading order: [`bench`] (one call to all three), [`cases`] (by hand),
-//! [`lists`] (at random), [`tally`] (what has to be met), [`shrink`] (the
-//! shortest list that shows a difference), [`faults`] (that the comparison can
-//! fail), [`play`] (the program), [`report`] (what is printed).
+//! Reading order: [`bench`] (one call to all three), [`again`] (READs before
+//! and after a batch that was rolled back), [`cases`] (by hand), [`lists`] (at
+//! random), [`tally`] (what has to be met), [`shrink`] (the shortest list that
+//! shows a difference), [`faults`] (that the comparison can fail), [`play`]
+//! (the program), [`report`] (what is printed).
 
 #![forbid(unsafe_code)]
 
+mod again;
 mod bench;
 mod cases;
 mod describe;

@@ -1,16 +1,18 @@
 //! What a run has met, and whether that is all that can be met.
 
+mod atomic;
+
 use std::collections::BTreeMap;
 use std::fmt;
 
 use crate::bench::Seen;
 use crate::describe::COMMANDS;
-use crate::lists::maker::Draft;
+use crate::lists::maker::{Aim, Draft};
 use crate::lists::view::View;
 use crate::lists::ways;
 use crate::parse::Frame;
 
-const REASONS: usize = 25;
+const REASONS: usize = 26;
 
 /// The reasons that a frame of each command can get, by command byte. Byte 0
 /// stands for frames that are empty or of an unknown command.
@@ -27,16 +29,19 @@ const OF_CALLS: [&[u8]; 7] = [
 /// The reasons that an update can get, by type. Type 0 stands for those that
 /// there are not. 24 never comes: sizes add to at most 256, so 22 does first.
 const OF_UPDATES: [&[u8]; 4] = [
-    &[17],
-    &[0, 15, 16, 17, 18, 19, 20, 22],
-    &[0, 15, 16, 17, 18, 19, 21],
-    &[0, 15, 16, 17, 18, 19, 21],
+    &[17, 25],
+    &[0, 15, 16, 17, 18, 19, 20, 22, 25],
+    &[0, 15, 16, 17, 18, 19, 21, 25],
+    &[0, 15, 16, 17, 18, 19, 21, 25],
 ];
+
+/// The reasons that can end a batch with atomicity 1.
+const OF_BATCHES: &[u8] = &[15, 16, 17, 18, 19, 20, 21, 22];
 
 const TYPES: [&str; 4] = ["other", "INSERT", "MODIFY", "DELETE"];
 
-/// Situations that a run has to come by.
-const SIGHTS: [&str; 20] = [
+/// Situations that a run has to come by, beside those of [`atomic::SIGHTS`].
+const SIGHTS: [&str; 21] = [
     "status 0",
     "status 5",
     "status 6",
@@ -57,6 +62,7 @@ const SIGHTS: [&str; 20] = [
     "a CONFIGURE that empties the store",
     "a READ of a key that is absent",
     "free bytes overwritten",
+    "a READ of entries before and after a rollback",
 ];
 
 /// Counts of all that was met.
@@ -66,6 +72,7 @@ pub struct Tally {
     pub lists: u64,
     of_calls: [[u64; REASONS]; 7],
     of_updates: [[u64; REASONS]; 4],
+    of_batches: [u64; REASONS],
     ways: BTreeMap<(u8, &'static str), u64>,
     sights: BTreeMap<&'static str, u64>,
 }
@@ -94,6 +101,29 @@ impl Tally {
         }
         if let Some(frame) = Frame::parse(frame) {
             self.look(view, &frame, seen);
+            self.look_at_batch(view, &frame, seen, &draft.aims);
+        }
+    }
+
+    /// A batch with atomicity 1 that was accepted.
+    fn look_at_batch(&mut self, view: &View, frame: &Frame, seen: &Seen<'_>, aims: &[Aim]) {
+        let Frame::Write {
+            atomicity: 1,
+            updates,
+            ..
+        } = frame
+        else {
+            return;
+        };
+        if !is_done(seen.reason) {
+            return;
+        }
+        let reasons: Vec<u8> = seen.answer[4..].iter().step_by(2).copied().collect();
+        if let Some(reason) = atomic::ended_by(&reasons) {
+            add(&mut self.of_batches, reason);
+        }
+        for sight in atomic::sights(view, updates, &reasons, aims) {
+            self.see(sight);
         }
     }
 
@@ -155,6 +185,9 @@ impl Tally {
                 if (*only, count) == (1, 0) {
                     self.see("a READ of a key that is absent");
                 }
+                if seen.after_rollback && count > 0 {
+                    self.see("a READ of entries before and after a rollback");
+                }
             }
             _ => {}
         }
@@ -197,18 +230,27 @@ impl Tally {
                 }
             }
         }
+        for &reason in OF_BATCHES {
+            if self.of_batches[usize::from(reason)] == 0 {
+                missing.push(format!("a batch with atomicity 1 ended by {reason}"));
+            }
+        }
         for way in ways::all() {
             if !self.ways.contains_key(&way) {
                 missing.push(format!("reason {} by: {}", way.0, way.1));
             }
         }
-        for sight in SIGHTS {
+        for sight in all_sights() {
             if !self.sights.contains_key(sight) {
                 missing.push(sight.to_owned());
             }
         }
         missing
     }
+}
+
+fn all_sights() -> impl Iterator<Item = &'static str> {
+    SIGHTS.iter().chain(atomic::SIGHTS).copied()
 }
 
 fn add(counts: &mut [u64; REASONS], reason: u8) {
@@ -229,15 +271,20 @@ fn pair(seen: &Seen<'_>, at: usize) -> Option<u8> {
 
 impl fmt::Display for Tally {
     fn fmt(&self, f: &mut fmt::Formatter<'_>) -> fmt::Result {
-        writeln!(f, "{:>16} {:>70}", "calls", "updates")?;
+        writeln!(f, "{:>16} {:>70} {:>37}", "calls", "updates", "batches")?;
         write!(f, "reason")?;
-        for name in COMMANDS.iter().chain(&TYPES) {
+        for name in COMMANDS.iter().chain(&TYPES).chain(&["ended by"]) {
             write!(f, " {name:>9}")?;
         }
         writeln!(f)?;
         for reason in 0..REASONS {
             write!(f, "{reason:>6}")?;
-            for counts in self.of_calls.iter().chain(&self.of_updates) {
+            for counts in self
+                .of_calls
+                .iter()
+                .chain(&self.of_updates)
+                .chain([&self.of_batches])
+            {
                 match counts[reason] {
                     0 => write!(f, " {:>9}", ".")?,
                     count => write!(f, " {count:>9}")?,
@@ -247,13 +294,13 @@ impl fmt::Display for Tally {
         }
         let met = |count: Option<&u64>| count.copied().unwrap_or(0);
         let rarest_way = ways::all().map(|way| met(self.ways.get(&way))).min();
-        let rarest_sight = SIGHTS.iter().map(|sight| met(self.sights.get(sight))).min();
+        let rarest_sight = all_sights().map(|sight| met(self.sights.get(sight))).min();
         write!(
             f,
             "{} ways to go wrong, each met {} times or more; {} situations, each {} times or more",
             ways::all().count(),
             rarest_way.unwrap_or(0),
-            SIGHTS.len(),
+            all_sights().count(),
             rarest_sight.unwrap_or(0),
         )
     }

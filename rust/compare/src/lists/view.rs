@@ -91,23 +91,14 @@ impl View {
     }
 
     fn take_effect(&mut self, kind: u8, entry: Entry) {
-        let place = self.place(&entry);
-        match (kind, place) {
-            (1, _) => self.entries.push(entry),
-            (2, Some(at)) => self.entries[at] = entry,
-            (3, Some(at)) => {
-                let entry = self.entries.remove(at);
-                remember(&mut self.gone, entry);
-            }
-            _ => {}
+        if let Some(entry) = take_effect(&mut self.entries, kind, entry) {
+            remember(&mut self.gone, entry);
         }
     }
 
     /// Where the entry of the same key stands; the entry is in shortest form.
     pub fn place(&self, entry: &Entry) -> Option<usize> {
-        self.entries
-            .iter()
-            .position(|other| other.table == entry.table && other.key == entry.key)
+        place(&self.entries, entry)
     }
 
     /// The streams that are closed, that are open and unbound, and that are
@@ -152,8 +143,36 @@ impl View {
 
     /// How many entries a table holds.
     pub fn held(&self, table: u32) -> usize {
-        self.entries.iter().filter(|e| e.table == table).count()
+        held(&self.entries, table)
     }
+
+    /// The row of a table.
+    pub fn row(&self, table: u32) -> Option<&Row> {
+        self.rows.iter().find(|row| row.table == table)
+    }
+}
+
+/// Where the entry of the same key is among entries in shortest form.
+pub fn place(entries: &[Entry], entry: &Entry) -> Option<usize> {
+    entries
+        .iter()
+        .position(|other| other.table == entry.table && other.key == entry.key)
+}
+
+/// How many of the entries are a table's.
+pub fn held(entries: &[Entry], table: u32) -> usize {
+    entries.iter().filter(|entry| entry.table == table).count()
+}
+
+/// What an update that passes does to the entries; gives one that it removes.
+pub fn take_effect(entries: &mut Vec<Entry>, kind: u8, entry: Entry) -> Option<Entry> {
+    match (kind, place(entries, &entry)) {
+        (1, _) => entries.push(entry),
+        (2, Some(at)) => entries[at] = entry,
+        (3, Some(at)) => return Some(entries.remove(at)),
+        _ => {}
+    }
+    None
 }
 
 /// Adds to what is remembered, and forgets the oldest.

@@ -97,6 +97,10 @@ impl Maker {
             let head = self.primary_head(view, frame[9]);
             frame[1..27].copy_from_slice(&head.bytes());
         }
+        // The same updates under another atomicity.
+        if self.dice.percent(20) {
+            frame[27] = self.dice.pick(&[0, 1, 1, 2]);
+        }
         frame
     }
 }

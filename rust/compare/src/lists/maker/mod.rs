@@ -5,6 +5,7 @@
 //! at an id that another stream holds. Where the agent has got stuck (no
 //! primary, no rows), calls that get it going again are the more likely.
 
+mod atomic;
 mod frames;
 mod stories;
 mod streams;

@@ -1,6 +1,8 @@
 //! Stories: several calls that belong together.
 
-use reference::bytes::{arbitrate, close, configure, open, read_all, write, Head, Row, Update};
+use reference::bytes::{
+    arbitrate, close, configure, open, read_all, read_one, write, Head, Row, Update,
+};
 
 use super::writing::of_table;
 use super::Maker;
@@ -11,12 +13,13 @@ impl Maker {
     /// The first frame of a story; the others are due after it.
     pub(super) fn story(&mut self, view: &View) -> Vec<u8> {
         let role = self.dice.pick(&self.roles);
-        let frames = match self.dice.below(6) {
+        let frames = match self.dice.below(8) {
             0 | 1 => self.old_primary_comes_back(view, role),
             2 => self.failover(view, role),
             3 => self.crowd(view, role),
             4 => self.same_rows_again(view),
-            _ => self.full_table(view),
+            5 => self.full_table(view),
+            _ => self.rolled_back(view, role),
         };
         self.due.extend(frames);
         match self.due.pop_front() {
@@ -156,5 +159,32 @@ impl Maker {
             write(head, 0, &updates),
             read_all(view.device, 0, row.table),
         ]
+    }
+    /// READs, a batch that is rolled back, the same READs; then the batch as
+    /// far as it came, or under another atomicity.
+    fn rolled_back(&mut self, view: &View, role: u8) -> Vec<Vec<u8>> {
+        if view.rows.is_empty() || view.primary(role).is_none() {
+            return Vec::new();
+        }
+        let head = self.primary_head(view, role);
+        let plan = self.plan(view, role, true, &mut Vec::new());
+        let mut reads = vec![read_all(view.device, 0, 0)];
+        for update in plan.updates.iter().take(3) {
+            let entry = update.entry;
+            reads.push(read_one(view.device, role, entry.table, entry.key));
+            reads.push(read_all(view.device, role, entry.table));
+        }
+        let mut frames = reads.clone();
+        frames.push(write(head, 1, &plan.updates));
+        frames.extend(reads.iter().cloned());
+        let passing = plan.fails_at.unwrap_or(0);
+        match self.dice.below(4) {
+            0 => return frames,
+            1 => frames.push(write(head, 0, &plan.updates)),
+            2 => frames.push(write(head, 2, &plan.updates)),
+            _ => frames.push(write(head, 1, &plan.updates[..passing])),
+        }
+        frames.extend(reads);
+        frames
     }
 }

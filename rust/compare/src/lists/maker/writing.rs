@@ -9,7 +9,7 @@ use crate::lists::ways::{self, EntryWay, ENTRY_WAYS, ROWS_WAYS};
 
 impl Maker {
     /// Mostly the head of a live primary.
-    fn speaker(&mut self, view: &View) -> Head {
+    pub(super) fn speaker(&mut self, view: &View) -> Head {
         let live: Vec<u8> = (0..8)
             .filter(|&role| view.primary(role).is_some())
             .filter(|&role| role == 0 || view.rows.iter().any(|row| row.owner == role))
@@ -124,11 +124,14 @@ impl Maker {
     }
 
     pub(super) fn write(&mut self, view: &View, aims: &mut Vec<Aim>) -> Vec<u8> {
+        if !view.rows.is_empty() && self.dice.percent(25) {
+            return self.atomic(view, aims);
+        }
         let head = self.speaker(view);
         let plain = if view.rows.is_empty() { 4 } else { 40 };
         let atomicity = match self.dice.below(plain) {
-            0 => 1,
-            1 => 2,
+            0 => 2,
+            1 | 2 => 1,
             _ => 0,
         };
         let updates: Vec<Update> = (0..self.batch(view))
@@ -219,7 +222,7 @@ impl Maker {
 
     /// An entry of the row: one that is present, that was, that was made
     /// lately, or a new one.
-    fn entry(&mut self, view: &View, row: &Row) -> Entry {
+    pub(super) fn entry(&mut self, view: &View, row: &Row) -> Entry {
         let present: Vec<&Entry> = of_table(&view.entries, row.table);
         let gone: Vec<&Entry> = of_table(&view.gone, row.table);
         let known = match (self.mood, self.dice.below(100)) {
@@ -270,7 +273,7 @@ impl Maker {
     }
 
     /// Breaks one rule of an entry, if one is found that applies.
-    fn spoil(
+    pub(super) fn spoil(
         &mut self,
         row: &Row,
         entry: &mut Entry,
@@ -293,7 +296,7 @@ impl Maker {
         None
     }
 
-    fn unknown_table(&mut self, table: u32) -> u32 {
+    pub(super) fn unknown_table(&mut self, table: u32) -> u32 {
         let low = table & 0x00ff_ffff;
         self.dice
             .pick(&[0, low, 0x0100_0000 | low, 0x0200_0099, table ^ 0x0001_0000])
