@@ -4,9 +4,10 @@
 use std::ffi::OsString;
 use std::time::Duration;
 
-use reference::bytes::{open, write, Head};
+use reference::bytes::{configure, open, read_all, write, Head};
 use reference::{Agent, Past};
 
+use crate::again::Reads;
 use crate::bench::{Bench, Call, List, STORE_ROOM};
 use crate::options::Order;
 use crate::parse::Frame;
@@ -140,4 +141,52 @@ fn nothing_to_shrink_stays() {
     let calls = caught.shortest.list.calls.clone();
     let again = shrink::shrink::<Agent, Past>(caught.shortest, Duration::ZERO);
     assert_eq!(again.list.calls, calls);
+}
+
+/// A READ, and two answers that it might have.
+fn a_read() -> (Vec<u8>, [u8; 4], [u8; 5]) {
+    (read_all(1, 0, 0), [0, 0, 0, 0], [0, 0, 0, 1, 7])
+}
+
+#[test]
+fn a_read_after_a_rollback_must_be_as_before() {
+    let (read, none, one) = a_read();
+    let batch = write(Head::set(1, 0, 1), 1, &[]);
+    let mut reads = Reads::default();
+    assert_eq!(reads.note(&read, &one), Ok(false));
+    assert_eq!(reads.note(&read, &one), Ok(false));
+    assert_eq!(reads.note(&batch, &[23, 2, 0, 0]), Ok(false));
+    assert_eq!(reads.note(&read, &one), Ok(true));
+    assert_eq!(reads.note(&read, &one), Ok(false));
+    assert_eq!(reads.note(&batch, &[23, 2, 0, 0]), Ok(false));
+    assert!(reads.note(&read, &none).is_err());
+}
+
+#[test]
+fn a_read_after_a_change_may_be_anything() {
+    let (read, none, one) = a_read();
+    let head = Head::set(1, 0, 1);
+    let changes = [
+        (write(head, 1, &[]), 0),
+        (write(head, 0, &[]), 0),
+        (write(head, 0, &[]), 23),
+        (configure(head, &[]), 0),
+    ];
+    for (change, reason) in changes {
+        let mut reads = Reads::default();
+        assert_eq!(reads.note(&read, &one), Ok(false));
+        assert_eq!(reads.note(&change, &[reason, 0, 0, 0]), Ok(false));
+        assert_eq!(reads.note(&read, &none), Ok(false));
+    }
+    // A refused call changes nothing.
+    for change in [
+        write(head, 1, &[]),
+        write(head, 0, &[]),
+        configure(head, &[]),
+    ] {
+        let mut reads = Reads::default();
+        assert_eq!(reads.note(&read, &one), Ok(false));
+        assert_eq!(reads.note(&change, &[10, 7, 0, 0]), Ok(false));
+        assert!(reads.note(&read, &none).is_err());
+    }
 }

@@ -81,16 +81,15 @@ fn in_order() -> Case {
 fn atomicity() -> Case {
     let update = [insert(ONE, 1)];
     let with = |head: Head, atomicity: u8| write(head, atomicity, &update);
-    Case::configured("atomicity 1 and 2", &[plain_row(ONE, 0, 2)])
-        .refused(with(primary(), 1), 13, 12)
+    Case::configured("atomicity 2 and 3", &[plain_row(ONE, 0, 2)])
         .refused(with(primary(), 2), 13, 12)
         .refused(with(primary(), 3), 1, 3)
-        .refused(write(primary(), 1, &[]), 13, 12)
-        .refused(with(Head::set(3, 0, 1), 1), 5, 5)
-        .refused(with(Head::set(3, 9, 1), 1), 5, 5)
-        .refused(with(Head::set(DEVICE, 8, 1), 1), 6, 5)
-        .refused(with(Head::set(DEVICE, 0, 2), 1), 10, 7)
-        .refused(with(Head::unset(DEVICE, 0), 1), 10, 7)
+        .refused(write(primary(), 2, &[]), 13, 12)
+        .refused(with(Head::set(3, 0, 1), 2), 5, 5)
+        .refused(with(Head::set(3, 9, 1), 2), 5, 5)
+        .refused(with(Head::set(DEVICE, 8, 1), 2), 6, 5)
+        .refused(with(Head::set(DEVICE, 0, 2), 2), 10, 7)
+        .refused(with(Head::unset(DEVICE, 0), 2), 10, 7)
         .ok(read_all(DEVICE, 0, 0))
         .ok(write(primary(), 0, &[]))
 }

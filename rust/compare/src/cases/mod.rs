@@ -1,10 +1,10 @@
 //! Cases with their answers written out by hand.
 //!
 //! A [`Case`] is a fresh agent and some calls, each with the bytes that must
-//! be answered. They come from document 01 (its bench cases and examples) and
-//! from the published examples of P4Runtime as its rules decide them. Each is
-//! played to the library, to the second implementation and to looking back;
-//! most also to the program `play`.
+//! be answered. They come from document 01 (its bench cases and examples), from
+//! request Two of document 02, and from the published examples of P4Runtime as
+//! these rules decide them. Each is played to the library, to the second
+//! implementation and to looking back; most also to the program `play`.
 
 mod arbitration;
 mod batches;
@@ -12,6 +12,7 @@ mod document;
 mod forms;
 mod matches;
 mod reading;
+mod rollback;
 mod values;
 
 use reference::bytes::{
@@ -50,6 +51,7 @@ pub fn all() -> Vec<Case> {
     cases.extend(matches::cases());
     cases.extend(reading::cases());
     cases.extend(batches::cases());
+    cases.extend(rollback::cases());
     cases
 }
 
@@ -160,6 +162,20 @@ impl Case {
     /// A WRITE by the primary of role 0 with failed updates: its pairs.
     fn fails(self, updates: &[Update], pairs: &[[u8; 2]]) -> Case {
         self.answers(write(primary(), 0, updates), answer(23, 2, pairs))
+    }
+
+    /// A WRITE with atomicity 1 by the primary of role 0 that does not fail.
+    fn takes_all(self, updates: &[Update]) -> Case {
+        let pairs = vec![[0, 0]; updates.len()];
+        self.answers(write(primary(), 1, updates), answer(0, 0, &pairs))
+    }
+
+    /// A WRITE with atomicity 1 by the primary of role 0 that is rolled back:
+    /// the place of the update that failed, its reason and its code.
+    fn rolls_back(self, updates: &[Update], at: usize, reason: u8, code: u8) -> Case {
+        let mut pairs = vec![[25, 10]; updates.len()];
+        pairs[at] = [reason, code];
+        self.answers(write(primary(), 1, updates), answer(23, 2, &pairs))
     }
 
     /// An INSERT that takes effect.

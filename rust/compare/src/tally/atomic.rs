@@ -184,3 +184,92 @@ fn passes(view: &View, update: &Update) -> bool {
 fn depends(view: &View, update: &Update, reason: u8) -> bool {
     (20..=22).contains(&reason) && passes(view, update)
 }
+
+#[cfg(test)]
+mod tests {
+    use super::*;
+    use reference::bytes::{kind, Action, Key, Row, Slot, Value};
+
+    const TABLE: u32 = 0x0200_0001;
+
+    fn entry(field: u128) -> Entry {
+        let key = Key::new(0, &[Slot::exact(field)]);
+        Entry::new(TABLE, key, 0x0100_0001, &[Value::of(1)])
+    }
+
+    /// Room for three; 1 and 2 are there.
+    fn view() -> View {
+        let actions = [Action::new(0x0100_0001, &[16])];
+        let mut view = View::new(1);
+        view.rows = vec![Row::new(TABLE, 0, 3, &[(kind::EXACT, 16)], &actions)];
+        view.entries = vec![entry(1), entry(2)];
+        view
+    }
+
+    fn seen(updates: &[Update], reasons: &[u8]) -> Vec<&'static str> {
+        let mut seen = sights(&view(), updates, reasons, &[]);
+        assert!(seen.iter().all(|sight| SIGHTS.contains(sight)), "{seen:?}");
+        seen.sort_unstable();
+        seen.dedup();
+        seen
+    }
+
+    #[test]
+    fn a_batch_that_is_done() {
+        assert_eq!(seen(&[], &[]), ["an atomic batch without updates"]);
+        assert!(seen(&[Update::insert(entry(3))], &[0]).is_empty());
+        let updates = [Update::delete(entry(1)), Update::insert(entry(1))];
+        assert_eq!(
+            seen(&updates, &[0, 0]),
+            [
+                "an atomic batch with a DELETE that is done",
+                "an update that passes only by those before it",
+            ]
+        );
+    }
+
+    #[test]
+    fn a_batch_that_is_rolled_back() {
+        let insert = Update::insert(entry(3));
+        assert_eq!(
+            seen(&[Update::insert(entry(1))], &[20]),
+            ["a batch of one update that is rolled back"]
+        );
+        assert_eq!(
+            seen(&[insert, insert], &[17, 25]),
+            [
+                "a batch that fails at its first update",
+                "an update after the failed one that would pass alone",
+            ]
+        );
+        assert_eq!(
+            seen(&[insert, insert], &[25, 20]),
+            [
+                "a batch that fails at its last update",
+                "an INSERT rolled back",
+                "an update that fails only by those before it",
+            ]
+        );
+        let [modify, delete] = [Update::modify(entry(1)), Update::delete(entry(1))];
+        assert_eq!(
+            seen(&[modify, delete, modify, insert], &[25, 25, 21, 25]),
+            [
+                "MODIFY and DELETE of a key rolled back",
+                "a DELETE rolled back",
+                "a DELETE rolled back whose entry has others after it",
+                "a MODIFY rolled back",
+                "a batch that fails at a middle update",
+                "an update after the failed one that would pass alone",
+                "an update that fails only by those before it",
+                "the same key changed twice and rolled back",
+            ]
+        );
+    }
+
+    #[test]
+    fn what_ended_a_batch() {
+        assert_eq!(ended_by(&[25, 25, 22, 25]), Some(22));
+        assert_eq!(ended_by(&[0, 0]), None);
+        assert_eq!(ended_by(&[]), None);
+    }
+}
