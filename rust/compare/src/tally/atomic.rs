@@ -13,16 +13,18 @@ pub const SIGHTS: &[&str] = &[
     "an atomic batch without updates",
     "an atomic batch with a DELETE that is done",
     "an atomic batch of several tables that is done",
-    "an atomic batch of 64 updates that is rolled back",
     "a batch of one update that is rolled back",
     "a batch that fails at its first update",
     "a batch that fails at a middle update",
     "a batch that fails at its last update",
+    "a batch that fails at its 64th update",
     "a batch of several tables that is rolled back",
     "an INSERT rolled back",
     "a MODIFY rolled back",
     "a DELETE rolled back",
     "a DELETE rolled back whose entry has others after it",
+    "a DELETE rolled back in a store of 256 entries",
+    "an INSERT rolled back in a table that was full",
     "the same key changed twice and rolled back",
     "INSERT, DELETE and INSERT of a key rolled back",
     "MODIFY and DELETE of a key rolled back",
@@ -109,8 +111,8 @@ fn place_of_failure(count: usize, failed: usize, reason: u8) -> Vec<&'static str
         22 if middle => seen.push("22 in the middle of a batch"),
         _ => {}
     }
-    if count == 64 {
-        seen.push("an atomic batch of 64 updates that is rolled back");
+    if failed == 63 {
+        seen.push("a batch that fails at its 64th update");
     }
     seen
 }
@@ -124,8 +126,17 @@ fn rolled_back(view: &View, undone: &[Update]) -> Vec<&'static str> {
             2 => "a MODIFY rolled back",
             _ => "a DELETE rolled back",
         });
-        if update.kind == 3 && has_others_after(view, &update.entry) {
-            seen.push("a DELETE rolled back whose entry has others after it");
+        match update.kind {
+            1 if is_full(view, update.entry.table) => {
+                seen.push("an INSERT rolled back in a table that was full");
+            }
+            3 if has_others_after(view, &update.entry) => {
+                seen.push("a DELETE rolled back whose entry has others after it");
+            }
+            _ => {}
+        }
+        if update.kind == 3 && view.entries.len() == 256 {
+            seen.push("a DELETE rolled back in a store of 256 entries");
         }
         if !passes(view, update) {
             seen.push("an update that passes only by those before it");
@@ -169,15 +180,17 @@ fn has_others_after(view: &View, entry: &Entry) -> bool {
 
 /// Would an update that is in order pass by the entries in view?
 fn passes(view: &View, update: &Update) -> bool {
-    let entry = &update.entry;
-    let Some(row) = view.row(entry.table) else {
-        return false;
-    };
-    match (update.kind, view.place(entry)) {
-        (1, None) => view.held(entry.table) < usize::from(row.size),
+    match (update.kind, view.place(&update.entry)) {
+        (1, None) => !is_full(view, update.entry.table),
         (2 | 3, Some(_)) => true,
         _ => false,
     }
+}
+
+/// Does the table hold its size? One that there is not does.
+fn is_full(view: &View, table: u32) -> bool {
+    let size = view.row(table).map_or(0, |row| usize::from(row.size));
+    view.held(table) >= size
 }
 
 /// Does the reason come of what those before it would have done?

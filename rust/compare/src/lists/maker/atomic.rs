@@ -10,7 +10,7 @@ use reference::bytes::{write, Entry, Row, Update};
 
 use super::{Aim, Maker};
 use crate::lists::entries::{self, Spread};
-use crate::lists::view::{held, place, take_effect, View};
+use crate::lists::view::{held, place, short_entry, take_effect, View};
 use crate::lists::ways;
 
 /// A batch in the making.
@@ -124,36 +124,39 @@ impl Maker {
         };
         let fresh = entries::entry(&mut self.dice, &row, Spread::Wide);
         let touched = self.dice.choose(&plan.updates);
-        let touched = touched.map_or(fresh, |update| {
-            crate::lists::view::short_entry(update.entry)
-        });
-        match self.dice.below(10) {
+        let touched = touched.map_or(fresh, |update| short_entry(update.entry));
+        let others = self.others_row(view, role);
+        match (self.dice.below(10), others) {
             // There already, or not there: often by what the plan did.
-            0..=2 if plan.has(&touched) => Update::insert(touched),
-            0..=2 => Update {
+            (0..=2, _) if plan.has(&touched) => Update::insert(touched),
+            (0..=2, _) => Update {
                 kind: self.dice.pick(&[2, 3]),
                 entry: touched,
             },
-            3..=4 => self.one_too_many(view, role, plan).unwrap_or_else(|| {
+            (3..=4, _) => self.one_too_many(view, role, plan).unwrap_or_else(|| {
                 let stored = self.dice.choose(&plan.entries);
                 Update::insert(stored.copied().unwrap_or(fresh))
             }),
-            5 => {
-                let others = view.rows.iter();
-                let others: Vec<Row> = others
-                    .filter(|row| role != 0 && row.owner != role)
-                    .copied()
-                    .collect();
-                let row = self.dice.choose(&others).copied().unwrap_or(row);
-                Update::delete(entries::entry(&mut self.dice, &row, self.spread))
-            }
-            6 => self.untried(view, role, at, aims),
+            (5..=6, Some(row)) => Update {
+                kind: self.dice.between(1, 3) as u8,
+                entry: entries::entry(&mut self.dice, &row, self.spread),
+            },
+            (6, None) => self.untried(view, role, at, aims),
             _ => {
                 let kind = self.dice.between(1, 3) as u8;
                 let entry = if plan.has(&touched) { touched } else { fresh };
                 self.spoilt(&row, Update { kind, entry }, at, aims)
             }
         }
+    }
+
+    /// A row that the role may not write.
+    fn others_row(&mut self, view: &View, role: u8) -> Option<Row> {
+        let others = view.rows.iter();
+        let others: Vec<&Row> = others
+            .filter(|row| role != 0 && row.owner != role)
+            .collect();
+        self.dice.choose(&others).map(|row| **row)
     }
 
     /// An INSERT into a table that the plan has left full.

@@ -124,7 +124,9 @@ impl Maker {
     }
 
     pub(super) fn write(&mut self, view: &View, aims: &mut Vec<Aim>) -> Vec<u8> {
-        if !view.rows.is_empty() && self.dice.percent(25) {
+        let filling = self.mood == Mood::Flood && view.entries.len() <= 200;
+        let atomic = if filling { 8 } else { 25 };
+        if !view.rows.is_empty() && self.dice.percent(atomic) {
             return self.atomic(view, aims);
         }
         let head = self.speaker(view);
