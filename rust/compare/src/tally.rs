@@ -41,7 +41,7 @@ const OF_BATCHES: &[u8] = &[15, 16, 17, 18, 19, 20, 21, 22];
 const TYPES: [&str; 4] = ["other", "INSERT", "MODIFY", "DELETE"];
 
 /// Situations that a run has to come by, beside those of [`atomic::SIGHTS`].
-const SIGHTS: [&str; 21] = [
+const SIGHTS: [&str; 22] = [
     "status 0",
     "status 5",
     "status 6",
@@ -57,6 +57,7 @@ const SIGHTS: [&str; 21] = [
     "eight rows",
     "no update",
     "64 updates",
+    "13 without updates",
     "a store of 256 entries",
     "a READ of 256 entries",
     "a CONFIGURE that empties the store",
@@ -159,6 +160,11 @@ impl Tally {
                 }
                 if !view.entries.is_empty() {
                     self.see("a CONFIGURE that empties the store");
+                }
+            }
+            Frame::Write { updates, .. } if seen.reason == 13 => {
+                if updates.is_empty() {
+                    self.see("13 without updates");
                 }
             }
             Frame::Write { updates, .. } if is_done(seen.reason) => {

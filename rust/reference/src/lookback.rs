@@ -588,8 +588,9 @@ impl Past {
     }
 }
 
-/// All names that an update that passed had, numbered in order of appearance. A
-/// number stands for the bytes of a name and for nothing else.
+/// The names of all updates that passed, numbered in order of appearance. A
+/// number stands for the bytes of a name and for nothing else: whether the
+/// update took effect is for the log to say.
 #[derive(Clone, Debug, Default)]
 struct Names {
     by_number: Vec<Name>,

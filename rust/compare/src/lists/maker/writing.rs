@@ -136,7 +136,11 @@ impl Maker {
             1 | 2 => 1,
             _ => 0,
         };
-        let updates: Vec<Update> = (0..self.batch(view))
+        let count = match atomicity {
+            2 if self.dice.percent(20) => 0,
+            _ => self.batch(view),
+        };
+        let updates: Vec<Update> = (0..count)
             .map(|at| self.update(view, head.role, at, aims))
             .collect();
         write(head, atomicity, &updates)

@@ -65,7 +65,7 @@ pub const ROWS_WAYS: &[RowsWay] = &[
         true
     }),
     way("a field of no kind", |dice, rows| {
-        any_field(dice, rows).0 = dice.pick(&[0, 6, 7, 0x81, 255]);
+        any_field(dice, rows).0 = dice.pick(&[0, 6, 6, 7, 0x81, 255]);
         true
     }),
     way("a field of no width", |dice, rows| {
