@@ -179,8 +179,9 @@ fn write_outcomes(n: usize, at: usize, own: u8, answer: &mut [u8])
     }
 }
 
-// The n updates of a batch in order, all of them or none, each pair written; what is left. The log has room for n notes.
-fn all_or_none(
+// The n updates of a batch in order, all of them or none, each pair written; what is left. They are noted in a log that has room
+// for n notes.
+fn all_or_none_in(
     rows: Rows,
     role: u8,
     store: &mut [u8],
@@ -206,26 +207,8 @@ fn all_or_none(
     }
 }
 
-// The same with a log of its own, for at most 4 updates: a longer log costs more to make than they do.
-fn all_or_none_few(
-    rows: Rows,
-    role: u8,
-    store: &mut [u8],
-    count: usize,
-    updates: &[u8],
-    n: usize,
-    answer: &mut [u8],
-) -> Written
-    requires { ⌜ (count ≤ 256) × (56320 ≤ length (now store)) × (length (now updates) ≡ 221 * n) × (n ≤ 4) × (2 * n ≤ length (now answer)) ⌝ }
-    ensures left { λ r. ⌜ (Tidy count (now (store .entry)) → BatchApplied (allOrNone (rowsOf rows) role (tablesIn count (now (store .entry))) (updatesIn n (now (updates .entry)))) (now (store .entry)) (now (store .exit)) r) ⌝ }
-    ensures pairs { λ _. ⌜ (Tidy count (now (store .entry)) → now (answer .exit) ≡ splice (now (answer .entry)) 0 (concat (map pairOf (allOrNone (rowsOf rows) role (tablesIn count (now (store .entry))) (updatesIn n (now (updates .entry))) .reasons)))) ⌝ }
-{
-    let mut log = [0; 888];
-    all_or_none(rows, role, store, count, updates, n, &mut log, answer)
-}
-
-// The same for at most 64 updates.
-fn all_or_none_many(
+// The same with a log of its own, for at most 64 updates.
+fn all_or_none(
     rows: Rows,
     role: u8,
     store: &mut [u8],
@@ -238,8 +221,13 @@ fn all_or_none_many(
     ensures left { λ r. ⌜ (Tidy count (now (store .entry)) → BatchApplied (allOrNone (rowsOf rows) role (tablesIn count (now (store .entry))) (updatesIn n (now (updates .entry)))) (now (store .entry)) (now (store .exit)) r) ⌝ }
     ensures pairs { λ _. ⌜ (Tidy count (now (store .entry)) → now (answer .exit) ≡ splice (now (answer .entry)) 0 (concat (map pairOf (allOrNone (rowsOf rows) role (tablesIn count (now (store .entry))) (updatesIn n (now (updates .entry))) .reasons)))) ⌝ }
 {
+    if n <= 4 {
+        // a longer log costs more to make than so few updates do
+        let mut short = [0; 888];
+        return all_or_none_in(rows, role, store, count, updates, n, &mut short, answer);
+    }
     let mut log = [0; 14208];
-    all_or_none(rows, role, store, count, updates, n, &mut log, answer)
+    all_or_none_in(rows, role, store, count, updates, n, &mut log, answer)
 }
 
 // ---- a batch
@@ -266,13 +254,10 @@ pub fn batch(
             failed: true,
         };
     }
-    if atomicity != 1 {
-        return each_alone(rows, role, store, count, updates, n, answer);
+    if atomicity == 1 {
+        return all_or_none(rows, role, store, count, updates, n, answer);
     }
-    if n <= 4 {
-        return all_or_none_few(rows, role, store, count, updates, n, answer);
-    }
-    all_or_none_many(rows, role, store, count, updates, n, answer)
+    each_alone(rows, role, store, count, updates, n, answer)
 }
 
 // ---- READ

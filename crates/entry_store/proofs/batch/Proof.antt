@@ -8,8 +8,8 @@ use Rattle.entry_store.proofs.batch.Tie as tie
 returns : tie.Need-returns
 returns c = (λ t. absurd (omega (arith, t .few)), λ t. absurd (omega (arith, t .few)))
 
-each-alone-requires : tie.Need-each-alone-requires
-each-alone-requires c κs = search needs
+all-or-none-requires : tie.Need-all-or-none-requires
+all-or-none-requires c κs = search needs
 
 same-length : tie.Need-same-length
 same-length c = search needs
@@ -19,12 +19,12 @@ same-length-2 c = search needs
 
 returns-2 : tie.Need-returns-2
 returns-2 c =
-    let e = c .before .before .before .before .each-alone .ensures in
-    let n = c .before .before .before .before .before .before .before .if2 .taken in
-    (λ t. rw (by-each _ _ _ _ n) (e .0 t), λ t. rw (by-each _ _ _ _ n) (e .1 t))
+    let e = c .before .before .before .before .all-or-none .ensures in
+    let one = c .before .before .before .before .before .before .before .if2 .taken in
+    (λ t. rw (by-all _ _ _ _ one) (e .0 t), λ t. rw (by-all _ _ _ _ one) (e .1 t))
 
-all-or-none-few-requires : tie.Need-all-or-none-few-requires
-all-or-none-few-requires c κs = search needs
+each-alone-requires : tie.Need-each-alone-requires
+each-alone-requires c κs = search needs
 
 same-length-3 : tie.Need-same-length-3
 same-length-3 c = search needs
@@ -34,39 +34,20 @@ same-length-4 c = search needs
 
 returns-3 : tie.Need-returns-3
 returns-3 c =
-    let e = c .before .before .before .before .all-or-none-few .ensures in
-    let one = c .before .before .before .before .before .before .before .before .if2 .left in
-    (λ t. rw (by-all _ _ _ _ one) (e .0 t), λ t. rw (by-all _ _ _ _ one) (e .1 t))
-
-all-or-none-many-requires : tie.Need-all-or-none-many-requires
-all-or-none-many-requires c κs = search needs
-
-same-length-5 : tie.Need-same-length-5
-same-length-5 c = search needs
-
-same-length-6 : tie.Need-same-length-6
-same-length-6 c = search needs
-
-returns-4 : tie.Need-returns-4
-returns-4 c =
-    let e = c .before .before .before .before .all-or-none-many .ensures in
-    let one = c .before .before .before .before .before .before .before .before .if2 .left in
-    (λ t. rw (by-all _ _ _ _ one) (e .0 t), λ t. rw (by-all _ _ _ _ one) (e .1 t))
+    let e = c .before .before .before .before .each-alone .ensures in
+    let n = c .before .before .before .before .before .before .before .if2 .left in
+    (λ t. rw (by-each _ _ _ _ n) (e .0 t), λ t. rw (by-each _ _ _ _ n) (e .1 t))
 
 pub batch-spec : {M : Type 1} → statement M
 batch-spec =
     tie.close
     (tie.spec
     returns
-    each-alone-requires
+    all-or-none-requires
     same-length
     same-length-2
     returns-2
-    all-or-none-few-requires
+    each-alone-requires
     same-length-3
     same-length-4
-    returns-3
-    all-or-none-many-requires
-    same-length-5
-    same-length-6
-    returns-4)
+    returns-3)

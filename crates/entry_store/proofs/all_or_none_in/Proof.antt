@@ -1,18 +1,17 @@
 -- Right because the notes of the updates that took effect bring the entries back where one fails. Assumes nothing.
-use Prim.Native.Nat.{ℕ, _≤_}
+use Prim.Native.Nat.{ℕ}
 use mathlib.Core.Path.{_≡_, ap, _∙_}
 use mathlib.Core.List.{List, map}
 use mathlib.Core.Logic.{⊎-elim}
 use lib.ListN.{length, length-map}
 use borrow.Author.Needs.{needs}
 use denote.Ref.{now}
-use Rattle.rules.specs.Bytes.{parts, concat}
-use Rattle.rules.specs.Call.{pairOf}
+use Rattle.rules.specs.Bytes.{parts}
 use Rattle.rules.specs.Frame.{updateOf}
 use Rattle.rules.proofs.Formed.{parts-count}
 use Rattle.entry_store.proofs.Rollbacks.{kept, rolled, all-reasons}
-use Rattle.entry_store.proofs.all_or_none.Statement.{statement}
-use Rattle.entry_store.proofs.all_or_none.Tie as tie
+use Rattle.entry_store.proofs.all_or_none_in.Statement.{statement}
+use Rattle.entry_store.proofs.all_or_none_in.Tie as tie
 
 attempt-requires : tie.Need-attempt-requires
 attempt-requires c κs = search needs
@@ -53,8 +52,8 @@ returns c =
       λ t. rw (all-reasons (p .attempt .ensures .1 t) many) (w .ensures),
     )
 
-pub all-or-none-spec : {M : Type 1} → statement M
-all-or-none-spec =
+pub all-or-none-in-spec : {M : Type 1} → statement M
+all-or-none-in-spec =
     tie.close
     (tie.spec
     attempt-requires
