@@ -28,13 +28,19 @@ fn delete(table: u32, field: u128) -> Update {
     Update::delete(plain(table, field, 1))
 }
 
-/// Exhausted, done, there already.
+/// Exhausted, done, there already; and the same batch by 12.2's second mode,
+/// which stops at the first and changes nothing.
 fn example_of_12_3() -> Case {
     let rows = [plain_row(ONE, 0, 1), plain_row(TWO, 0, 8)];
     let batch = [insert(ONE, 2), insert(TWO, 2), insert(TWO, 1)];
     let shown = [plain(ONE, 1, 1), plain(TWO, 1, 1), plain(TWO, 2, 1)];
     Case::configured("batch_12_3", &rows)
         .takes(&[insert(ONE, 1), insert(TWO, 1)])
+        .answers(
+            write(primary(), 1, &batch),
+            vec![23, 2, 0, 3, 0x16, 0x08, 0x19, 0x0a, 0x19, 0x0a],
+        )
+        .shows(read_all(DEVICE, 0, 0), &shown[..2])
         .answers(
             write(primary(), 0, &batch),
             vec![23, 2, 0, 3, 0x16, 0x08, 0x00, 0x00, 0x14, 0x06],
