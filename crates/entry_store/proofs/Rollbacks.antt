@@ -1,32 +1,32 @@
 -- A batch with atomicity 1: the notes of its log, one written behind the others or the last of them undone; the batch before its
--- update i, all earlier ones having taken effect; and what it comes to. Assumes nothing.
+-- update i, all earlier ones having taken effect; and what a batch comes to. Assumes nothing.
 use Prim.Native.Nat.{ℕ, zero, suc, _+_, _*_, _≤_, _<_}
 use native.Mathlib.Omega.{arith}
 use native.Mathlib.Numerals.{add-one}
 use mathlib.Core.Path.{_≡_, refl, sym, ap, _∙_}
 use mathlib.Core.Bool.{Bool, true, false, not}
 use mathlib.Core.Option.{Option, none, some}
-use mathlib.Core.List.{List, [], _∷_, _++_, append-assoc, append-nil}
+use mathlib.Core.List.{List, [], _∷_, _++_, append-assoc, map}
 use lib.Dec.{eqb}
-use lib.ListN.{length, take, drop, getD, set, replicate, length-append, length-set, length-replicate, getD-replicate}
-use lib.Seq.{take-all, take-at, drop-cons, set-out, getD-set-same, getD-set-other}
+use lib.ListN.{length, take, drop, getD, replicate, length-append, length-set, length-replicate, getD-replicate}
+use lib.Seq.{take-at, drop-cons, getD-set-same, getD-set-other}
 use borrow.Author.Tests.{eqb-true, eqb-false, ne-eqb}
-use Rattle.rules.specs.Bytes.{if_then_else_, every, part}
+use Rattle.rules.specs.Bytes.{if_then_else_, every, concat, part}
+use Rattle.rules.specs.Call.{pairOf}
 use Rattle.rules.specs.Frame.{Update}
 use Rattle.rules.specs.Row.{Row}
 use Rattle.rules.specs.Update.{Tables, Batch, judge, apply, eachAlone, failure, rolledBack, unlessFailed, allOrNone, batch}
 use Rattle.rules.proofs.Formed.{parts-count}
 use Rattle.rules.proofs.Rollback.{Told, told, failure-at, alone-snoc}
-use Rattle.rules.proofs.Sizes.{reasons-count}
-use Rattle.rules.proofs.Tests.{clash, and-true, every-append}
+use Rattle.rules.proofs.Tests.{clash, every-append}
 use Rattle.buffers.specs.Splice.{splice}
-use Rattle.buffers.proofs.Splice.{part-before, window-splice}
+use Rattle.buffers.proofs.Splice.{part-before, splice-front, window-splice}
 use Rattle.entries.specs.Store.{entriesIn, tablesIn, Left}
 use Rattle.updates.specs.Undo.{noteOf, undone, Fits, Undone, Undoing}
 use Rattle.updates.specs.Update.{Tidy}
 use Rattle.updates.proofs.Undoing.{undone-left}
-use Rattle.entry_store.specs.Batch.{BatchApplied}
-use Rattle.entry_store.specs.Rollback.{noteAt, Undoes, failureOf, Attempted, othersOf}
+use Rattle.entry_store.specs.Batch.{writtenOf, BatchApplied}
+use Rattle.entry_store.specs.Rollback.{noteAt, Undoes, Stopped}
 use Rattle.entry_store.specs.declared.Progress.{Progress}
 use Rattle.entry_store.proofs.Batches.{still-tidy}
 
@@ -147,140 +147,82 @@ module _ (rows : List Row) (role : ℕ) where
 
       -- one that fails
       pub attempt-stop : {reason : ℕ} → reason ≡ judge rows role (tablesIn held store) u → (reason ≡ 0 → ⊥)
-          → Attempted rows role count us start store log (record { count = held; done = i; reason = reason })
+          → Stopped rows role count us start store log (record { count = held; done = i; reason = reason })
       attempt-stop {reason} e n =
           let t : Tables = tablesIn count start in
           let no : judge rows role (eachAlone rows role t (b .earlier) .tables) u ≡ 0 → ⊥ = λ z. n (e ∙ rw now-is z) in
           record {
-            failed = rw (ne-eqb reason 0 n, b .split, failure-at rows role t (b .earlier) u later (b .passed) no, b .many, ← now-is, e) refl;
-            whole = λ z. absurd (n z);
+            own = n;
+            failed = rw (b .split, failure-at rows role t (b .earlier) u later (b .passed) no, b .many, ← now-is, e) refl;
             left = rw (b .split, take-at (b .earlier) (u ∷ later) i (b .many)) (b .left);
             undoes = b .undoes;
           }
 
-    pub attempt-end : {n : ℕ} → Attempting count us start [] store log held i → n ≡ i
-        → Attempted rows role count us start store log (record { count = held; done = n; reason = 0 })
-    attempt-end {n} b e =
-        let s : us ≡ b .earlier = b .split ∙ append-nil (b .earlier) in
-        record {
-          failed = sym (rw s (no-failure (tablesIn count start) (b .earlier) (b .passed)));
-          whole = λ z. rw s (e ∙ sym (b .many));
-          left = rw (b .split, take-at (b .earlier) [] n (b .many ∙ sym e)) (b .left);
-          undoes = rw e (b .undoes);
-        }
-
 -- ---- what the batch comes to
 
-all-zero : (l : List ℕ) → every (eqb 0) l ≡ true → l ≡ replicate (length l) 0
-all-zero [] e = refl
-all-zero (x ∷ l) e =
-    let z = and-true (eqb 0 x) (every (eqb 0) l) e in
-    rw (← eqb-true 0 x (z .0)) (ap {B = List ℕ} (λ r. 0 ∷ r) (all-zero l (z .1)))
+pub rolled-count : (n at own : ℕ) → length (rolledBack n (at, own)) ≡ n
+rolled-count n at own = length-set (replicate n 25) at own ∙ length-replicate n 25
 
-module _ {rows : List Row} {role count : ℕ} {us : List Update} {before mid log : List ℕ} {a : Progress}
-    (h : Attempted rows role count us before mid log a) where
-  abbrev t : Tables
-  t = tablesIn count before
+module _ (rows : List Row) (role : ℕ) {count : ℕ} {us : List Update} {before : List ℕ} {atomicity : ℕ} {a : Progress} where
+  -- a batch that came to its end, with atomicity 1 without a failure
+  pub ended : {after : List ℕ} → BatchApplied (eachAlone rows role (tablesIn count before) us) before after (writtenOf a) → (atomicity ≡ 1 → a .reason ≡ 0)
+      → batch atomicity rows role (tablesIn count before) us ≡ eachAlone rows role (tablesIn count before) us
+  unfolding batch allOrNone
+  ended w z = go (eqb atomicity 1) refl
+    where
+      none-failed : (p : Bool) → false ≡ not p → p ≡ true
+      none-failed true e = refl
+      none-failed false e = sym e
 
-  abbrev each : Batch
-  each = eachAlone rows role t us
+      go : (x : Bool) → eqb atomicity 1 ≡ x → (if x then allOrNone rows role (tablesIn count before) us else eachAlone rows role (tablesIn count before) us) ≡ eachAlone rows role (tablesIn count before) us
+      go false q = refl
+      go true q = rw (no-failure rows role (tablesIn count before) us (none-failed _ (rw (z (eqb-true atomicity 1 q)) at (w .failed)))) refl
 
-  abbrev all : Batch
-  all = allOrNone rows role t us
-
-  -- by the failure that was met
-  came-to : all ≡ unlessFailed (failureOf a) t us each
-  unfolding allOrNone
-  came-to = rw (h .failed) refl
-
-  said : Told rows role (failureOf a) t us
-  said = rw (h .failed) (told rows role t us)
-
-  -- whether an update failed
-  abbrev failed : Bool
-  failed = not (eqb (a .reason) 0)
-
-  -- the reasons that were answered
-  abbrev outcomes : ℕ → List ℕ
-  outcomes n = set (replicate n (othersOf (a .reason))) (a .done) (a .reason)
-
-  module _ (z : a .reason ≡ 0) where
-    none-failed : failureOf a ≡ none
-    none-failed = rw z refl
-
-    all-each : all ≡ each
-    all-each = came-to ∙ ap (λ (o : Option (ℕ × ℕ)). unlessFailed o t us each) none-failed
-
-    passed : every (eqb 0) (each .reasons) ≡ true
-    passed = rw none-failed at said
-
-    pub kept : BatchApplied all before mid (record { count = a .count; failed = failed })
-    kept = rw all-each (record {
-      failed = rw (z, passed) refl;
-      left = rw (take-all (a .done) us (omega (arith, h .whole z))) at (h .left);
-    })
-
-    kept-reasons : all .reasons ≡ outcomes (length us)
-    unfolding batch
-    kept-reasons =
-        let n : length (each .reasons) ≡ length us = reasons-count 0 rows role t us in
-        let r : each .reasons ≡ replicate (length us) 0 = all-zero (each .reasons) passed ∙ ap (λ (k : ℕ). replicate k 0) n in
-        rw (all-each, z) (r ∙ sym (set-out (replicate (length us) 0) (a .done) 0 (omega (arith, length-replicate {A = ℕ} (length us) 0, h .whole z))))
-
-  module _ (n : a .reason ≡ 0 → ⊥) where
-    one-failed : failureOf a ≡ some (a .done, a .reason)
-    one-failed = rw (ne-eqb (a .reason) 0 n) refl
-
-    all-rolled : all ≡ unlessFailed (some (a .done, a .reason)) t us each
-    all-rolled = came-to ∙ ap (λ (o : Option (ℕ × ℕ)). unlessFailed o t us each) one-failed
+  module _ {mid log : List ℕ} (one : atomicity ≡ 1) (h : Stopped rows role count us before mid log a) where
+    all-rolled : batch atomicity rows role (tablesIn count before) us ≡ unlessFailed (some (a .done, a .reason)) (tablesIn count before) us (eachAlone rows role (tablesIn count before) us)
+    unfolding batch allOrNone
+    all-rolled = rw (one, h .failed) refl
 
     failing : every (eqb 0) (rolledBack (length us) (a .done, a .reason)) ≡ false
-    failing = (rw one-failed at said) .1
+    failing = (rw (h .failed) at (told rows role (tablesIn count before) us)) .1
 
     pub rolled : {after : List ℕ} {n : ℕ}
         → ((goal : List (List ℕ)) → Undoes (a .done) log (entriesIn (a .count) mid) goal → Left mid after n goal)
-        → BatchApplied all before after (record { count = n; failed = failed })
+        → BatchApplied (batch atomicity rows role (tablesIn count before) us) before after (record { count = n; failed = not (eqb (a .reason) 0) })
     rolled back =
         let u = back (entriesIn count before) (h .undoes) in
         rw all-rolled (record {
-          failed = rw (ne-eqb (a .reason) 0 n, failing) refl;
+          failed = rw (ne-eqb (a .reason) 0 (h .own), failing) refl;
           left = record { holds = u .holds; room = u .room ∙ h .left .room; beyond = u .beyond ∙ h .left .beyond };
         })
 
-    rolled-reasons : all .reasons ≡ outcomes (length us)
-    rolled-reasons = rw (all-rolled, ne-eqb (a .reason) 0 n) refl
-
-  pub all-reasons : {n : ℕ} → length us ≡ n → all .reasons ≡ outcomes n
-  all-reasons e = go (eqb (a .reason) 0) refl ∙ ap outcomes e
-    where
-      go : (b : Bool) → eqb (a .reason) 0 ≡ b → all .reasons ≡ outcomes (length us)
-      go true q = kept-reasons (eqb-true (a .reason) 0 q)
-      go false q = rolled-reasons (eqb-false (a .reason) 0 q)
+    pub rolled-reasons : {n : ℕ} → length us ≡ n → batch atomicity rows role (tablesIn count before) us .reasons ≡ rolledBack n (a .done, a .reason)
+    rolled-reasons e = rw (all-rolled, e) refl
 
 -- ---- the pairs
 
 -- the reasons from i on
-pub outcomes-from : (n others at own i : ℕ) → i < n →
-    let l = set (replicate n others) at own in
-    drop i l ≡ (if eqb i at then own else others) ∷ drop (i + 1) l
-outcomes-from n others at own i h =
-    let l : List ℕ = set (replicate n others) at own in
-    let k : length l ≡ n = length-set (replicate n others) at own ∙ length-replicate n others in
+pub outcomes-from : (n at own i : ℕ) → i < n
+    → drop i (rolledBack n (at, own)) ≡ (if eqb i at then own else 25) ∷ drop (i + 1) (rolledBack n (at, own))
+outcomes-from n at own i h =
+    let l : List ℕ = rolledBack n (at, own) in
+    let k : length l ≡ n = rolled-count n at own in
     rw (drop-cons l i 0 (omega arith), add-one i) (ap (λ (x : ℕ). x ∷ drop (suc i) l) (go (eqb i at) refl))
   where
-    go : (b : Bool) → eqb i at ≡ b → getD (set (replicate n others) at own) i 0 ≡ (if b then own else others)
+    go : (b : Bool) → eqb i at ≡ b → getD (rolledBack n (at, own)) i 0 ≡ (if b then own else 25)
     go true q =
-        let m : length (replicate n others) ≡ n = length-replicate n others in
-        rw (eqb-true i at q) (getD-set-same (replicate n others) at own 0 (omega (arith, eqb-true i at q)))
-    go false q = getD-set-other (replicate n others) at i own 0 (eqb-false i at q) ∙ getD-replicate n i others 0 h
+        let m : length {A = ℕ} (replicate n 25) ≡ n = length-replicate n 25 in
+        rw (eqb-true i at q) (getD-set-same (replicate n 25) at own 0 (omega (arith, eqb-true i at q)))
+    go false q = getD-set-other (replicate n 25) at i own 0 (eqb-false i at q) ∙ getD-replicate n i 25 0 h
 
--- ---- by the atomicity
+pairs-long : (rs : List ℕ) → length (concat (map pairOf rs)) ≡ 2 * length rs
+pairs-long [] = refl
+pairs-long (r ∷ rs) = omega (arith, pairs-long rs)
 
-module _ (rows : List Row) (role : ℕ) (t : Tables) (us : List Update) {atomicity : ℕ} where
-  pub by-each : (atomicity ≡ 1 → ⊥) → batch atomicity rows role t us ≡ eachAlone rows role t us
-  unfolding batch
-  by-each n = rw (ne-eqb atomicity 1 n) refl
-
-  pub by-all : atomicity ≡ 1 → batch atomicity rows role t us ≡ allOrNone rows role t us
-  unfolding batch
-  by-all e = rw e refl
+-- n pairs, written over what changed no byte behind them
+pub pairs-anew : (n : ℕ) (rs before mid : List ℕ) → length rs ≡ n → drop (2 * n) mid ≡ drop (2 * n) before
+    → splice mid 0 (concat (map pairOf rs)) ≡ splice before 0 (concat (map pairOf rs))
+pairs-anew n rs before mid l e =
+    let ps : List ℕ = concat (map pairOf rs) in
+    let k : length ps ≡ 2 * n = pairs-long rs ∙ ap (λ (m : ℕ). 2 * m) l in
+    splice-front mid ps ∙ rw k (ap (λ (x : List ℕ). ps ++ x) e) ∙ sym (splice-front before ps)

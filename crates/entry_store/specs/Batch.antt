@@ -8,11 +8,16 @@ use Rattle.rules.specs.Bytes.{every, parts}
 use Rattle.rules.specs.Frame.{Update, updateOf}
 use Rattle.rules.specs.Update.{Batch}
 use Rattle.entries.specs.Store.{Left}
+use Rattle.entry_store.specs.declared.Progress.{Progress}
 use Rattle.entry_store.specs.declared.Written.{Written}
 
 -- the updates of a batch, 221 bytes each
 abbrev pub updatesIn : ℕ → List ℕ → List Update
 updatesIn n us = map updateOf (parts n 221 us)
+
+-- what a batch that came to its end leaves
+abbrev pub writtenOf : Progress → Written
+writtenOf a = record { count = a .count; failed = not (eqb (a .reason) 0) }
 
 -- the store holds what the batch leaves, in its order; free bytes may be any
 pub record BatchApplied (b : Batch) (before after : List ℕ) (w : Written) : Type 0 where

@@ -2,25 +2,27 @@
 // (document 01, "Configuration and entries" and "The maker of an update"; document 02, request Two).
 ghost use mathlib.Core.Path.{_≡_};
 ghost use mathlib.Core.List.{List, map};
-ghost use Prim.Native.Nat.{ℕ, _*_, _≤_};
-ghost use lib.ListN.{length, set, replicate};
-ghost use Rattle.rules.specs.Bytes.{if_then_else_, keep, concat};
+ghost use Prim.Native.Nat.{ℕ, _+_, _*_, _≤_, _<_};
+ghost use lib.ListN.{length, drop};
+ghost use Rattle.rules.specs.Bytes.{if_then_else_, keep, concat, part};
 ghost use lib.Dec.{eqb};
 ghost use Rattle.rules.specs.Row.{mayWrite};
 ghost use Rattle.rules.specs.Key.{shortKey, hasKey};
-ghost use Rattle.rules.specs.Update.{eachAlone, allOrNone, batch as batchOf};
+ghost use Rattle.rules.specs.Update.{eachAlone, rolledBack, batch as batchOf};
 ghost use Rattle.rules.specs.Call.{pairOf, asked, gathered};
 ghost use Rattle.buffers.specs.Splice.{splice};
 ghost use Rattle.rows.specs.Meaning.{rowOf, rowsOf};
 ghost use Rattle.entries.specs.Store.{entriesIn, tablesIn, Left};
+ghost use Rattle.updates.specs.Undo.{noted};
 ghost use Rattle.updates.specs.Update.{Tidy};
-ghost use Rattle.entry_store.specs.Batch.{updatesIn, BatchApplied};
-ghost use Rattle.entry_store.specs.Rollback.{Undoes, Attempted, othersOf};
+ghost use Rattle.entry_store.specs.Batch.{updatesIn, writtenOf, BatchApplied};
+ghost use Rattle.entry_store.specs.Rollback.{Undoes, Stopped};
 ghost use Rattle.entry_store.specs.Read.{keyIn, keyReason, queryReason, readIn, Reads};
 use entries::Found;
 use numbers::integer;
 use rows::Row;
 use rows::Rows;
+use updates::Verdict;
 
 // What a batch leaves: the number of entries, and whether an update failed.
 pub struct Written {
@@ -28,15 +30,15 @@ pub struct Written {
     pub failed: bool,
 }
 
-// How far a batch came: the number of entries, how many updates took effect, and the reason of the next one, which failed (0: none
-// did).
+// How far a batch came: the number of entries, how many updates were taken before the one that stopped it (all n where none did),
+// and the reason of the last one that failed (0: none did).
 struct Progress {
     count: usize,
     done: usize,
     reason: u8,
 }
 
-// ---- a batch with atomicity 0
+// ---- the updates in order
 
 // Writes the pair of an update: a record of 2 bytes.
 fn write_pair(reason: u8, out: &mut [u8])
@@ -47,22 +49,49 @@ fn write_pair(reason: u8, out: &mut [u8])
     out[1] = rules::code(reason);
 }
 
-// The n updates of a batch in order, each of which succeeds or fails alone, each pair written; what is left.
-fn each_alone(
+// Notes what doing the verdict of update i will do, with atomicity 1: note i of the log.
+fn note_update(
+    atomicity: u8,
+    verdict: Verdict,
+    store: &[u8],
+    count: usize,
+    log: &mut [u8],
+    i: usize,
+)
+    requires { ⌜ (count ≤ 256) × (56320 ≤ length (now store)) × (atomicity ≡ 1 → 222 * i + 222 ≤ length (now log)) ⌝ }
+    ensures { λ _. ⌜ (atomicity ≡ 1 → now (log .exit) ≡ splice (now (log .entry)) (222 * i) (noted verdict count (now (store .entry)) (part (222 * i) 222 (now (log .entry))))) ⌝ }
+{
+    if atomicity != 1 {
+        return;
+    }
+    let at = 222 * i;
+    let end = at + 222;
+    updates::note(verdict, store, count, &mut log[at..end]);
+}
+
+// Takes the n updates in order: each is judged, its pair written, and done where nothing refused it. With atomicity 1 what each will
+// do is noted beforehand, and the first that fails stops the batch.
+fn take(
     rows: Rows,
     role: u8,
+    atomicity: u8,
     store: &mut [u8],
     count: usize,
     updates: &[u8],
     n: usize,
+    log: &mut [u8],
     answer: &mut [u8],
-) -> Written
-    requires { ⌜ (count ≤ 256) × (56320 ≤ length (now store)) × (length (now updates) ≡ 221 * n) × (2 * n ≤ length (now answer)) ⌝ }
-    ensures left { λ r. ⌜ (Tidy count (now (store .entry)) → BatchApplied (eachAlone (rowsOf rows) role (tablesIn count (now (store .entry))) (updatesIn n (now (updates .entry)))) (now (store .entry)) (now (store .exit)) r) ⌝ }
-    ensures pairs { λ _. ⌜ (Tidy count (now (store .entry)) → now (answer .exit) ≡ splice (now (answer .entry)) 0 (concat (map pairOf (eachAlone (rowsOf rows) role (tablesIn count (now (store .entry))) (updatesIn n (now (updates .entry))) .reasons)))) ⌝ }
+) -> Progress
+    requires { ⌜ (count ≤ 256) × (56320 ≤ length (now store)) × (length (now updates) ≡ 221 * n) × (2 * n ≤ length (now answer)) × (atomicity ≡ 1 → 222 * n ≤ length (now log)) ⌝ }
+    ensures bound { λ r. ⌜ (r .count ≤ 256) × (r .done ≤ n) ⌝ }
+    ensures none { λ r. ⌜ (atomicity ≡ 1 → r .done ≡ n → r .reason ≡ 0) ⌝ }
+    ensures left { λ r. ⌜ (r .done ≡ n → Tidy count (now (store .entry)) → BatchApplied (eachAlone (rowsOf rows) role (tablesIn count (now (store .entry))) (updatesIn n (now (updates .entry)))) (now (store .entry)) (now (store .exit)) (writtenOf r)) ⌝ }
+    ensures pairs { λ r. ⌜ (r .done ≡ n → Tidy count (now (store .entry)) → now (answer .exit) ≡ splice (now (answer .entry)) 0 (concat (map pairOf (eachAlone (rowsOf rows) role (tablesIn count (now (store .entry))) (updatesIn n (now (updates .entry))) .reasons)))) ⌝ }
+    ensures stopped { λ r. ⌜ (r .done < n → (atomicity ≡ 1) × (Tidy count (now (store .entry)) → Stopped (rowsOf rows) role count (updatesIn n (now (updates .entry))) (now (store .entry)) (now (store .exit)) (now (log .exit)) r)) ⌝ }
+    ensures beyond { λ _. ⌜ drop (2 * n) (now (answer .exit)) ≡ drop (2 * n) (now (answer .entry)) ⌝ }
 {
     let mut held = count;
-    let mut failed = false;
+    let mut failure: u8 = 0;
     let mut i: usize = 0;
     while i < n {
         let from = 221 * i;
@@ -73,69 +102,32 @@ fn each_alone(
         let row = rows.rows[within];
         let verdict = updates::judge(place < 8, row, role, store, held, &updates[from..end]);
         let reason = verdict.reason();
-        if reason != 0 {
-            failed = true;
-        }
         let at = 2 * i;
         write_pair(reason, &mut answer[at..]);
+        if reason != 0 {
+            failure = reason;
+            if atomicity == 1 {
+                return Progress {
+                    count: held,
+                    done: i,
+                    reason,
+                };
+            }
+        }
         if reason == 0 {
+            note_update(atomicity, verdict, store, held, log, i);
             held = updates::apply(verdict, store, held, &updates[from..end]);
         }
-        i += 1;
-    }
-    Written {
-        count: held,
-        failed,
-    }
-}
-
-// ---- a batch with atomicity 1: each update is noted before it is done, and where one fails those before it are undone
-
-// The n updates of a batch in order up to the first that fails, each noted in the log before it is done.
-fn attempt(
-    rows: Rows,
-    role: u8,
-    store: &mut [u8],
-    count: usize,
-    updates: &[u8],
-    n: usize,
-    log: &mut [u8],
-) -> Progress
-    requires { ⌜ (count ≤ 256) × (56320 ≤ length (now store)) × (length (now updates) ≡ 221 * n) × (222 * n ≤ length (now log)) ⌝ }
-    ensures bound { λ r. ⌜ (r .count ≤ 256) × (r .done ≤ n) ⌝ }
-    ensures came { λ r. ⌜ (Tidy count (now (store .entry)) → Attempted (rowsOf rows) role count (updatesIn n (now (updates .entry))) (now (store .entry)) (now (store .exit)) (now (log .exit)) r) ⌝ }
-{
-    let mut held = count;
-    let mut i: usize = 0;
-    while i < n {
-        let from = 221 * i;
-        let end = from + 221;
-        // here too the row alone is handed on
-        let place = rows.position(integer(updates, from + 1, 4));
-        let nth = place % 8;
-        let row = rows.rows[nth];
-        let known = place < 8;
-        let verdict = updates::judge(known, row, role, store, held, &updates[from..end]);
-        let wrong = verdict.reason();
-        if wrong != 0 {
-            return Progress {
-                count: held,
-                done: i,
-                reason: wrong,
-            };
-        }
-        let at = 222 * i;
-        let to = at + 222;
-        updates::note(verdict, store, held, &mut log[at..to]);
-        held = updates::apply(verdict, store, held, &updates[from..end]);
         i += 1;
     }
     Progress {
         count: held,
         done: n,
-        reason: 0,
+        reason: failure,
     }
 }
+
+// ---- a batch that was stopped is rolled back
 
 // Undoes the first n notes of a log, the last one first; the number of entries then.
 fn roll_back(log: &[u8], n: usize, store: &mut [u8], count: usize) -> usize
@@ -153,37 +145,36 @@ fn roll_back(log: &[u8], n: usize, store: &mut [u8], count: usize) -> usize
     held
 }
 
-// The reason that update i is answered with where update `at` failed with a reason of its own, or none did (0).
+// The reason that update i is answered with where update `at` failed with a reason of its own.
 fn outcome(i: usize, at: usize, own: u8) -> u8
-    ensures { λ r. ⌜ r ≡ (if eqb i at then own else othersOf own) ⌝ }
+    ensures { λ r. ⌜ r ≡ (if eqb i at then own else 25) ⌝ }
 {
     if i == at {
         return own;
     }
-    if own == 0 {
-        return 0;
-    }
     25
 }
 
-// Writes the pairs of n updates of which update `at` failed with a reason of its own, or none did (0).
+// Writes the pairs of n updates of which update `at` failed with a reason of its own.
 fn write_outcomes(n: usize, at: usize, own: u8, answer: &mut [u8])
     requires { ⌜ 2 * n ≤ length (now answer) ⌝ }
-    ensures { λ _. ⌜ now (answer .exit) ≡ splice (now (answer .entry)) 0 (concat (map pairOf (set (replicate n (othersOf own)) at own))) ⌝ }
+    ensures { λ _. ⌜ now (answer .exit) ≡ splice (now (answer .entry)) 0 (concat (map pairOf (rolledBack n (at, own)))) ⌝ }
 {
-    let mut i: usize = 0;
-    while i < n {
-        let to = 2 * i;
-        write_pair(outcome(i, at, own), &mut answer[to..]);
-        i += 1;
+    let mut k: usize = 0;
+    while k < n {
+        let to = 2 * k;
+        write_pair(outcome(k, at, own), &mut answer[to..]);
+        k += 1;
     }
 }
 
-// The n updates of a batch in order, all of them or none, each pair written; what is left. They are noted in a log that has room
-// for n notes.
-fn all_or_none_in(
+// ---- a batch
+
+// The n updates of a batch by its atomicity, each pair written; what is left. With atomicity 1 the log has room for n notes.
+fn batch_in(
     rows: Rows,
     role: u8,
+    atomicity: u8,
     store: &mut [u8],
     count: usize,
     updates: &[u8],
@@ -191,14 +182,14 @@ fn all_or_none_in(
     log: &mut [u8],
     answer: &mut [u8],
 ) -> Written
-    requires { ⌜ (count ≤ 256) × (56320 ≤ length (now store)) × (length (now updates) ≡ 221 * n) × (222 * n ≤ length (now log)) × (2 * n ≤ length (now answer)) ⌝ }
-    ensures left { λ r. ⌜ (Tidy count (now (store .entry)) → BatchApplied (allOrNone (rowsOf rows) role (tablesIn count (now (store .entry))) (updatesIn n (now (updates .entry)))) (now (store .entry)) (now (store .exit)) r) ⌝ }
-    ensures pairs { λ _. ⌜ (Tidy count (now (store .entry)) → now (answer .exit) ≡ splice (now (answer .entry)) 0 (concat (map pairOf (allOrNone (rowsOf rows) role (tablesIn count (now (store .entry))) (updatesIn n (now (updates .entry))) .reasons)))) ⌝ }
+    requires { ⌜ (count ≤ 256) × (56320 ≤ length (now store)) × (length (now updates) ≡ 221 * n) × (2 * n ≤ length (now answer)) × (atomicity ≡ 1 → 222 * n ≤ length (now log)) ⌝ }
+    ensures left { λ r. ⌜ (Tidy count (now (store .entry)) → BatchApplied (batchOf atomicity (rowsOf rows) role (tablesIn count (now (store .entry))) (updatesIn n (now (updates .entry)))) (now (store .entry)) (now (store .exit)) r) ⌝ }
+    ensures pairs { λ _. ⌜ (Tidy count (now (store .entry)) → now (answer .exit) ≡ splice (now (answer .entry)) 0 (concat (map pairOf (batchOf atomicity (rowsOf rows) role (tablesIn count (now (store .entry))) (updatesIn n (now (updates .entry))) .reasons)))) ⌝ }
 {
-    let came = attempt(rows, role, store, count, updates, n, log);
-    write_outcomes(n, came.done, came.reason, answer);
+    let came = take(rows, role, atomicity, store, count, updates, n, log, answer);
     let mut held = came.count;
-    if came.reason != 0 {
+    if came.done < n {
+        write_outcomes(n, came.done, came.reason, answer);
         held = roll_back(log, came.done, store, came.count);
     }
     Written {
@@ -206,31 +197,6 @@ fn all_or_none_in(
         failed: came.reason != 0,
     }
 }
-
-// The same with a log of its own, for at most 64 updates.
-fn all_or_none(
-    rows: Rows,
-    role: u8,
-    store: &mut [u8],
-    count: usize,
-    updates: &[u8],
-    n: usize,
-    answer: &mut [u8],
-) -> Written
-    requires { ⌜ (count ≤ 256) × (56320 ≤ length (now store)) × (length (now updates) ≡ 221 * n) × (n ≤ 64) × (2 * n ≤ length (now answer)) ⌝ }
-    ensures left { λ r. ⌜ (Tidy count (now (store .entry)) → BatchApplied (allOrNone (rowsOf rows) role (tablesIn count (now (store .entry))) (updatesIn n (now (updates .entry)))) (now (store .entry)) (now (store .exit)) r) ⌝ }
-    ensures pairs { λ _. ⌜ (Tidy count (now (store .entry)) → now (answer .exit) ≡ splice (now (answer .entry)) 0 (concat (map pairOf (allOrNone (rowsOf rows) role (tablesIn count (now (store .entry))) (updatesIn n (now (updates .entry))) .reasons)))) ⌝ }
-{
-    if n <= 4 {
-        // a longer log costs more to make than so few updates do
-        let mut short = [0; 888];
-        return all_or_none_in(rows, role, store, count, updates, n, &mut short, answer);
-    }
-    let mut log = [0; 14208];
-    all_or_none_in(rows, role, store, count, updates, n, &mut log, answer)
-}
-
-// ---- a batch
 
 // The n updates of a batch by its atomicity, each pair written; what is left.
 pub fn batch(
@@ -254,10 +220,17 @@ pub fn batch(
             failed: true,
         };
     }
-    if atomicity == 1 {
-        return all_or_none(rows, role, store, count, updates, n, answer);
+    if atomicity != 1 {
+        let mut none = [0; 1];
+        return batch_in(rows, role, atomicity, store, count, updates, n, &mut none, answer);
     }
-    each_alone(rows, role, store, count, updates, n, answer)
+    if n <= 4 {
+        // a longer log costs more to make than so few updates do
+        let mut short = [0; 888];
+        return batch_in(rows, role, atomicity, store, count, updates, n, &mut short, answer);
+    }
+    let mut log = [0; 14208];
+    batch_in(rows, role, atomicity, store, count, updates, n, &mut log, answer)
 }
 
 // ---- READ

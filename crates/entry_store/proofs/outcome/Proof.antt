@@ -1,4 +1,4 @@
--- Right because the tests are those of the contract. Assumes nothing.
+-- Right because the test is that of the contract. Assumes nothing.
 use mathlib.Core.Path.{refl}
 use borrow.Author.Tests.{eq-eqb, ne-eqb}
 use Rattle.entry_store.proofs.outcome.Statement.{statement}
@@ -8,10 +8,7 @@ returns : tie.Need-returns
 returns c = rw (eq-eqb _ _ (c .if1 .taken)) refl
 
 returns-2 : tie.Need-returns-2
-returns-2 c = rw (ne-eqb _ _ (c .before .if1 .left), c .if2 .taken) refl
-
-returns-3 : tie.Need-returns-3
-returns-3 c = rw (ne-eqb _ _ (c .before .if1 .left), ne-eqb _ 0 (c .if2 .left)) refl
+returns-2 c = rw (ne-eqb _ _ (c .if1 .left)) refl
 
 pub outcome-spec : {M : Type 1} → statement M
-outcome-spec = tie.close (tie.spec returns returns-2 returns-3)
+outcome-spec = tie.close (tie.spec returns returns-2)

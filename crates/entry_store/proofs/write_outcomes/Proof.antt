@@ -3,30 +3,26 @@ use Prim.Native.Nat.{ℕ, _+_, _*_, _-_, _≤_, _<_}
 use native.Mathlib.Omega.{arith}
 use mathlib.Core.Path.{_≡_, refl, ap, _∙_}
 use mathlib.Core.List.{List, [], map}
-use lib.ListN.{length, drop, set, replicate, length-set, length-replicate, drop-of-length-le}
+use lib.ListN.{length, drop, drop-of-length-le}
 use borrow.Rule.Slice.PartMut.{same-len-mid}
 use denote.Ref.{now}
 use Rattle.rules.specs.Call.{pairOf}
+use Rattle.rules.specs.Update.{rolledBack}
 use Rattle.buffers.proofs.Splice.{part-copied}
 use Rattle.buffers.proofs.Written.{Written, written-none, written-next, written-all}
-use Rattle.entry_store.specs.Rollback.{othersOf}
-use Rattle.entry_store.proofs.Rollbacks.{outcomes-from}
+use Rattle.entry_store.proofs.Rollbacks.{rolled-count, outcomes-from}
 use borrow.Author.Needs.{needs}
 use Rattle.entry_store.proofs.write_outcomes.Statement.{statement}
 use Rattle.entry_store.proofs.write_outcomes.Tie as tie
 
--- the reasons of all
-abbrev reasons : ℕ → ℕ → ℕ → List ℕ
-reasons n at own = set (replicate n (othersOf own)) at own
-
 abbrev Inv-loop : tie.InvT-loop
-Inv-loop n at own answer₀ i₀ answer i =
-    (i ≤ n)
+Inv-loop n at own answer₀ k₀ answer k =
+    (k ≤ n)
     × (length answer ≡ length answer₀)
-    × Written 2 (map pairOf (reasons n at own)) answer₀ (map pairOf (drop i (reasons n at own))) answer i
+    × Written 2 (map pairOf (rolledBack n (at, own))) answer₀ (map pairOf (drop k (rolledBack n (at, own)))) answer k
 
 abbrev μ-loop : tie.MeasureT-loop
-μ-loop n at own answer₀ i₀ answer i = n - i
+μ-loop n at own answer₀ k₀ answer k = n - k
 
 loop-holds : tie.Need-loop-holds Inv-loop μ-loop
 loop-holds c = (omega arith, refl, written-none 2 _ _)
@@ -49,8 +45,8 @@ part-write-pair-end c = search needs
 write-pair-requires : tie.Need-write-pair-requires Inv-loop μ-loop
 write-pair-requires c κs = search needs
 
-add-i : tie.Need-add-i Inv-loop μ-loop
-add-i c = search needs
+add-k : tie.Need-add-k Inv-loop μ-loop
+add-k c = search needs
 
 loop-less : tie.Need-loop-less Inv-loop μ-loop
 loop-less c = search needs
@@ -62,14 +58,14 @@ loop-again c =
     let l = c .before .before .before .before .before .before .loop in
     let a = c .before .before .before .before .before .before .before .before .args in
     let x : List ℕ = l .answer in
-    let i : ℕ = l .i in
+    let i : ℕ = l .k in
     let h : i < a .n = omega arith in
     let room : 2 * i + 2 ≤ length x = omega arith in
     let start : 2 * i ≤ length (now (a .answer)) = omega arith in
     let written = part-copied x (w .last .1 .0) (pairOf (o .result)) (2 * i) (length x - 2 * i) (w .ensures) (omega (arith, room)) (omega (arith, room)) in (
       omega arith,
       same-len-mid (2 * i) (length x - 2 * i) x (w .last .1 .0) (w .kept .1 .0) ∙ l .inv .1,
-      written-next (l .inv .2) (ap (map pairOf) (outcomes-from (a .n) (othersOf (a .own)) (a .at) (a .own) i h)) refl start (rw (o .ensures) at written) refl,
+      written-next (l .inv .2) (ap (map pairOf) (outcomes-from (a .n) (a .at) (a .own) i h)) refl start (rw (o .ensures) at written) refl,
     )
 
 same-length : tie.Need-same-length Inv-loop μ-loop
@@ -79,9 +75,8 @@ returns : tie.Need-returns Inv-loop μ-loop
 returns c =
     let l = c .before .loop in
     let a = c .before .before .before .args in
-    let rs : List ℕ = reasons (a .n) (a .at) (a .own) in
-    let k : length rs ≡ a .n = length-set (replicate (a .n) (othersOf (a .own))) (a .at) (a .own) ∙ length-replicate (a .n) (othersOf (a .own)) in
-    let none : drop (l .i) rs ≡ [] = drop-of-length-le rs {i = l .i} (omega arith) in
+    let rs : List ℕ = rolledBack (a .n) (a .at, a .own) in
+    let none : drop (l .k) rs ≡ [] = drop-of-length-le rs {i = l .k} (omega (arith, rolled-count (a .n) (a .at) (a .own))) in
     written-all (l .inv .2) (ap (map pairOf) none) .1
 
 pub write-outcomes-spec : {M : Type 1} → statement M
@@ -97,7 +92,7 @@ write-outcomes-spec =
     part-write-pair-start
     part-write-pair-end
     write-pair-requires
-    add-i
+    add-k
     loop-less
     loop-again
     same-length
