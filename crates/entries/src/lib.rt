@@ -1,7 +1,8 @@
 // The store of entries in shortest form: key search, counting, deletion, putting back, and gathering for READ.
 ghost use mathlib.Core.Path.{_≡_};
+ghost use mathlib.Core.List.{[], _++_};
 ghost use Prim.Native.Nat.{_+_, _*_, _-_, _/_, _≤_, _<_, min};
-ghost use lib.ListN.{length, take, set};
+ghost use lib.ListN.{length, take, getD, set};
 ghost use Rattle.rules.specs.Bytes.{keep, concat, part, same};
 ghost use Rattle.rules.specs.Update.{inTable, held as heldIn};
 ghost use Rattle.buffers.specs.Splice.{splice};
@@ -87,14 +88,14 @@ pub fn put_back(store: &mut [u8], count: usize, i: usize, entry: &[u8])
     buffers::copy(entry, &mut store[at..to]);
 }
 
-// Writes an entry over entry i.
-pub fn replace(store: &mut [u8], count: usize, i: usize, entry: &[u8])
-    requires { ⌜ (i < count) × (count ≤ 256) × (56320 ≤ length (now store)) × (length (now entry) ≡ 220) ⌝ }
-    ensures { λ _. ⌜ Left (now (store .entry)) (now (store .exit)) count (set (entriesIn count (now (store .entry))) i (now (entry .entry))) ⌝ }
+// Writes an action and its parameters, 72 bytes, over those of entry i.
+pub fn replace_action(store: &mut [u8], count: usize, i: usize, action: &[u8])
+    requires { ⌜ (i < count) × (count ≤ 256) × (56320 ≤ length (now store)) × (length (now action) ≡ 72) ⌝ }
+    ensures { λ _. ⌜ Left (now (store .entry)) (now (store .exit)) count (set (entriesIn count (now (store .entry))) i (take 148 (getD (entriesIn count (now (store .entry))) i []) ++ now (action .entry))) ⌝ }
 {
-    let at = 220 * i;
-    let end = at + 220;
-    buffers::copy(entry, &mut store[at..end]);
+    let at = 220 * i + 148;
+    let end = at + 72;
+    buffers::copy(action, &mut store[at..end]);
 }
 
 // Copies an entry to the start of dst: a record of 220 bytes.

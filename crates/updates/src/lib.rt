@@ -12,7 +12,7 @@ ghost use Rattle.rules.specs.Key.{keyFormed, keyFits, shortKey};
 ghost use Rattle.rules.specs.Entry.{actionFormed, actionFits, shortEntry};
 ghost use Rattle.rules.specs.Update.{isInsert, held as heldIn, judgeBy};
 ghost use Rattle.rows.specs.Meaning.{rowOf};
-ghost use Rattle.entries.specs.Store.{entriesIn, tablesIn, place, placeOf, Left};
+ghost use Rattle.entries.specs.Store.{entriesIn, tablesIn, place, placeOf, insertedAt, Left};
 ghost use Rattle.updates.specs.Undo.{noteOf, noted, Undone};
 ghost use Rattle.updates.specs.Update.{entryReason, placeReason, reasonOf, Meant, changed, Performed, Applied};
 use entries::Found;
@@ -231,21 +231,21 @@ pub fn apply(verdict: Verdict, store: &mut [u8], count: usize, update: &[u8]) ->
 
 // ---- undoing
 
-// Notes entry i as it is: a note of 222 bytes.
+// Notes the action and parameters of entry i as they are: a note of 74 bytes.
 fn note_entry(kind: u8, store: &[u8], i: usize, note: &mut [u8])
-    requires { ⌜ (i < 256) × (220 * i + 220 ≤ length (now store)) × (length (now note) ≡ 222) ⌝ }
-    ensures { λ _. ⌜ now (note .exit) ≡ kind ∷ i ∷ part (220 * i) 220 (now (store .entry)) ⌝ }
+    requires { ⌜ (i < 256) × (220 * i + 220 ≤ length (now store)) × (length (now note) ≡ 74) ⌝ }
+    ensures { λ _. ⌜ now (note .exit) ≡ kind ∷ i ∷ part (220 * i + 148) 72 (now (store .entry)) ⌝ }
 {
-    let from = 220 * i;
-    let end = from + 220;
+    let from = 220 * i + 148;
+    let end = from + 72;
     note[0] = kind;
     note[1] = i as u8;
-    buffers::copy(&store[from..end], &mut note[2..222]);
+    buffers::copy(&store[from..end], &mut note[2..74]);
 }
 
 // Notes what doing a verdict will do, so that it can be undone.
 pub fn note(verdict: Verdict, store: &[u8], count: usize, note: &mut [u8])
-    requires { ⌜ (count ≤ 256) × (56320 ≤ length (now store)) × (length (now note) ≡ 222) ⌝ }
+    requires { ⌜ (count ≤ 256) × (56320 ≤ length (now store)) × (length (now note) ≡ 74) ⌝ }
     ensures { λ _. ⌜ now (note .exit) ≡ noted verdict count (now (store .entry)) (now (note .entry)) ⌝ }
 {
     match verdict {
@@ -276,11 +276,30 @@ fn one_less(n: usize) -> usize
     n - 1
 }
 
-// Undoes what was noted last; the number of entries then.
-pub fn undo(note: &[u8], store: &mut [u8], count: usize) -> usize
-    requires { ⌜ (count ≤ 256) × (56320 ≤ length (now store)) × (length (now note) ≡ 222) ⌝ }
+// Makes the entry that was deleted: its key is the update's in shortest form, its action and parameters were noted.
+fn old_entry(note: &[u8], update: &[u8], out: &mut [u8])
+    requires { ⌜ (length (now note) ≡ 74) × (length (now update) ≡ 221) × (length (now out) ≡ 220) ⌝ }
+    ensures { λ _. ⌜ now (out .exit) ≡ shortKey (drop 1 (now (update .entry))) ++ drop 2 (now (note .entry)) ⌝ }
+{
+    values::shorten_key(&update[1..], out);
+    buffers::copy(&note[2..74], &mut out[148..220]);
+}
+
+// Puts the entry that was deleted back at its place.
+fn put_back(note: &[u8], update: &[u8], store: &mut [u8], count: usize, i: usize)
+    requires { ⌜ (i ≤ count) × (count < 256) × (56320 ≤ length (now store)) × (length (now note) ≡ 74) × (length (now update) ≡ 221) ⌝ }
+    ensures { λ _. ⌜ Left (now (store .entry)) (now (store .exit)) (count + 1) (insertedAt i (shortKey (drop 1 (now (update .entry))) ++ drop 2 (now (note .entry))) (entriesIn count (now (store .entry)))) ⌝ }
+{
+    let mut old = [0; 220];
+    old_entry(note, update, &mut old);
+    entries::put_back(store, count, i, &old);
+}
+
+// Undoes what was noted last of an update of 221 bytes; the number of entries then.
+pub fn undo(note: &[u8], update: &[u8], store: &mut [u8], count: usize) -> usize
+    requires { ⌜ (count ≤ 256) × (56320 ≤ length (now store)) × (length (now note) ≡ 74) × (length (now update) ≡ 221) ⌝ }
     ensures bound { λ r. ⌜ r ≤ 256 ⌝ }
-    ensures left { λ r. ⌜ Undone (noteOf (now (note .entry))) count (now (store .entry)) (now (store .exit)) r ⌝ }
+    ensures left { λ r. ⌜ Undone (noteOf (now (note .entry)) (now (update .entry))) count (now (store .entry)) (now (store .exit)) r ⌝ }
 {
     let kind = note[0];
     let i = buffers::wide(note[1]) as usize;
@@ -289,7 +308,7 @@ pub fn undo(note: &[u8], store: &mut [u8], count: usize) -> usize
     }
     if kind == 2 {
         if i < count {
-            entries::replace(store, count, i, &note[2..222]);
+            entries::replace_action(store, count, i, &note[2..74]);
         }
         return count;
     }
@@ -299,7 +318,7 @@ pub fn undo(note: &[u8], store: &mut [u8], count: usize) -> usize
     if count < i {
         return count;
     }
-    entries::put_back(store, count, i, &note[2..222]);
+    put_back(note, update, store, count, i);
     count + 1
 }
 
