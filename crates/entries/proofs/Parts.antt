@@ -10,8 +10,8 @@ use lib.Seq.{take-at, drop-at, drop-drop, getD-drop, take-add, length-take-le}
 use Rattle.rules.proofs.Lists.{parts-from}
 use Rattle.rules.specs.Bytes.{part, parts}
 use Rattle.buffers.specs.Splice.{splice}
-use Rattle.buffers.proofs.Splice.{take-splice, splice-front, length-splice, part-splice, part-back, length-window}
-use Rattle.entries.specs.Store.{without, insertedAt}
+use Rattle.buffers.proofs.Splice.{take-splice, drop-splice, splice-front, splice-end, length-splice, part-splice, part-back, length-window}
+use Rattle.entries.specs.Store.{entriesIn, without, insertedAt, Left}
 
 -- ---- where a part stands
 
@@ -67,7 +67,7 @@ parts-append (suc n) w l e h s =
     rw k (behind-first n (n + 1) w l e _ h (parts-append n w (drop w l) e (omega arith) s))
 
 -- over part i
-pub parts-replace : (i n w : ℕ) (l e : List ℕ) → i < n → w * i + w ≤ length l → length e ≡ w
+parts-replace : (i n w : ℕ) (l e : List ℕ) → i < n → w * i + w ≤ length l → length e ≡ w
     → parts n w (splice l (w * i) e) ≡ set (parts n w l) i e
 unfolding parts
 parts-replace i zero w l e h g s = absurd (omega arith)
@@ -77,13 +77,27 @@ parts-replace (suc i) (suc n) w l e h g s =
     behind-first i n w l e _ (omega arith) (parts-replace i n w (drop w l) e (omega arith) (omega arith) s)
 
 -- over a piece of part i
-pub parts-set : (i n w j : ℕ) (l ys : List ℕ) → i < n → w * i + w ≤ length l → j + length ys ≤ w
+parts-set : (i n w j : ℕ) (l ys : List ℕ) → i < n → w * i + w ≤ length l → j + length ys ≤ w
     → parts n w (splice l (w * i + j) ys) ≡ set (parts n w l) i (splice (part (w * i) w l) j ys)
 parts-set i n w j l ys h g b =
     let e : List ℕ = splice (part (w * i) w l) j ys in
     let p : length (part (w * i) w l) ≡ w = length-window (w * i) w l g in
     let s : length e ≡ w = length-splice (part (w * i) w l) j ys (omega arith) ∙ p in
     ap (parts n w) (sym (part-splice l (w * i) w j ys b g) ∙ part-back l (w * i) w e s) ∙ parts-replace i n w l e h g s
+
+-- over the action and parameters of entry i
+pub action-over : (i count : ℕ) (s new : List ℕ) → i < count → count ≤ 256 → 56_320 ≤ length s → length new ≡ 72
+    → Left s (splice s (220 * i + 148) new) count (set (entriesIn count s) i (take 148 (getD (entriesIn count s) i []) ++ new))
+action-over i count s new h few room l =
+    let old : List ℕ = part (220 * i) 220 s in
+    let o : length old ≡ 220 = length-window (220 * i) 220 s (omega arith) in
+    rw (parts-at i count 220 s h) (record {
+      holds =
+          parts-set i count 220 148 s new h (omega arith) (omega arith)
+          ∙ ap (set (entriesIn count s) i) (splice-end old 148 new (omega arith));
+      room = length-splice s (220 * i + 148) new (omega arith);
+      beyond = drop-splice 56_320 s (220 * i + 148) new (omega arith) (omega arith);
+    })
 
 -- the parts behind part i moved down by one
 pub parts-close : (i n w k : ℕ) (l : List ℕ) → i ≤ n → w * suc n ≤ length l → w * i + w + k ≡ w * suc n

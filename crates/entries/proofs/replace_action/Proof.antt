@@ -1,16 +1,19 @@
--- Right because the entry is written over the bytes of entry i. Assumes nothing.
+-- Right because the action is written behind the key of entry i, up to its end. Assumes nothing.
 use Prim.Native.Nat.{ℕ, _+_, _*_, _-_}
 use native.Mathlib.Omega.{arith}
 use mathlib.Core.List.{List}
 use denote.Ref.{now}
-use Rattle.buffers.proofs.Splice.{part-copied, drop-splice, length-splice}
-use Rattle.entries.proofs.Parts.{parts-replace}
+use Rattle.buffers.proofs.Splice.{part-copied}
+use Rattle.entries.proofs.Parts.{action-over}
 use borrow.Author.Needs.{needs}
-use Rattle.entries.proofs.replace.Statement.{statement}
-use Rattle.entries.proofs.replace.Tie as tie
+use Rattle.entries.proofs.replace_action.Statement.{statement}
+use Rattle.entries.proofs.replace_action.Tie as tie
 
 mul-at : tie.Need-mul-at
 mul-at c = search needs
+
+add-at : tie.Need-add-at
+add-at c = search needs
 
 add-end : tie.Need-add-end
 add-end c = search needs
@@ -35,19 +38,17 @@ returns c =
     let a = c .before .before .before .before .before .before .args in
     let w = c .before .before .copy in
     let s : List ℕ = now (a .store) in
-    let e : List ℕ = now (a .entry) in
-    let at : ℕ = 220 * a .i in
-    rw (part-copied s (w .last .1 .0) e at (at + 220 - at) (w .ensures) (omega arith) (omega arith)) (record {
-      holds = parts-replace (a .i) (a .count) 220 s e (omega arith) (omega arith) (omega arith);
-      room = length-splice s at e (omega arith);
-      beyond = drop-splice 56_320 s at e (omega arith) (omega arith);
-    })
+    let new : List ℕ = now (a .action) in
+    let at : ℕ = 220 * a .i + 148 in
+    rw (part-copied s (w .last .1 .0) new at (at + 72 - at) (w .ensures) (omega arith) (omega arith))
+    (action-over (a .i) (a .count) s new (omega arith) (omega arith) (omega arith) (omega arith))
 
-pub replace-spec : {M : Type 1} → statement M
-replace-spec =
+pub replace-action-spec : {M : Type 1} → statement M
+replace-action-spec =
     tie.close
     (tie.spec
     mul-at
+    add-at
     add-end
     sub-copy
     part-copy-start

@@ -3,15 +3,12 @@ use Prim.Native.Nat.{ℕ, _+_, _*_, _-_}
 use native.Mathlib.Omega.{arith}
 use mathlib.Core.Path.{_≡_, ap, _∙_}
 use mathlib.Core.List.{List}
-use lib.ListN.{length, drop, set, length-drop}
+use lib.ListN.{length, drop, length-drop}
 use denote.Ref.{now}
-use Rattle.rules.specs.Bytes.{part}
 use Rattle.rules.specs.Entry.{shortEntry}
 use Rattle.rules.proofs.Shortest.{entry-length}
-use Rattle.buffers.proofs.Splice.{splice-end, drop-splice, length-splice, length-window}
 use Rattle.values.proofs.Pieces.{rest-back}
-use Rattle.entries.specs.Store.{entriesIn}
-use Rattle.entries.proofs.Parts.{parts-set, parts-at}
+use Rattle.entries.proofs.Parts.{action-over}
 use borrow.Author.Needs.{needs}
 use Rattle.updates.proofs.modify.Statement.{statement}
 use Rattle.updates.proofs.modify.Tie as tie
@@ -41,21 +38,12 @@ returns : tie.Need-returns
 returns c =
     let a = c .before .before .before .before .before .before .args in
     let s : List ℕ = now (a .store) in
-    let at : ℕ = 220 * a .i in
-    let old : List ℕ = part at 220 s in
     let e : List ℕ = shortEntry (now (a .entry)) in
     let new : List ℕ = drop 148 e in
     let l : length new ≡ 72 = length-drop 148 e ∙ ap (λ (n : ℕ). n - 148) (entry-length (now (a .entry)) (omega arith)) in
-    let lo : length old ≡ 220 = length-window at 220 s (omega arith) in
     let w = c .before .before .shorten-action in
-    let b = rest-back s (w .last .1 .0) new (at + 148) (w .ensures) (omega arith) in
-    rw (b, parts-at (a .i) (a .count) 220 s (omega arith)) (record {
-      holds =
-          parts-set (a .i) (a .count) 220 148 s new (omega arith) (omega arith) (omega arith)
-          ∙ ap (set (entriesIn (a .count) s) (a .i)) (splice-end old 148 new (omega arith));
-      room = length-splice s (at + 148) new (omega arith);
-      beyond = drop-splice 56_320 s (at + 148) new (omega arith) (omega arith);
-    })
+    rw (rest-back s (w .last .1 .0) new (220 * a .i + 148) (w .ensures) (omega arith))
+    (action-over (a .i) (a .count) s new (omega arith) (omega arith) (omega arith) l)
 
 pub modify-spec : {M : Type 1} → statement M
 modify-spec =

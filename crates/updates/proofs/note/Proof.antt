@@ -1,11 +1,10 @@
--- Right because an INSERT needs no more than its type, and the others the entry that they found. Assumes nothing.
+-- Right because an INSERT needs no more than its type, and the others the action of the entry that they found. Assumes nothing.
 use native.Mathlib.Omega.{arith}
 use Prim.Native.Nat.{ℕ, _<_}
 use denote.Ref.{now}
 use mathlib.Core.Path.{refl, sym, ap, _∙_}
 use mathlib.Core.List.{List, _∷_}
-use Rattle.entries.proofs.Parts.{parts-at}
-use Rattle.updates.proofs.Undoing.{type-written, noted-inside, noted-outside}
+use Rattle.updates.proofs.Undoing.{action-at, type-written, noted-inside, noted-outside}
 use borrow.Author.Needs.{needs}
 use Rattle.updates.proofs.note.Statement.{statement}
 use Rattle.updates.proofs.note.Tie as tie
@@ -51,7 +50,7 @@ returns-3 c =
     let h : i < a .count = omega arith in
     rw (v .given .1)
     (c .before .before .note-entry .ensures
-    ∙ ap (λ (e : List ℕ). 2 ∷ i ∷ e) (sym (parts-at i (a .count) 220 (now (a .store)) h))
+    ∙ ap (λ (e : List ℕ). 2 ∷ i ∷ e) (sym (action-at i (a .count) (now (a .store)) h))
     ∙ sym (noted-inside (a .count) i (now (a .store)) (now (a .note)) h .0))
 
 returns-4 : tie.Need-returns-4
@@ -71,7 +70,7 @@ returns-5 c =
     let h : i < a .count = omega arith in
     rw (v .given .1)
     (c .before .before .note-entry2 .ensures
-    ∙ ap (λ (e : List ℕ). 3 ∷ i ∷ e) (sym (parts-at i (a .count) 220 (now (a .store)) h))
+    ∙ ap (λ (e : List ℕ). 3 ∷ i ∷ e) (sym (action-at i (a .count) (now (a .store)) h))
     ∙ sym (noted-inside (a .count) i (now (a .store)) (now (a .note)) h .1))
 
 returns-6 : tie.Need-returns-6

@@ -1,4 +1,4 @@
--- Right because the type, the place and the entry are written one after the other. Assumes nothing.
+-- Right because the type, the place and the action are written one after the other. Assumes nothing.
 use Prim.Native.Nat.{ℕ, _+_, _*_, _-_}
 use native.Mathlib.Omega.{arith}
 use mathlib.Core.Path.{_≡_, refl, _∙_}
@@ -15,6 +15,9 @@ use Rattle.updates.proofs.note_entry.Tie as tie
 
 mul-from : tie.Need-mul-from
 mul-from c = search needs
+
+add-from : tie.Need-add-from
+add-from c = search needs
 
 add-end : tie.Need-add-end
 add-end c = search needs
@@ -53,7 +56,7 @@ same-length : tie.Need-same-length
 same-length c =
     let a = c .before .before .before .before .before .before .before .args in
     let w = c .before .before .copy in
-    same-len-mid 2 220 (set (set (now (a .note)) 0 (a .kind)) 1 (a .i)) (w .last .1 .0) (w .kept .1 .0) ∙ simp length-set refl
+    same-len-mid 2 72 (set (set (now (a .note)) 0 (a .kind)) 1 (a .i)) (w .last .1 .0) (w .kept .1 .0) ∙ simp length-set refl
 
 returns : tie.Need-returns
 returns c =
@@ -62,20 +65,22 @@ returns c =
     let i : ℕ = a .i in
     let note : List ℕ = now (a .note) in
     let head : List ℕ = set (set note 0 (a .kind)) 1 i in
-    let entry : List ℕ = part (220 * i) 220 (now (a .store)) in
-    let n : length note ≡ 222 = search needs in
-    let l : length head ≡ 222 = simp length-set n in
-    let e : length entry ≡ 220 = length-window (220 * i) 220 (now (a .store)) (omega arith) in
-    let k : 220 * i + 220 - 220 * i ≡ 220 = omega arith in
-    part-copied head (w .last .1 .0) entry 2 220 (rw k at (w .ensures)) (omega arith) (omega arith)
-    ∙ splice-end head 2 entry (omega arith)
-    ∙ note-written note entry (a .kind) i n
+    let from : ℕ = 220 * i + 148 in
+    let action : List ℕ = part from 72 (now (a .store)) in
+    let n : length note ≡ 74 = search needs in
+    let l : length head ≡ 74 = simp length-set n in
+    let e : length action ≡ 72 = length-window from 72 (now (a .store)) (omega arith) in
+    let k : from + 72 - from ≡ 72 = omega arith in
+    part-copied head (w .last .1 .0) action 2 72 (rw k at (w .ensures)) (omega arith) (omega arith)
+    ∙ splice-end head 2 action (omega arith)
+    ∙ note-written note action (a .kind) i n
 
 pub note-entry-spec : {M : Type 1} → statement M
 note-entry-spec =
     tie.close
     (tie.spec
     mul-from
+    add-from
     add-end
     slice-write-note
     cast-note
