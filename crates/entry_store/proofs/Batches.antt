@@ -29,7 +29,7 @@ use Rattle.entry_store.specs.Batch.{BatchApplied}
 -- ---- the flag
 
 -- after an update of this reason
-abbrev flagged : ℕ → Bool → Bool
+abbrev pub flagged : ℕ → Bool → Bool
 flagged reason failed = if eqb 0 reason then failed else true
 
 module _ (reason : ℕ) (failed : Bool) {flag : Bool} where

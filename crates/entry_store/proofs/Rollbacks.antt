@@ -8,12 +8,12 @@ use mathlib.Core.Bool.{Bool, true, false, not}
 use mathlib.Core.Option.{Option, none, some}
 use mathlib.Core.List.{List, [], _∷_, _++_, append-assoc, map}
 use lib.Dec.{eqb}
-use lib.ListN.{length, take, drop, getD, replicate, length-append, length-set, length-replicate, getD-replicate}
+use lib.ListN.{length, take, drop, getD, replicate, length-append, length-map, length-set, length-replicate, getD-replicate}
 use lib.Seq.{take-at, drop-cons, getD-set-same, getD-set-other}
 use borrow.Author.Tests.{eqb-true, eqb-false, ne-eqb}
-use Rattle.rules.specs.Bytes.{if_then_else_, every, concat, part}
+use Rattle.rules.specs.Bytes.{if_then_else_, every, concat, part, parts}
 use Rattle.rules.specs.Call.{pairOf}
-use Rattle.rules.specs.Frame.{Update}
+use Rattle.rules.specs.Frame.{Update, updateOf}
 use Rattle.rules.specs.Row.{Row}
 use Rattle.rules.specs.Update.{Tables, Batch, judge, apply, eachAlone, failure, rolledBack, unlessFailed, allOrNone, batch}
 use Rattle.rules.proofs.Formed.{parts-count}
@@ -25,7 +25,7 @@ use Rattle.entries.specs.Store.{entriesIn, tablesIn, Left}
 use Rattle.updates.specs.Undo.{noteOf, undone, Fits, Undone, Undoing}
 use Rattle.updates.specs.Update.{Tidy}
 use Rattle.updates.proofs.Undoing.{undone-left}
-use Rattle.entry_store.specs.Batch.{writtenOf, BatchApplied}
+use Rattle.entry_store.specs.Batch.{updatesIn, writtenOf, BatchApplied}
 use Rattle.entry_store.specs.Rollback.{noteAt, Undoes, Stopped}
 use Rattle.entry_store.specs.declared.Progress.{Progress}
 use Rattle.entry_store.proofs.Batches.{still-tidy}
@@ -33,40 +33,41 @@ use Rattle.entry_store.proofs.Batches.{still-tidy}
 -- ---- the notes
 
 -- what is written behind the first k notes leaves them
-undoes-behind : (k at : ℕ) (log ys : List ℕ) (es goal : List (List ℕ)) → 222 * k ≤ at → at ≤ length log
-    → Undoes k log es goal → Undoes k (splice log at ys) es goal
+undoes-behind : (k at : ℕ) (log us ys : List ℕ) (es goal : List (List ℕ)) → 74 * k ≤ at → at ≤ length log
+    → Undoes k log us es goal → Undoes k (splice log at ys) us es goal
 unfolding Undoes
-undoes-behind zero at log ys es goal h g u = u
-undoes-behind (suc k) at log ys es goal h g u =
-    rw (part-before log ys (222 * k) 222 at (omega arith) g) (u .0, undoes-behind k at log ys _ goal (omega arith) g (u .1))
+undoes-behind zero at log us ys es goal h g u = u
+undoes-behind (suc k) at log us ys es goal h g u =
+    rw (part-before log ys (74 * k) 74 at (omega arith) g) (u .0, undoes-behind k at log us ys _ goal (omega arith) g (u .1))
 
 -- one note more
-undoes-next : (k : ℕ) (log note : List ℕ) (es after goal : List (List ℕ)) → length note ≡ 222 → 222 * k + 222 ≤ length log
-    → Undoes k log es goal → Undoing (noteOf note) after es → Undoes (k + 1) (splice log (222 * k) note) after goal
+undoes-next : (k : ℕ) (log us note : List ℕ) (es after goal : List (List ℕ)) → length note ≡ 74 → 74 * k + 74 ≤ length log
+    → Undoes k log us es goal → Undoing (noteOf note (part (221 * k) 221 us)) after es
+    → Undoes (k + 1) (splice log (74 * k) note) us after goal
 unfolding Undoes
-undoes-next k log note es after goal l h u n =
-    let here : part (222 * k) 222 (splice log (222 * k) note) ≡ note =
-    ap (take 222) (window-splice log (222 * k) note (omega arith)) ∙ take-at note _ 222 l in
-    rw (add-one k, here, n .back) (n .fits, undoes-behind k (222 * k) log note es goal (omega arith) (omega arith) u)
+undoes-next k log us note es after goal l h u n =
+    let here : part (74 * k) 74 (splice log (74 * k) note) ≡ note =
+    ap (take 74) (window-splice log (74 * k) note (omega arith)) ∙ take-at note _ 74 l in
+    rw (add-one k, here, n .back) (n .fits, undoes-behind k (74 * k) log us note es goal (omega arith) (omega arith) u)
 
 -- the last note undone
-undoes-last : (k n : ℕ) (log : List ℕ) (es goal : List (List ℕ)) → n ≡ k + 1 → Undoes n log es goal
-    → Fits (noteAt k log) (length es) × Undoes k log (undone (noteAt k log) es) goal
+undoes-last : (k n : ℕ) (log us : List ℕ) (es goal : List (List ℕ)) → n ≡ k + 1 → Undoes n log us es goal
+    → Fits (noteAt k log us) (length es) × Undoes k log us (undone (noteAt k log us) es) goal
 unfolding Undoes
-undoes-last k n log es goal e u = rw (e, add-one k) at u
+undoes-last k n log us es goal e u = rw (e, add-one k) at u
 
 -- rolling back with i notes left: the store is as long as at the start, and as it was from 56,320 on
-pub record Backing (goal : List (List ℕ)) (log start store : List ℕ) (held i : ℕ) : Type 0 where
+pub record Backing (goal : List (List ℕ)) (log us start store : List ℕ) (held i : ℕ) : Type 0 where
   pub room : length store ≡ length start
   pub beyond : drop 56_320 store ≡ drop 56_320 start
-  pub undoes : Undoes i log (entriesIn held store) goal
+  pub undoes : Undoes i log us (entriesIn held store) goal
 
-module _ {goal : List (List ℕ)} {log start store : List ℕ} {held i : ℕ} (b : Backing goal log start store held i) where
-  pub back-next : {k r : ℕ} {after : List ℕ} → i ≡ k + 1 → Undone (noteAt k log) held store after r
-      → Backing goal log start after r k
+module _ {goal : List (List ℕ)} {log us start store : List ℕ} {held i : ℕ} (b : Backing goal log us start store held i) where
+  pub back-next : {k r : ℕ} {after : List ℕ} → i ≡ k + 1 → Undone (noteAt k log us) held store after r
+      → Backing goal log us start after r k
   back-next {k} {r} {after} e l =
-      let u = undoes-last k i log (entriesIn held store) goal e (b .undoes) in
-      let a = undone-left (noteAt k log) held store after r (rw (parts-count held 220 store) at (u .0)) l in
+      let u = undoes-last k i log us (entriesIn held store) goal e (b .undoes) in
+      let a = undone-left (noteAt k log us) held store after r (rw (parts-count held 220 store) at (u .0)) l in
       record { room = a .room ∙ b .room; beyond = a .beyond ∙ b .beyond; undoes = rw (a .holds) (u .1) }
 
   pub back-end : i ≡ 0 → Left start store held goal
@@ -87,20 +88,20 @@ module _ (rows : List Row) (role : ℕ) where
       go (some f) h = clash e (h .0)
 
   -- The updates before update i have taken effect and are noted; `later` are those left.
-  pub record Attempting (count : ℕ) (us : List Update) (start : List ℕ) (later : List Update) (store log : List ℕ) (held i : ℕ)
+  pub record Attempting (count n : ℕ) (us start : List ℕ) (later : List Update) (store log : List ℕ) (held i : ℕ)
       : Type 0 where
     pub earlier : List Update
-    pub split : us ≡ earlier ++ later
+    pub split : updatesIn n us ≡ earlier ++ later
     pub many : length earlier ≡ i
     pub passed : passes (tablesIn count start) earlier ≡ true
     pub tidy : Tidy held store
     pub left : Left start store held (eachAlone rows role (tablesIn count start) earlier .tables .entries)
-    pub undoes : Undoes i log (entriesIn held store) (entriesIn count start)
+    pub undoes : Undoes i log us (entriesIn held store) (entriesIn count start)
 
-  pub attempt-start : (count : ℕ) (us : List Update) (start log : List ℕ) → Tidy count start
-      → Attempting count us start us start log count 0
+  pub attempt-start : (count n : ℕ) (us start log : List ℕ) → Tidy count start
+      → Attempting count n us start (updatesIn n us) start log count 0
   unfolding Undoes eachAlone
-  attempt-start count us start log t = record {
+  attempt-start count n us start log t = record {
     earlier = [];
     split = refl;
     many = refl;
@@ -110,20 +111,20 @@ module _ (rows : List Row) (role : ℕ) where
     undoes = refl;
   }
 
-  module _ {count : ℕ} {us : List Update} {start store log : List ℕ} {held i : ℕ} where
-    module _ {u : Update} {later : List Update} (b : Attempting count us start (u ∷ later) store log held i) where
+  module _ {count n : ℕ} {us start store log : List ℕ} {held i : ℕ} where
+    module _ {u : Update} {later : List Update} (b : Attempting count n us start (u ∷ later) store log held i) where
       -- the tables now
       now-is : tablesIn held store ≡ eachAlone rows role (tablesIn count start) (b .earlier) .tables
       now-is = ap (λ (es : List (List ℕ)). let x : Tables = record { entries = es } in x) (b .left .holds)
 
       -- an update that takes effect
-      pub attempt-next : {after log′ : List ℕ} {reason n : ℕ} (note : List ℕ) → length (u .entry) ≡ 220
+      pub attempt-next : {after log′ : List ℕ} {reason m : ℕ} (note : List ℕ) → length (u .entry) ≡ 220
           → reason ≡ judge rows role (tablesIn held store) u → reason ≡ 0
-          → Left store after n (apply reason u (tablesIn held store) .entries)
-          → log′ ≡ splice log (222 * i) note → length note ≡ 222 → 222 * i + 222 ≤ length log
-          → Undoing (noteOf note) (entriesIn n after) (entriesIn held store)
-          → Attempting count us start later after log′ n (i + 1)
-      attempt-next {after} {n = n} note l e z a w k h d =
+          → Left store after m (apply reason u (tablesIn held store) .entries)
+          → log′ ≡ splice log (74 * i) note → length note ≡ 74 → 74 * i + 74 ≤ length log
+          → Undoing (noteOf note (part (221 * i) 221 us)) (entriesIn m after) (entriesIn held store)
+          → Attempting count n us start later after log′ m (i + 1)
+      attempt-next {after} {m = m} note l e z a w k h d =
           let t : Tables = tablesIn count start in
           let snoc : eachAlone rows role t (b .earlier ++ (u ∷ []))
           ≡ (let x : Batch = record {
@@ -134,26 +135,26 @@ module _ (rows : List Row) (role : ℕ) where
           record {
             earlier = b .earlier ++ (u ∷ []);
             split = b .split ∙ sym (append-assoc (b .earlier) (u ∷ []) later);
-            many = length-append (b .earlier) (u ∷ []) ∙ ap (λ (m : ℕ). m + 1) (b .many);
+            many = length-append (b .earlier) (u ∷ []) ∙ ap (λ (k : ℕ). k + 1) (b .many);
             passed = rw (snoc, ← e, z) (every-append (eqb 0) (eachAlone rows role t (b .earlier) .reasons) (0 ∷ []) (b .passed) refl);
-            tidy = still-tidy rows role u n after l (b .tidy) (rw e at (a .holds));
+            tidy = still-tidy rows role u m after l (b .tidy) (rw e at (a .holds));
             left = record {
               holds = rw (snoc, ← e) (a .holds);
               room = a .room ∙ b .left .room;
               beyond = a .beyond ∙ b .left .beyond;
             };
-            undoes = rw w (undoes-next i log note (entriesIn held store) (entriesIn n after) (entriesIn count start) k h (b .undoes) d);
+            undoes = rw w (undoes-next i log us note (entriesIn held store) (entriesIn m after) (entriesIn count start) k h (b .undoes) d);
           }
 
       -- one that fails
       pub attempt-stop : {reason : ℕ} → reason ≡ judge rows role (tablesIn held store) u → (reason ≡ 0 → ⊥)
-          → Stopped rows role count us start store log (record { count = held; done = i; reason = reason })
-      attempt-stop {reason} e n =
+          → Stopped rows role count n us start store log (record { count = held; done = i; reason = reason })
+      attempt-stop {reason} e f =
           let t : Tables = tablesIn count start in
-          let no : judge rows role (eachAlone rows role t (b .earlier) .tables) u ≡ 0 → ⊥ = λ z. n (e ∙ rw now-is z) in
+          let fails : judge rows role (eachAlone rows role t (b .earlier) .tables) u ≡ 0 → ⊥ = λ z. f (e ∙ rw now-is z) in
           record {
-            own = n;
-            failed = rw (b .split, failure-at rows role t (b .earlier) u later (b .passed) no, b .many, ← now-is, e) refl;
+            own = f;
+            failed = rw (b .split, failure-at rows role t (b .earlier) u later (b .passed) fails, b .many, ← now-is, e) refl;
             left = rw (b .split, take-at (b .earlier) (u ∷ later) i (b .many)) (b .left);
             undoes = b .undoes;
           }
@@ -163,41 +164,52 @@ module _ (rows : List Row) (role : ℕ) where
 pub rolled-count : (n at own : ℕ) → length (rolledBack n (at, own)) ≡ n
 rolled-count n at own = length-set (replicate n 25) at own ∙ length-replicate n 25
 
-module _ (rows : List Row) (role : ℕ) {count : ℕ} {us : List Update} {before : List ℕ} {atomicity : ℕ} {a : Progress} where
-  -- a batch that came to its end, with atomicity 1 without a failure
-  pub ended : {after : List ℕ} → BatchApplied (eachAlone rows role (tablesIn count before) us) before after (writtenOf a) → (atomicity ≡ 1 → a .reason ≡ 0)
-      → batch atomicity rows role (tablesIn count before) us ≡ eachAlone rows role (tablesIn count before) us
-  unfolding batch allOrNone
-  ended w z = go (eqb atomicity 1) refl
-    where
-      none-failed : (p : Bool) → false ≡ not p → p ≡ true
-      none-failed true e = refl
-      none-failed false e = sym e
+module _ (rows : List Row) (role count n : ℕ) (us before : List ℕ) where
+  abbrev each : Batch
+  each = eachAlone rows role (tablesIn count before) (updatesIn n us)
 
-      go : (x : Bool) → eqb atomicity 1 ≡ x → (if x then allOrNone rows role (tablesIn count before) us else eachAlone rows role (tablesIn count before) us) ≡ eachAlone rows role (tablesIn count before) us
-      go false q = refl
-      go true q = rw (no-failure rows role (tablesIn count before) us (none-failed _ (rw (z (eqb-true atomicity 1 q)) at (w .failed)))) refl
+  abbrev all : ℕ → Batch
+  all atomicity = batch atomicity rows role (tablesIn count before) (updatesIn n us)
 
-  module _ {mid log : List ℕ} (one : atomicity ≡ 1) (h : Stopped rows role count us before mid log a) where
-    all-rolled : batch atomicity rows role (tablesIn count before) us ≡ unlessFailed (some (a .done, a .reason)) (tablesIn count before) us (eachAlone rows role (tablesIn count before) us)
+  module _ (atomicity : ℕ) (a : Progress) where
+    -- a batch that came to its end, with atomicity 1 without a failure
+    pub ended : {after : List ℕ} → BatchApplied each before after (writtenOf a) → (atomicity ≡ 1 → a .reason ≡ 0)
+        → all atomicity ≡ each
     unfolding batch allOrNone
-    all-rolled = rw (one, h .failed) refl
+    ended w z = go (eqb atomicity 1) refl
+      where
+        passed : (p : Bool) → false ≡ not p → p ≡ true
+        passed true e = refl
+        passed false e = e
 
-    failing : every (eqb 0) (rolledBack (length us) (a .done, a .reason)) ≡ false
-    failing = (rw (h .failed) at (told rows role (tablesIn count before) us)) .1
+        go : (x : Bool) → eqb atomicity 1 ≡ x → (if x then allOrNone rows role (tablesIn count before) (updatesIn n us) else each) ≡ each
+        go false q = refl
+        go true q =
+            let e : false ≡ not (every (eqb 0) (each .reasons)) = rw (z (eqb-true atomicity 1 q)) at (w .failed) in
+            rw (no-failure rows role (tablesIn count before) (updatesIn n us) (passed _ e)) refl
 
-    pub rolled : {after : List ℕ} {n : ℕ}
-        → ((goal : List (List ℕ)) → Undoes (a .done) log (entriesIn (a .count) mid) goal → Left mid after n goal)
-        → BatchApplied (batch atomicity rows role (tablesIn count before) us) before after (record { count = n; failed = not (eqb (a .reason) 0) })
-    rolled back =
-        let u = back (entriesIn count before) (h .undoes) in
-        rw all-rolled (record {
-          failed = rw (ne-eqb (a .reason) 0 (h .own), failing) refl;
-          left = record { holds = u .holds; room = u .room ∙ h .left .room; beyond = u .beyond ∙ h .left .beyond };
-        })
+    module _ {mid log : List ℕ} (one : atomicity ≡ 1) (h : Stopped rows role count n us before mid log a) where
+      all-rolled : all atomicity ≡ unlessFailed (some (a .done, a .reason)) (tablesIn count before) (updatesIn n us) each
+      unfolding batch allOrNone
+      all-rolled = rw (one, h .failed) refl
 
-    pub rolled-reasons : {n : ℕ} → length us ≡ n → batch atomicity rows role (tablesIn count before) us .reasons ≡ rolledBack n (a .done, a .reason)
-    rolled-reasons e = rw (all-rolled, e) refl
+      failing : every (eqb 0) (rolledBack (length (updatesIn n us)) (a .done, a .reason)) ≡ false
+      failing = (rw (h .failed) at (told rows role (tablesIn count before) (updatesIn n us))) .1
+
+      pub rolled : {after : List ℕ} {m : ℕ}
+          → ((goal : List (List ℕ)) → Undoes (a .done) log us (entriesIn (a .count) mid) goal → Left mid after m goal)
+          → BatchApplied (all atomicity) before after (record { count = m; failed = not (eqb (a .reason) 0) })
+      rolled back =
+          let u = back (entriesIn count before) (h .undoes) in
+          rw all-rolled (record {
+            failed = rw (ne-eqb (a .reason) 0 (h .own), failing) refl;
+            left = record { holds = u .holds; room = u .room ∙ h .left .room; beyond = u .beyond ∙ h .left .beyond };
+          })
+
+      pub rolled-reasons : all atomicity .reasons ≡ rolledBack n (a .done, a .reason)
+      rolled-reasons =
+          let k : length (updatesIn n us) ≡ n = length-map (parts n 221 us) updateOf ∙ parts-count n 221 us in
+          rw (all-rolled, k) refl
 
 -- ---- the pairs
 

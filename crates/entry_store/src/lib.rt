@@ -4,7 +4,7 @@ ghost use mathlib.Core.Path.{_≡_};
 ghost use mathlib.Core.List.{List, map};
 ghost use Prim.Native.Nat.{ℕ, _+_, _*_, _≤_, _<_};
 ghost use lib.ListN.{length, drop};
-ghost use Rattle.rules.specs.Bytes.{if_then_else_, keep, concat, part};
+ghost use Rattle.rules.specs.Bytes.{if_then_else_, keep, concat};
 ghost use lib.Dec.{eqb};
 ghost use Rattle.rules.specs.Row.{mayWrite};
 ghost use Rattle.rules.specs.Key.{shortKey, hasKey};
@@ -13,10 +13,9 @@ ghost use Rattle.rules.specs.Call.{pairOf, asked, gathered};
 ghost use Rattle.buffers.specs.Splice.{splice};
 ghost use Rattle.rows.specs.Meaning.{rowOf, rowsOf};
 ghost use Rattle.entries.specs.Store.{entriesIn, tablesIn, Left};
-ghost use Rattle.updates.specs.Undo.{noted};
 ghost use Rattle.updates.specs.Update.{Tidy};
 ghost use Rattle.entry_store.specs.Batch.{updatesIn, writtenOf, BatchApplied};
-ghost use Rattle.entry_store.specs.Rollback.{Undoes, Stopped};
+ghost use Rattle.entry_store.specs.Rollback.{notedAt, Undoes, Stopped};
 ghost use Rattle.entry_store.specs.Read.{keyIn, keyReason, queryReason, readIn, Reads};
 use entries::Found;
 use numbers::integer;
@@ -58,14 +57,15 @@ fn note_update(
     log: &mut [u8],
     i: usize,
 )
-    requires { ⌜ (count ≤ 256) × (56320 ≤ length (now store)) × (atomicity ≡ 1 → 222 * i + 222 ≤ length (now log)) ⌝ }
-    ensures { λ _. ⌜ (atomicity ≡ 1 → now (log .exit) ≡ splice (now (log .entry)) (222 * i) (noted verdict count (now (store .entry)) (part (222 * i) 222 (now (log .entry))))) ⌝ }
+    requires { ⌜ (count ≤ 256) × (56320 ≤ length (now store)) × (atomicity ≡ 1 → 74 * i + 74 ≤ length (now log)) ⌝ }
+    ensures long { λ _. ⌜ (atomicity ≡ 1 → length (notedAt i verdict count (now (store .entry)) (now (log .entry))) ≡ 74) ⌝ }
+    ensures note { λ _. ⌜ (atomicity ≡ 1 → now (log .exit) ≡ splice (now (log .entry)) (74 * i) (notedAt i verdict count (now (store .entry)) (now (log .entry)))) ⌝ }
 {
     if atomicity != 1 {
         return;
     }
-    let at = 222 * i;
-    let end = at + 222;
+    let at = 74 * i;
+    let end = at + 74;
     updates::note(verdict, store, count, &mut log[at..end]);
 }
 
@@ -82,12 +82,12 @@ fn take(
     log: &mut [u8],
     answer: &mut [u8],
 ) -> Progress
-    requires { ⌜ (count ≤ 256) × (56320 ≤ length (now store)) × (length (now updates) ≡ 221 * n) × (2 * n ≤ length (now answer)) × (atomicity ≡ 1 → 222 * n ≤ length (now log)) ⌝ }
+    requires { ⌜ (count ≤ 256) × (56320 ≤ length (now store)) × (length (now updates) ≡ 221 * n) × (2 * n ≤ length (now answer)) × (atomicity ≡ 1 → 74 * n ≤ length (now log)) ⌝ }
     ensures bound { λ r. ⌜ (r .count ≤ 256) × (r .done ≤ n) ⌝ }
     ensures none { λ r. ⌜ (atomicity ≡ 1 → r .done ≡ n → r .reason ≡ 0) ⌝ }
     ensures left { λ r. ⌜ (r .done ≡ n → Tidy count (now (store .entry)) → BatchApplied (eachAlone (rowsOf rows) role (tablesIn count (now (store .entry))) (updatesIn n (now (updates .entry)))) (now (store .entry)) (now (store .exit)) (writtenOf r)) ⌝ }
     ensures pairs { λ r. ⌜ (r .done ≡ n → Tidy count (now (store .entry)) → now (answer .exit) ≡ splice (now (answer .entry)) 0 (concat (map pairOf (eachAlone (rowsOf rows) role (tablesIn count (now (store .entry))) (updatesIn n (now (updates .entry))) .reasons)))) ⌝ }
-    ensures stopped { λ r. ⌜ (r .done < n → (atomicity ≡ 1) × (Tidy count (now (store .entry)) → Stopped (rowsOf rows) role count (updatesIn n (now (updates .entry))) (now (store .entry)) (now (store .exit)) (now (log .exit)) r)) ⌝ }
+    ensures stopped { λ r. ⌜ (r .done < n → (atomicity ≡ 1) × (Tidy count (now (store .entry)) → Stopped (rowsOf rows) role count n (now (updates .entry)) (now (store .entry)) (now (store .exit)) (now (log .exit)) r)) ⌝ }
     ensures beyond { λ _. ⌜ drop (2 * n) (now (answer .exit)) ≡ drop (2 * n) (now (answer .entry)) ⌝ }
 {
     let mut held = count;
@@ -129,18 +129,20 @@ fn take(
 
 // ---- a batch that was stopped is rolled back
 
-// Undoes the first n notes of a log, the last one first; the number of entries then.
-fn roll_back(log: &[u8], n: usize, store: &mut [u8], count: usize) -> usize
-    requires { ⌜ (count ≤ 256) × (222 * n ≤ length (now log)) × (56320 ≤ length (now store)) ⌝ }
-    ensures { λ r. ⌜ ((goal : List (List ℕ)) → Undoes n (now (log .entry)) (entriesIn count (now (store .entry))) goal → Left (now (store .entry)) (now (store .exit)) r goal) ⌝ }
+// Undoes the first n updates by their notes, the last one first; the number of entries then.
+fn roll_back(log: &[u8], updates: &[u8], n: usize, store: &mut [u8], count: usize) -> usize
+    requires { ⌜ (count ≤ 256) × (74 * n ≤ length (now log)) × (221 * n ≤ length (now updates)) × (56320 ≤ length (now store)) ⌝ }
+    ensures { λ r. ⌜ ((goal : List (List ℕ)) → Undoes n (now (log .entry)) (now (updates .entry)) (entriesIn count (now (store .entry))) goal → Left (now (store .entry)) (now (store .exit)) r goal) ⌝ }
 {
     let mut held = count;
     let mut i = n;
     while 0 < i {
         i -= 1;
-        let at = 222 * i;
-        let end = at + 222;
-        held = updates::undo(&log[at..end], store, held);
+        let at = 74 * i;
+        let end = at + 74;
+        let from = 221 * i;
+        let to = from + 221;
+        held = updates::undo(&log[at..end], &updates[from..to], store, held);
     }
     held
 }
@@ -182,7 +184,7 @@ fn batch_in(
     log: &mut [u8],
     answer: &mut [u8],
 ) -> Written
-    requires { ⌜ (count ≤ 256) × (56320 ≤ length (now store)) × (length (now updates) ≡ 221 * n) × (2 * n ≤ length (now answer)) × (atomicity ≡ 1 → 222 * n ≤ length (now log)) ⌝ }
+    requires { ⌜ (count ≤ 256) × (56320 ≤ length (now store)) × (length (now updates) ≡ 221 * n) × (2 * n ≤ length (now answer)) × (atomicity ≡ 1 → 74 * n ≤ length (now log)) ⌝ }
     ensures left { λ r. ⌜ (Tidy count (now (store .entry)) → BatchApplied (batchOf atomicity (rowsOf rows) role (tablesIn count (now (store .entry))) (updatesIn n (now (updates .entry)))) (now (store .entry)) (now (store .exit)) r) ⌝ }
     ensures pairs { λ _. ⌜ (Tidy count (now (store .entry)) → now (answer .exit) ≡ splice (now (answer .entry)) 0 (concat (map pairOf (batchOf atomicity (rowsOf rows) role (tablesIn count (now (store .entry))) (updatesIn n (now (updates .entry))) .reasons)))) ⌝ }
 {
@@ -190,7 +192,7 @@ fn batch_in(
     let mut held = came.count;
     if came.done < n {
         write_outcomes(n, came.done, came.reason, answer);
-        held = roll_back(log, came.done, store, came.count);
+        held = roll_back(log, updates, came.done, store, came.count);
     }
     Written {
         count: held,
@@ -222,15 +224,45 @@ pub fn batch(
     }
     if atomicity != 1 {
         let mut none = [0; 1];
-        return batch_in(rows, role, atomicity, store, count, updates, n, &mut none, answer);
+        return batch_in(
+            rows,
+            role,
+            atomicity,
+            store,
+            count,
+            updates,
+            n,
+            &mut none,
+            answer,
+        );
     }
     if n <= 4 {
         // a longer log costs more to make than so few updates do
-        let mut short = [0; 888];
-        return batch_in(rows, role, atomicity, store, count, updates, n, &mut short, answer);
+        let mut short = [0; 296];
+        return batch_in(
+            rows,
+            role,
+            atomicity,
+            store,
+            count,
+            updates,
+            n,
+            &mut short,
+            answer,
+        );
     }
-    let mut log = [0; 14208];
-    batch_in(rows, role, atomicity, store, count, updates, n, &mut log, answer)
+    let mut log = [0; 4736];
+    batch_in(
+        rows,
+        role,
+        atomicity,
+        store,
+        count,
+        updates,
+        n,
+        &mut log,
+        answer,
+    )
 }
 
 // ---- READ
