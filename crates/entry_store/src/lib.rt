@@ -223,6 +223,7 @@ pub fn batch(
         };
     }
     if atomicity != 1 {
+        // nothing is noted
         let mut none = [0; 1];
         return batch_in(
             rows,
@@ -239,30 +240,10 @@ pub fn batch(
     if n <= 4 {
         // a longer log costs more to make than so few updates do
         let mut short = [0; 296];
-        return batch_in(
-            rows,
-            role,
-            atomicity,
-            store,
-            count,
-            updates,
-            n,
-            &mut short,
-            answer,
-        );
+        return batch_in(rows, role, 1, store, count, updates, n, &mut short, answer);
     }
     let mut log = [0; 4736];
-    batch_in(
-        rows,
-        role,
-        atomicity,
-        store,
-        count,
-        updates,
-        n,
-        &mut log,
-        answer,
-    )
+    batch_in(rows, role, 1, store, count, updates, n, &mut log, answer)
 }
 
 // ---- READ

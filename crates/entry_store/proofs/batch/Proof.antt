@@ -36,7 +36,10 @@ same-length-4 : tie.Need-same-length-4
 same-length-4 c = search needs
 
 returns-3 : tie.Need-returns-3
-returns-3 c = search needs
+returns-3 c =
+    let e = c .before .before .before .before .before .batch-in2 .ensures in
+    let one = c .before .before .before .before .before .before .before .before .before .before .if2 .left in
+    (λ t. rw one (e .0 t), λ t. rw one (e .1 t))
 
 slice-aggregate-batch-in-3 : tie.Need-slice-aggregate-batch-in-3
 slice-aggregate-batch-in-3 c = search needs
@@ -51,7 +54,10 @@ same-length-6 : tie.Need-same-length-6
 same-length-6 c = search needs
 
 returns-4 : tie.Need-returns-4
-returns-4 c = search needs
+returns-4 c =
+    let e = c .before .before .before .before .before .batch-in3 .ensures in
+    let one = c .before .before .before .before .before .before .before .before .before .before .if2 .left in
+    (λ t. rw one (e .0 t), λ t. rw one (e .1 t))
 
 pub batch-spec : {M : Type 1} → statement M
 batch-spec =
