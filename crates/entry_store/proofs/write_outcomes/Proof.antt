@@ -17,15 +17,15 @@ use Rattle.entry_store.proofs.write_outcomes.Tie as tie
 
 abbrev Inv-loop : tie.InvT-loop
 Inv-loop n at own answer₀ k₀ answer k =
-    (k ≤ n)
+    Written 2 (map pairOf (rolledBack n (at, own))) answer₀ (map pairOf (drop k (rolledBack n (at, own)))) answer k
+    × (k ≤ n)
     × (length answer ≡ length answer₀)
-    × Written 2 (map pairOf (rolledBack n (at, own))) answer₀ (map pairOf (drop k (rolledBack n (at, own)))) answer k
 
 abbrev μ-loop : tie.MeasureT-loop
 μ-loop n at own answer₀ k₀ answer k = n - k
 
 loop-holds : tie.Need-loop-holds Inv-loop μ-loop
-loop-holds c = (omega arith, refl, written-none 2 _ _)
+loop-holds c = (written-none 2 _ _, omega arith, refl)
 
 mul-to : tie.Need-mul-to Inv-loop μ-loop
 mul-to c = search needs
@@ -63,9 +63,9 @@ loop-again c =
     let room : 2 * i + 2 ≤ length x = omega arith in
     let start : 2 * i ≤ length (now (a .answer)) = omega arith in
     let written = part-copied x (w .last .1 .0) (pairOf (o .result)) (2 * i) (length x - 2 * i) (w .ensures) (omega (arith, room)) (omega (arith, room)) in (
+      written-next (l .inv .0) (ap (map pairOf) (outcomes-from (a .n) (a .at) (a .own) i h)) refl start (rw (o .ensures) at written) refl,
       omega arith,
-      same-len-mid (2 * i) (length x - 2 * i) x (w .last .1 .0) (w .kept .1 .0) ∙ l .inv .1,
-      written-next (l .inv .2) (ap (map pairOf) (outcomes-from (a .n) (a .at) (a .own) i h)) refl start (rw (o .ensures) at written) refl,
+      same-len-mid (2 * i) (length x - 2 * i) x (w .last .1 .0) (w .kept .1 .0) ∙ l .inv .2,
     )
 
 same-length : tie.Need-same-length Inv-loop μ-loop
@@ -77,7 +77,7 @@ returns c =
     let a = c .before .before .before .args in
     let rs : List ℕ = rolledBack (a .n) (a .at, a .own) in
     let none : drop (l .k) rs ≡ [] = drop-of-length-le rs {i = l .k} (omega (arith, rolled-count (a .n) (a .at) (a .own))) in
-    written-all (l .inv .2) (ap (map pairOf) none) .1
+    written-all (l .inv .0) (ap (map pairOf) none) .1
 
 pub write-outcomes-spec : {M : Type 1} → statement M
 write-outcomes-spec =
