@@ -1,5 +1,5 @@
--- A batch with atomicity 0 before its update i: what the updates left will do to the store as it is now, after what was done, is
--- what all of them do to the store at the start. And what both kinds of batch are proved with. Assumes nothing.
+-- A batch before its update i, which nothing has stopped: what the updates left will do to the store as it is now, after what was
+-- done, is what all of them do to the store at the start. Assumes nothing.
 use Prim.Native.Nat.{ℕ, _+_, _*_, _%_, _≤_}
 use native.Mathlib.Omega.{arith}
 use mathlib.Core.Path.{_≡_, refl, sym, ap, _∙_}
