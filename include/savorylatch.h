@@ -1,8 +1,8 @@
 /* The agent of a hall switch as a library: one record, one store, and a call for each frame.
  *
  * The host holds the record and the buffers and lends them to each call. Nothing here allocates, blocks, or keeps global state: all
- * state is in the record and the store, and a call needs memcpy, memset and about 16 KB of stack. One agent per thread is safe; calls
- * on one agent go one after the other. A record may be moved, or saved and restored, together with its store.
+ * state is in the record and the store, and a call needs memcpy, memmove, memset and SAVORYLATCH_STACK bytes of stack. One agent per
+ * thread is safe; calls on one agent go one after the other. A record may be moved, or saved and restored, together with its store.
  *
  * What is proved of each call takes the following for granted, and the host must see to it:
  *  - no pointer is null, and each length is true: so many bytes can be read there, and written in the store and the answer;
@@ -23,6 +23,9 @@
 #define SAVORYLATCH_STORE 56320
 #define SAVORYLATCH_ANSWER 57344
 #define SAVORYLATCH_FRAME 14173
+
+/* The bytes of stack that a call needs at most: an atomic WRITE of 64 updates. tests/copies.c measures what calls use. */
+#define SAVORYLATCH_STACK 10240
 
 /* ---- the record */
 

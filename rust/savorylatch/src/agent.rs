@@ -65,7 +65,7 @@ impl Agent {
     /// The store must be the one that this agent's earlier calls were lent, and its content as they
     /// left it. With another one the call ends as well, but what it answers is open.
     ///
-    /// A call does not allocate or block, and needs about 16 KB of stack.
+    /// A call does not allocate or block, and needs at most 10 KB of stack.
     ///
     /// # Panics
     ///
