@@ -11,7 +11,6 @@ use reference::bytes::{write, Entry, Row, Update};
 use super::{Aim, Maker};
 use crate::lists::entries::{self, Spread};
 use crate::lists::view::{held, place, short_entry, take_effect, View};
-use crate::lists::ways;
 
 /// A batch in the making.
 pub(super) struct Plan {
@@ -174,15 +173,7 @@ impl Maker {
     fn untried(&mut self, view: &View, role: u8, at: usize, aims: &mut Vec<Aim>) -> Update {
         let mut update = self.update(view, role, at, aims);
         match self.dice.below(10) {
-            0 => {
-                update.kind = self.dice.pick(&ways::TYPES);
-                aims.retain(|aim| aim.update != Some(at));
-                aims.push(Aim {
-                    reason: 17,
-                    name: ways::TYPE_WAY,
-                    update: Some(at),
-                });
-            }
+            0 => self.mistype(&mut update, at, aims),
             1 => update.entry.table = self.unknown_table(update.entry.table),
             2..=4 => {
                 if let Some(&row) = view.row(update.entry.table) {

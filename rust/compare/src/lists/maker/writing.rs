@@ -190,21 +190,22 @@ impl Maker {
         }
         let mut update = Update { kind, entry };
         match self.dice.below(40) {
-            0 => {
-                update.kind = self.dice.pick(&ways::TYPES);
-                aims.retain(|aim| aim.update != Some(at));
-                aims.push(Aim {
-                    reason: 17,
-                    name: ways::TYPE_WAY,
-                    update: Some(at),
-                });
-            }
-            1 => {
-                update.entry.table = self.unknown_table(update.entry.table);
-            }
+            0 => self.mistype(&mut update, at, aims),
+            1 => update.entry.table = self.unknown_table(update.entry.table),
             _ => {}
         }
         update
+    }
+
+    /// Gives the update a type that there is not.
+    pub(super) fn mistype(&mut self, update: &mut Update, at: usize, aims: &mut Vec<Aim>) {
+        update.kind = self.dice.pick(&ways::TYPES);
+        aims.retain(|aim| aim.update != Some(at));
+        aims.push(Aim {
+            reason: 17,
+            name: ways::TYPE_WAY,
+            update: Some(at),
+        });
     }
 
     /// Mostly a row that the role may write.
