@@ -1,4 +1,4 @@
--- Entries are parts of one width: where one stands, and what writing over a part, before one, behind the last, or over a gap leaves.
+-- Entries are parts of one width: where one is, and what writing over a part, before one, behind the last, or over a gap leaves.
 -- Assumes nothing.
 use Prim.Native.Nat.{ℕ, zero, suc, _+_, _*_, _-_, _≤_, _<_}
 use native.Mathlib.Nat.{add-zero}

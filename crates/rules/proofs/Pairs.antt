@@ -23,7 +23,7 @@ use Rattle.rules.proofs.Lists.{concat-append}
 
 -- ---- the pairs of a WRITE
 
--- behind n pairs stands that of reason r
+-- after n pairs comes that of reason r
 pub record PairAt (l : List (List ℕ)) (n r : ℕ) : Type 0 where
   pub before : List (List ℕ)
   pub after : List (List ℕ)
