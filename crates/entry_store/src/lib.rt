@@ -238,7 +238,7 @@ pub fn batch(
         );
     }
     if n <= 4 {
-        // a longer log costs more to make than so few updates do
+        // the long log would cost so few updates a good part more, being set to zero
         let mut short = [0; 296];
         return batch_in(rows, role, 1, store, count, updates, n, &mut short, answer);
     }
