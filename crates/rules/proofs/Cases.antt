@@ -4,6 +4,7 @@ use Rattle.rules.specs.Cases.{Orders, Witnesses}
 use Rattle.rules.proofs.StreamCases.{frames, elections}
 use Rattle.rules.proofs.EntryCases.{entries, configurations, updates}
 use Rattle.rules.proofs.RollbackCases.{rollbacks}
+use Rattle.rules.proofs.DeleteCases.{deletions}
 use Rattle.rules.proofs.Computing.{computing}
 
 pub orders : Orders
@@ -29,6 +30,7 @@ witnesses = record {
   elections = elections;
   entries = entries;
   rollbacks = rollbacks;
+  deletions = deletions;
   orders = orders;
   configurations = configurations;
   updates = updates;

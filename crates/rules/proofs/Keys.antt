@@ -2,7 +2,7 @@
 -- equal where its numbers are, and keys of different tables differ in both. Assumes nothing.
 use Prim.Native.Nat.{ℕ, _+_, _-_, _≤_}
 use mathlib.Core.Path.{_≡_, refl, sym, ap, ap₂, _∙_, subst}
-use mathlib.Core.Bool.{Bool, true, false, _&&_, not, true≢false, false≢true}
+use mathlib.Core.Bool.{Bool, true, false, _&&_, _||_, not, true≢false, false≢true}
 use mathlib.Core.Logic.{inl, inr, _↔_}
 use mathlib.Core.List.{List, [], _∷_, _++_, map}
 use native.Mathlib.Omega.{arith}
@@ -15,7 +15,7 @@ use Rattle.rules.specs.Frame.{Head, Update, Query, WRITE, READ}
 use Rattle.rules.specs.Row.{Row, known, rowFor, mayWrite}
 use Rattle.rules.specs.Key.{tableOf, slotNumbers, keyFormed, keyFits, keyRules, shortKey, keyNumbers, keyOf, hasKey}
 use Rattle.rules.specs.Entry.{actionFormed, actionFits, passes}
-use Rattle.rules.specs.Update.{Tables, isInsert, stored, held, judge, judgeBy, batch}
+use Rattle.rules.specs.Update.{Tables, isInsert, isDelete, stored, held, entryFormed, entryFits, judge, judgeBy, batch}
 use Rattle.rules.specs.Call.{State, fresh, readReason, refusal, accepted, batchOf, commandOf, run}
 use Rattle.rules.specs.LookBack.{Past, nothing, present, shows, reasonAt, noteUpdates, lookBack, readSeen}
 use Rattle.rules.specs.Agreement.{commandsOf, pastOf}
@@ -158,7 +158,7 @@ decided : (rows : List Row) (role : ℕ) (t : Tables) (u : Update) → between 1
     (keyFormed row (u .entry) ≡ true)
     × (judge rows role t u
     ≡ first (late (isInsert (u .type)) (stored (shortKey (u .entry)) t) (leb (row .size) (held (row .table) t)) (leb 256 (length (t .entries)))))
-unfolding judge judgeBy
+unfolding judge judgeBy entryFormed
 decided rows role t u n = go (eqb (first early) 0) refl
   where
     e : List ℕ
@@ -172,8 +172,8 @@ decided rows role t u n = go (eqb (first early) 0) refl
         (not (between 1 3 (u .type)), 17)
         ∷ (not (known (tableOf e) rows), 15)
         ∷ (not (mayWrite role row), 16)
-        ∷ (not (keyFormed row e && actionFormed row e), 17)
-        ∷ (not (keyFits row e && actionFits row e), 18)
+        ∷ (not (entryFormed row (u .type) e), 17)
+        ∷ (not (entryFits row (u .type) e), 18)
         ∷ (not (keyRules row e), 19)
         ∷ []
 
@@ -186,8 +186,8 @@ decided rows role t u n = go (eqb (first early) 0) refl
     go : (b : Bool) → eqb (first early) 0 ≡ b → (keyFormed row e ≡ true) × (first (early ++ rest) ≡ first rest)
     go true q =
         let c = first-clear early refl (eqb-true (first early) 0 q) in
-        let f : keyFormed row e && actionFormed row e ≡ true = not-false _ (c .1 .1 .1 .0) in
-        (and-true (keyFormed row e) (actionFormed row e) f .0, parted ∙ (rw q))
+        let f : keyFormed row e && (isDelete (u .type) || actionFormed row e) ≡ true = not-false _ (c .1 .1 .1 .0) in
+        (and-true (keyFormed row e) (isDelete (u .type) || actionFormed row e) f .0, parted ∙ (rw q))
     go false q =
         let w : first (early ++ rest) ≡ first early = parted ∙ (rw q) in
         clash (ap (between 15 19) w ∙ first-passes (between 15 19) early refl q) n

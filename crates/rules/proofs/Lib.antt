@@ -4,6 +4,7 @@ pub mod Bench
 pub mod StreamCases
 pub mod EntryCases
 pub mod RollbackCases
+pub mod DeleteCases
 pub mod Cases
 pub mod Table
 pub mod Listed
@@ -23,6 +24,7 @@ pub mod Sizes
 pub mod Effects
 pub mod Pairs
 pub mod LookBack
+pub mod Deletes
 pub mod Replies
 pub mod OneKey
 pub mod Primary

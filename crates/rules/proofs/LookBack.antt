@@ -31,24 +31,27 @@ use Rattle.rules.proofs.Pairs.{seen-at, pair-zero, update-pair}
 -- ---- updates
 
 -- an update does to the entries what its effect does
-effect-is : (u : Update) (t : Tables) → perform (u .type) (shortEntry (u .entry)) t .entries ≡ takeEffect (effectOf u) (t .entries)
+effect-is : (u : Update) (t : Tables) → perform u t .entries ≡ takeEffect (effectOf u) (t .entries)
 unfolding perform takeEffect revise
 effect-is u t = go (eqb (u .type) 1) (eqb (u .type) 2)
   where
     e : List ℕ
     e = shortEntry (u .entry)
 
+    k : List ℕ
+    k = shortKey (u .entry)
+
     changed : map (λ (old : List ℕ). if hasKey (keyOf e) old then e else old) (t .entries) ≡ takeEffect (modified e) (t .entries)
     changed = ap (λ f. map f (t .entries)) (fun-ext (λ (old : List ℕ). ap (λ (b : Bool). if b then e else old) (same-sym (keyOf old) (keyOf e))))
 
-    removed : keep (λ (old : List ℕ). not (hasKey (keyOf e) old)) (t .entries) ≡ takeEffect (deleted (keyOf e)) (t .entries)
-    removed = ap (λ f. keep f (t .entries)) (fun-ext (λ (old : List ℕ). ap not (same-sym (keyOf old) (keyOf e))))
+    removed : keep (λ (old : List ℕ). not (hasKey k old)) (t .entries) ≡ takeEffect (deleted k) (t .entries)
+    removed = ap (λ f. keep f (t .entries)) (fun-ext (λ (old : List ℕ). ap not (same-sym (keyOf old) k)))
 
     go : (a b : Bool)
         → (if a then t .entries ++ (e ∷ []) else
         if b then map (λ (old : List ℕ). if hasKey (keyOf e) old then e else old) (t .entries) else
-        keep (λ (old : List ℕ). not (hasKey (keyOf e) old)) (t .entries))
-        ≡ takeEffect (if a then inserted e else if b then modified e else deleted (keyOf e)) (t .entries)
+        keep (λ (old : List ℕ). not (hasKey k old)) (t .entries))
+        ≡ takeEffect (if a then inserted e else if b then modified e else deleted k) (t .entries)
     go true b = refl
     go false true = changed
     go false false = removed
@@ -63,7 +66,7 @@ noted-update p role u = go (eqb (reasonAt p role u) 0)
 
     go : (b : Bool)
         → _≡_ {A = Tables} (record { entries = present (if b then p .effects ++ (effectOf u ∷ []) else p .effects) })
-        (if b then perform (u .type) (shortEntry (u .entry)) t else t)
+        (if b then perform u t else t)
     go true = ap (λ es. record { entries = es }) (present-snoc (p .effects) (effectOf u) ∙ sym (effect-is u t))
     go false = refl
 

@@ -11,7 +11,7 @@ use lib.ListN.{length}
 use borrow.Author.Tests.{eqb-true, not-true}
 use Rattle.rules.specs.Bytes.{if_then_else_, some-of, same}
 use Rattle.rules.specs.Frame.{Update, Command, cramped, malformed, OPEN, CLOSE, ARBITRATE, CONFIGURE, WRITE, READ}
-use Rattle.rules.specs.Key.{keyOf, hasKey}
+use Rattle.rules.specs.Key.{keyOf, hasKey, shortKey}
 use Rattle.rules.specs.Entry.{shortEntry}
 use Rattle.rules.specs.Update.{stored, judge, judgeBy}
 use Rattle.rules.specs.Call.{Call, accepted}
@@ -281,7 +281,7 @@ allowed p role u k e = go (eqb (u .type) 1) (eqb (u .type) 2) refl
     x = shortEntry (u .entry)
 
     go : (b c : Bool) → eqb (u .type) 1 ≡ b
-        → Allowed (present (p .effects)) (if b then inserted x else if c then modified x else deleted (keyOf x))
+        → Allowed (present (p .effects)) (if b then inserted x else if c then modified x else deleted (shortKey (u .entry)))
     go true c t y i =
         let free = and-false _ _ (first-clear _ refl e .1 .1 .1 .1 .1 .1 .0) t in
         same-sym (keyOf x) (keyOf y) ∙ in-none (hasKey (keyOf x)) (present (p .effects)) y i (rw (key-of-short (u .entry) k) free)

@@ -13,7 +13,7 @@ use Rattle.rules.specs.Frame.{Update}
 use Rattle.rules.specs.Row.{Row, known, rowFor}
 use Rattle.rules.specs.Key.{tableOf, keyFormed, keyFits, keyRules, keyOf, hasKey, shortKey}
 use Rattle.rules.specs.Entry.{actionFormed, actionFits, passes, shortEntry}
-use Rattle.rules.specs.Update.{Tables, noEntries, inTable, stored, held, isInsert, isModify, judge, judgeBy, perform, apply, eachAlone}
+use Rattle.rules.specs.Update.{Tables, noEntries, inTable, stored, held, isInsert, isModify, isDelete, entryFormed, entryFits, judge, judgeBy, perform, apply, eachAlone}
 use Rattle.rules.specs.Sound.{Stored, EveryStored, Distinct, Within, SoundTables}
 use Rattle.rules.proofs.Tests.{or-false, and-true, and-false, both-true, same-true, same-sym}
 use Rattle.rules.proofs.Orders.{first-clear}
@@ -155,7 +155,7 @@ module _ (p : List ℕ → Bool) where
             entries =
                 if b then t .entries ++ (e ∷ []) else
                 if c then map (revised e) (t .entries) else
-                keep (λ (old : List ℕ). not (hasKey (keyOf e) old)) (t .entries);
+                keep (λ (old : List ℕ). not (hasKey (shortKey (u .entry)) old)) (t .entries);
           } else t) .entries) ≡ true
       go true true c = every-snoc p (t .entries) e h q
       go true false true = every-revised p e (t .entries) q h
@@ -280,22 +280,26 @@ row-table id (r ∷ rows) k = go (eqb (r .table) id) refl k (λ h. row-table id 
 
 -- ---- one update, and a batch
 
--- an update that is refused under no reason passed 17 to 19, and what is stored of it passes them
-passed : (rows : List Row) (role : ℕ) (t : Tables) (u : Update) → judge rows role t u ≡ 0
+-- an INSERT or a MODIFY that is refused under no reason passed 17 to 19 whole, and what is stored of it passes them
+passed : (rows : List Row) (role : ℕ) (t : Tables) (u : Update) → isDelete (u .type) ≡ false → judge rows role t u ≡ 0
     → passes (rowFor (tableOf (u .entry)) rows) (u .entry) ≡ true
-unfolding judge judgeBy passes
-passed rows role t u j =
+unfolding judge judgeBy entryFormed entryFits passes
+passed rows role t u d j =
     let e : List ℕ = u .entry in
     let row : Row = rowFor (tableOf e) rows in
-    let c = first-clear _ refl j .1 .1 .1 in
+    let c = rw d at (first-clear _ refl j .1 .1 .1) in
     let formed : keyFormed row e && actionFormed row e ≡ true = not-false _ (c .0) in
     let fit : keyFits row e && actionFits row e ≡ true = not-false _ (c .1 .0) in
     let rules : keyRules row e ≡ true = not-false _ (c .1 .1 .0) in
     both-true (both-true formed fit) rules
 
-short-passed : (rows : List Row) (role : ℕ) (t : Tables) (u : Update) → length (u .entry) ≡ 220 → judge rows role t u ≡ 0
-    → passes (rowFor (tableOf (shortEntry (u .entry))) rows) (shortEntry (u .entry)) ≡ true
-short-passed rows role t u l j = rw (table-of-short (u .entry) l) (short-passes _ (u .entry) l (passed rows role t u j))
+short-passed : (rows : List Row) (role : ℕ) (t : Tables) (u : Update) → length (u .entry) ≡ 220 → isDelete (u .type) ≡ false
+    → judge rows role t u ≡ 0 → passes (rowFor (tableOf (shortEntry (u .entry))) rows) (shortEntry (u .entry)) ≡ true
+short-passed rows role t u l d j = rw (table-of-short (u .entry) l) (short-passes _ (u .entry) l (passed rows role t u d j))
+
+-- an INSERT and a MODIFY are no DELETE
+no-delete : (type n : ℕ) → eqb type n ≡ true → eqb n 3 ≡ false → isDelete type ≡ false
+no-delete type n e d = rw (eqb-true type n e) d
 
 module _ (rows : List Row) (apart : distinct (map (λ (r : Row). r .table) rows) ≡ true) where
   -- an INSERT that is refused under no reason
@@ -318,7 +322,7 @@ module _ (rows : List Row) (apart : distinct (map (λ (r : Row). r .table) rows)
         known-tables = every-snoc _ (t .entries) (shortEntry e) (ok .known-tables) (rw in-table has-row);
         within = within-snoc rows (t .entries) (shortEntry e) apart (rw in-table has-row)
             (rw in-table (rw (row-table (tableOf e) rows has-row) at room)) (ok .within);
-        checked = every-snoc _ (t .entries) (shortEntry e) (ok .checked) (short-passed rows role t u l j);
+        checked = every-snoc _ (t .entries) (shortEntry e) (ok .checked) (short-passed rows role t u l (no-delete (u .type) 1 i refl) j);
       }
 
   modify-sound : (t : Tables) (e : List ℕ) → Stored e → passes (rowFor (tableOf e) rows) e ≡ true → SoundTables rows t
@@ -346,22 +350,23 @@ module _ (rows : List Row) (apart : distinct (map (λ (r : Row). r .table) rows)
 
   pub apply-sound : (role : ℕ) (t : Tables) (u : Update) → length (u .entry) ≡ 220 → SoundTables rows t → SoundTables rows (apply (judge rows role t u) u t)
   unfolding apply perform
-  apply-sound role t u l ok = go (eqb (judge rows role t u) 0) (isInsert (u .type)) (isModify (u .type)) refl refl
+  apply-sound role t u l ok = go (eqb (judge rows role t u) 0) (isInsert (u .type)) (isModify (u .type)) refl refl refl
     where
       e : List ℕ
       e = shortEntry (u .entry)
 
-      go : (a b c : Bool) → eqb (judge rows role t u) 0 ≡ a → isInsert (u .type) ≡ b
+      go : (a b c : Bool) → eqb (judge rows role t u) 0 ≡ a → isInsert (u .type) ≡ b → isModify (u .type) ≡ c
           → SoundTables rows (if a then record {
             entries =
                 if b then t .entries ++ (e ∷ []) else
                 if c then map (revised e) (t .entries) else
-                keep (λ (old : List ℕ). not (hasKey (keyOf e) old)) (t .entries);
+                keep (λ (old : List ℕ). not (hasKey (shortKey (u .entry)) old)) (t .entries);
           } else t)
-      go true true c p q = insert-sound role t u l (eqb-true _ _ p) q ok
-      go true false true p q = modify-sound t e (short-stored (u .entry) l) (short-passed rows role t u l (eqb-true _ _ p)) ok
-      go true false false p q = delete-sound t _ ok
-      go false b c p q = ok
+      go true true c p q m = insert-sound role t u l (eqb-true _ _ p) q ok
+      go true false true p q m =
+          modify-sound t e (short-stored (u .entry) l) (short-passed rows role t u l (no-delete (u .type) 2 m refl) (eqb-true _ _ p)) ok
+      go true false false p q m = delete-sound t _ ok
+      go false b c p q m = ok
 
   pub alone-sound : (role : ℕ) (t : Tables) (us : List Update) → Whole us → SoundTables rows t → SoundTables rows (eachAlone rows role t us .tables)
   unfolding eachAlone

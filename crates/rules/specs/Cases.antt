@@ -7,30 +7,15 @@ use lib.ListN.{set, replicate}
 use Rattle.rules.specs.Key.{exact, range}
 use Rattle.rules.specs.Answer.{Reply}
 use Rattle.rules.specs.Call.{fresh, commandOf, reply}
-use Rattle.rules.specs.Sample.{table#, by, unset, headBy, open!, close!, arbitrate!, configure!, write!, read!, readFrom, readAll!, readOne, field, action, rowWith, row, sizeless, val1, val2, key, entryWith, item, insert!, modify!, delete!, leading, two, configured, commandIn, holding, bytes, ok, refused, done, Each, InTurn, batch!, all}
+use Rattle.rules.specs.Sample.{table#, by, unset, headBy, open!, close!, arbitrate!, configure!, write!, read!, readFrom, readAll!, readOne, field, action, rowWith, row, sizeless, val1, val2, key, low, high, key19, key18, key17, entryWith, item, insert!, modify!, delete!, leading, two, configured, commandIn, holding, bytes, ok, refused, done, Each, InTurn, batch!, all}
 use Rattle.rules.specs.StreamCases.{eight, Frames, Elections}
 use Rattle.rules.specs.EntryCases.{Entries, Configurations, Updates}
 use Rattle.rules.specs.RollbackCases.{Rollbacks}
+use Rattle.rules.specs.DeleteCases.{Deletions}
 
 -- table n of an owner, of size 1: a range of width 8, and action 1 with a parameter of width 8
 abbrev ranges : ℕ → ℕ → List ℕ
 ranges n owner = rowWith n owner 1 (field range 8 ∷ []) (action 1 (8 ∷ []) ∷ [])
-
--- keys of it: one that breaks 19, by its bounds and its priority; 18 as well; 17 as well, by an unused slot; and two good ones
-abbrev key19 : List ℕ
-key19 = key 0 range (val1 2) (val1 1)
-
-abbrev key18 : List ℕ
-key18 = key 0 range (val2 1 0) (val1 1)
-
-abbrev key17 : List ℕ
-key17 = set key18 143 1
-
-abbrev low : List ℕ
-low = key 1 range (val1 1) (val1 2)
-
-abbrev high : List ℕ
-high = key 1 range (val1 3) (val1 4)
 
 -- an entry of it with one parameter; and a parameter that breaks 18
 abbrev entry1 : ℕ → List ℕ → ℕ → List ℕ → List ℕ
@@ -45,7 +30,7 @@ owned =
     configured (ranges 1 0 ∷ ranges 2 1 ∷ [])
     ++ (open! 2 ∷ arbitrate! 2 (by 1 5) ∷ write! (by 1 5) 0 (insert! (entry1 2 low 1 (val1 7)) ∷ []) ∷ [])
 
--- role 1's updates of a type, down to 19: action 9 is not the row's
+-- role 1's INSERTs or MODIFYs, down to 19: action 9 is not the row's
 abbrev toNineteen : ℕ → List (List ℕ × List ℕ)
 toNineteen type =
     (type ∷ entry1 9 key17 9 wide, 15 ∷ 5 ∷ [])
@@ -55,6 +40,17 @@ toNineteen type =
     ∷ (type ∷ entry1 2 key18 1 (val1 7), 18 ∷ 11 ∷ [])
     ∷ (type ∷ entry1 2 key19 1 wide, 18 ∷ 11 ∷ [])
     ∷ (type ∷ entry1 2 key19 1 (val1 7), 19 ∷ 3 ∷ [])
+    ∷ []
+
+-- and its DELETEs, of which the key alone is looked at: 17, 18, 19 and 21 of the key beside 17 of the action and 18 of the parameter
+abbrev deletes : List (List ℕ × List ℕ)
+deletes =
+    (delete! (entry1 9 key17 9 wide), 15 ∷ 5 ∷ [])
+    ∷ (delete! (entry1 1 key17 9 wide), 16 ∷ 7 ∷ [])
+    ∷ (delete! (entry1 2 key17 9 wide), 17 ∷ 3 ∷ [])
+    ∷ (delete! (entry1 2 key18 9 wide), 18 ∷ 11 ∷ [])
+    ∷ (delete! (entry1 2 key19 9 wide), 19 ∷ 3 ∷ [])
+    ∷ (delete! (entry1 2 high 9 wide), 21 ∷ 5 ∷ [])
     ∷ []
 
 -- and from there: the table is full, with the key `low`
@@ -67,7 +63,7 @@ fromTwenty =
     ∷ (modify! (entry1 2 high 1 (val1 7)), 21 ∷ 5 ∷ [])
     ∷ (delete! (entry1 2 high 1 (val1 7)), 21 ∷ 5 ∷ [])
     ∷ (modify! (entry1 2 low 1 (val1 8)), done)
-    ∷ (delete! (entry1 2 low 1 (val1 7)), done)
+    ∷ (delete! (entry1 2 low 9 wide), done)
     ∷ (insert! (entry1 2 high 1 (val1 7)), done)
     ∷ []
 
@@ -183,9 +179,9 @@ pub record Orders : Type 0 where
   -- An update: 17 for its type, 15, 16, 17, 18, 19, 20 or 21, 22. 19 does not meet 20: a stored key passed it, so 18 of a parameter
   -- meets 20. 21 does not meet 20 or 22, which are about INSERT.
   pub update : Each owned
-      (batch! (by 1 5) 23 2 32
+      (batch! (by 1 5) 23 2 31
       (all (17 ∷ 3 ∷ []) ((0 ∷ entry1 9 key17 9 wide) ∷ (4 ∷ entry1 9 key17 9 wide) ∷ [])
-      ++ toNineteen 1 ++ toNineteen 2 ++ toNineteen 3 ++ fromTwenty)
+      ++ toNineteen 1 ++ toNineteen 2 ++ deletes ++ fromTwenty)
       ∷ [])
   -- No list of calls comes to 24: the sizes add to 256 at most, so 22 comes before it. Of tables that no list leaves: 22 (the table
   -- holds its size, and the store 256), 24 (the store alone); with 255 in the store the entry is stored.
@@ -199,6 +195,7 @@ pub record Witnesses : Type 0 where
   pub elections : Elections
   pub entries : Entries
   pub rollbacks : Rollbacks
+  pub deletions : Deletions
   pub orders : Orders
   pub configurations : Configurations
   pub updates : Updates

@@ -76,7 +76,7 @@ with4 k a b c d = entryWith 1 k 1 (map val1 (a ∷ b ∷ c ∷ d ∷ []))
 abbrev with1234 : List ℕ → List ℕ
 with1234 k = with4 k 1 2 3 4
 
--- each sees those before it and succeeds or fails alone; a DELETE's action is checked too
+-- each sees those before it and succeeds or fails alone; a DELETE's action, here one that no row has, is not looked at
 abbrev mixed : List (List ℕ × List ℕ)
 mixed =
     (modify! (item 1 1 2), 21 ∷ 5 ∷ [])
@@ -84,9 +84,9 @@ mixed =
     ∷ (insert! (item 1 1 1), 20 ∷ 6 ∷ [])
     ∷ (modify! (item 1 1 2), done)
     ∷ (insert! (item 1 2 1), done)
-    ∷ (delete! (item 1 2 3), 17 ∷ 3 ∷ [])
-    ∷ (delete! (item 1 2 1), done)
-    ∷ (delete! (item 1 2 1), 21 ∷ 5 ∷ [])
+    ∷ (modify! (item 1 2 3), 17 ∷ 3 ∷ [])
+    ∷ (delete! (item 1 2 3), done)
+    ∷ (delete! (item 1 2 3), 21 ∷ 5 ∷ [])
     ∷ []
 
 pub record Entries : Type 0 where

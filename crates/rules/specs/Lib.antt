@@ -19,9 +19,11 @@ pub mod Sizes
 pub mod Sound
 pub mod Refused
 pub mod Rollback
+pub mod Deletes
 pub mod Sample
 pub mod Bench
 pub mod StreamCases
 pub mod EntryCases
 pub mod RollbackCases
+pub mod DeleteCases
 pub mod Cases

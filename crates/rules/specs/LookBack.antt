@@ -71,10 +71,11 @@ nothing device = record { control = fresh device .control; effects = [] }
 unfoldable pub shows : Past → State
 shows p = record { control = p .control; tables = record { entries = present (p .effects) } }
 
+-- what an update does where it takes effect; of a DELETE the key alone is noted
 abbrev pub effectOf : Update → Effect
 effectOf u =
     let e = shortEntry (u .entry) in
-    if eqb (u .type) 1 then inserted e else if eqb (u .type) 2 then modified e else deleted (keyOf e)
+    if eqb (u .type) 1 then inserted e else if eqb (u .type) 2 then modified e else deleted (shortKey (u .entry))
 
 -- an update's reason after the past p, and whether it has none and so *succeeds*
 unfoldable pub reasonAt : Past → ℕ → Update → ℕ

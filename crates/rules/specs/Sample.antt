@@ -2,10 +2,10 @@
 use mathlib.Core.Path.{_≡_}
 use mathlib.Core.List.{List, [], _∷_, _++_, map}
 use Prim.Native.Nat.{ℕ}
-use lib.ListN.{replicate, length, take}
+use lib.ListN.{replicate, length, set, take}
 use Rattle.rules.specs.Bytes.{concat}
 use Rattle.rules.specs.Frame.{Command}
-use Rattle.rules.specs.Key.{exact}
+use Rattle.rules.specs.Key.{exact, range}
 use Rattle.rules.specs.Answer.{Reply}
 use Rattle.rules.specs.Call.{State, fresh, commandOf, reply, next, run}
 
@@ -142,9 +142,30 @@ keyWith priority slots = 0 ∷ 0 ∷ 0 ∷ priority ∷ filled 140 (concat slots
 abbrev pub key : ℕ → ℕ → List ℕ → List ℕ → List ℕ
 key priority kind a b = keyWith priority (slot kind a b ∷ [])
 
+-- keys of a field of kind range and width 8: two good ones; one that breaks 19, by its bounds and its priority; 18 as well; 17 as
+-- well, by an unused slot
+abbrev pub low : List ℕ
+low = key 1 range (val1 1) (val1 2)
+
+abbrev pub high : List ℕ
+high = key 1 range (val1 3) (val1 4)
+
+abbrev pub key19 : List ℕ
+key19 = key 0 range (val1 2) (val1 1)
+
+abbrev pub key18 : List ℕ
+key18 = key 0 range (val2 1 0) (val1 1)
+
+abbrev pub key17 : List ℕ
+key17 = set key18 143 1
+
+-- the 72 bytes of an action and the values of its parameters
+abbrev pub acting : ℕ → List (List ℕ) → List ℕ
+acting action values = action# action ++ filled 68 (concat values)
+
 -- an entry of table n: its key, its action, and the values of the action's parameters
 abbrev pub entryWith : ℕ → List ℕ → ℕ → List (List ℕ) → List ℕ
-entryWith n k action values = table# n ++ k ++ action# action ++ filled 68 (concat values)
+entryWith n k action values = table# n ++ k ++ acting action values
 
 -- with an action without parameters
 abbrev pub entry : ℕ → List ℕ → ℕ → List ℕ
