@@ -13,8 +13,7 @@ use Rattle.rules.specs.Reason.{first}
 use Rattle.rules.specs.Frame.{Update, updateOf}
 use Rattle.rules.specs.Row.{Row, known, rowFor, mayWrite}
 use Rattle.rules.specs.Key.{tableOf, slots, slotFormed, slotFits, slotRule, alongside, alongsideAll, priorityRule, keyFormed, keyFits, keyRules}
-use Rattle.rules.specs.Entry.{actionFormed, actionFits}
-use Rattle.rules.specs.Update.{Tables, judgeBy, judge}
+use Rattle.rules.specs.Update.{Tables, entryFormed, entryFits, judgeBy, judge}
 use Rattle.rules.proofs.Lists.{parts-lent, rest-all}
 use Rattle.updates.specs.declared.Verdict.{Verdict}
 use Rattle.updates.specs.Update.{entryReason, placeReason, reasonOf, Meant}
@@ -77,7 +76,7 @@ module _ (isKnown : Bool) (row : Row) (role : ℕ) (t : Tables) (u : List ℕ) w
 
   -- what is asked once the table is known and its row may be written
   abbrev rest : ℕ
-  rest = if eqb (entryReason row (drop 1 u)) 0 then placeReason row (byte 0 u) (drop 1 u) t else entryReason row (drop 1 u)
+  rest = if eqb (entryReason row (byte 0 u) (drop 1 u)) 0 then placeReason row (byte 0 u) (drop 1 u) t else entryReason row (byte 0 u) (drop 1 u)
 
   -- only that is left
   abbrev pub Reached : Type 0
@@ -88,7 +87,7 @@ module _ (isKnown : Bool) (row : Row) (role : ℕ) (t : Tables) (u : List ℕ) w
   judge-asked =
       let e : List ℕ = drop 1 u in
       split (between 1 3 (byte 0 u)) isKnown (mayWrite role row)
-      (not (keyFormed row e && actionFormed row e)) (not (keyFits row e && actionFits row e)) (not (keyRules row e)) _
+      (not (entryFormed row (byte 0 u) e)) (not (entryFits row (byte 0 u) e)) (not (keyRules row e)) _
 
   -- ---- one law for each way out
 
@@ -114,16 +113,16 @@ module _ (isKnown : Bool) (row : Row) (role : ℕ) (t : Tables) (u : List ℕ) w
 
   -- of the entry, as it is lent
   module _ {e : List ℕ} (left : Reached) (whole : e ≡ drop 1 u) where
-    pub entry-refused : {r : ℕ} → r ≡ entryReason row e → (r ≡ 0 → ⊥) → r ≡ reason
+    pub entry-refused : {r : ℕ} → r ≡ entryReason row (byte 0 u) e → (r ≡ 0 → ⊥) → r ≡ reason
     entry-refused {r} q n =
-        let a : entryReason row (drop 1 u) ≡ r = sym (q ∙ ap (entryReason row) whole) in
+        let a : entryReason row (byte 0 u) (drop 1 u) ≡ r = sym (q ∙ ap (entryReason row (byte 0 u)) whole) in
         sym (left ∙ (rw (a, ne-eqb r 0 n)))
 
     -- what is said of the place is the answer
-    pub place-judged : (kind : ℕ) (v : Verdict) → 0 ≡ entryReason row e → kind ≡ byte 0 u
+    pub place-judged : (kind : ℕ) (v : Verdict) → 0 ≡ entryReason row (byte 0 u) e → kind ≡ byte 0 u
         → reasonOf v ≡ placeReason row kind e t → reasonOf v ≡ reason
     place-judged kind v z k q =
-        let a : entryReason row (drop 1 u) ≡ 0 = sym (z ∙ ap (entryReason row) whole) in
+        let a : entryReason row (byte 0 u) (drop 1 u) ≡ 0 = sym (z ∙ ap (entryReason row (byte 0 u)) whole) in
         let p : reason ≡ placeReason row (byte 0 u) (drop 1 u) t = left ∙ (rw a) in
         rw (k, whole) at q ∙ sym p
 

@@ -45,10 +45,9 @@ modified e es i l d p =
     ∙ sym (modify-place (shortEntry e) es i d q)
 
 -- a DELETE of the entry found
-deleted : (e : List ℕ) (es : List (List ℕ)) (i : ℕ) → length e ≡ 220 → Distinct es → place (shortKey e) es ≡ some i
-    → without i es ≡ keep (λ (old : List ℕ). not (hasKey (keyOf (shortEntry e)) old)) es
-deleted e es i l d p =
-    let q : place (keyOf (shortEntry e)) es ≡ some i = rw (key-of-short e l) p in sym (delete-place (keyOf (shortEntry e)) es i d q)
+deleted : (e : List ℕ) (es : List (List ℕ)) (i : ℕ) → Distinct es → place (shortKey e) es ≡ some i
+    → without i es ≡ keep (λ (old : List ℕ). not (hasKey (shortKey e) old)) es
+deleted e es i d p = sym (delete-place (shortKey e) es i d p)
 
 -- an update that is refused leaves the store
 pub refused-left : (reason : ℕ) (u : Update) (count : ℕ) (store : List ℕ) → (reason ≡ 0 → ⊥)
@@ -69,7 +68,7 @@ module _ (count : ℕ) (before after u : List ℕ) (long : length u ≡ 221) (d 
   performed (Modify i) n m p =
       rw (m .0, m .1, ← modified (drop 1 u) (entriesIn count before) i whole d (m .2)) (p .0 (place-below (shortKey (drop 1 u)) count before i (m .2)) .1)
   performed (Delete i) n m p =
-      rw (m .0, m .1, ← deleted (drop 1 u) (entriesIn count before) i whole d (m .2)) (p .0 (place-below (shortKey (drop 1 u)) count before i (m .2)) .1)
+      rw (m .0, m .1, ← deleted (drop 1 u) (entriesIn count before) i d (m .2)) (p .0 (place-below (shortKey (drop 1 u)) count before i (m .2)) .1)
 
 -- ---- an update keeps a store tidy
 
@@ -97,7 +96,7 @@ module _ (isKnown : Bool) (row : Row) (role : ℕ) (t : Tables) (u : Update) (l 
       e = shortEntry (u .entry)
 
       other : List ℕ → Bool
-      other old = not (hasKey (keyOf e) old)
+      other old = not (hasKey (shortKey (u .entry)) old)
 
       go : (a b c : Bool) → eqb (judgeBy isKnown row role t u) 0 ≡ a → isInsert (u .type) ≡ b
           → Neat ((if a then record {

@@ -10,20 +10,20 @@ use Rattle.rules.specs.Bytes.{byte}
 use Rattle.rules.specs.Reason.{first}
 use Rattle.rules.specs.Frame.{updateOf}
 use Rattle.rules.specs.Row.{Row}
-use Rattle.rules.specs.Key.{keyFormed, keyFits, keyRules, shortKey}
-use Rattle.rules.specs.Entry.{actionFormed, actionFits, shortEntry}
-use Rattle.rules.specs.Update.{Tables, isInsert, isModify, stored, held, apply}
+use Rattle.rules.specs.Key.{keyRules, shortKey}
+use Rattle.rules.specs.Entry.{shortEntry}
+use Rattle.rules.specs.Update.{Tables, isInsert, isModify, stored, held, entryFormed, entryFits, apply}
 use Rattle.rules.specs.Sound.{Distinct}
 use Rattle.entries.specs.Store.{entriesIn, tablesIn, place, without, Left}
 use Rattle.updates.specs.declared.Verdict.{Verdict}
 use Rattle.updates.specs.declared.Verdict.the-variants.{Refused, Insert, Modify, Delete}
 
--- 17 to 19 of a whole entry
-unfoldable pub entryReason : Row → List ℕ → ℕ
-entryReason row e =
+-- 17 to 19 of the entry of an update of a type
+unfoldable pub entryReason : Row → ℕ → List ℕ → ℕ
+entryReason row type e =
     first
-    ((not (keyFormed row e && actionFormed row e), 17)
-    ∷ (not (keyFits row e && actionFits row e), 18)
+    ((not (entryFormed row type e), 17)
+    ∷ (not (entryFits row type e), 18)
     ∷ (not (keyRules row e), 19)
     ∷ [])
 

@@ -1,6 +1,6 @@
-// One update, judged and applied (document 01, "The maker of an update"), and undone (document 02, request Two).
+// One update, judged and applied (document 01, "The maker of an update", and document 02, request One), and undone (request Two).
 ghost use mathlib.Core.Path.{_≡_};
-ghost use mathlib.Core.Bool.{false, _&&_, not};
+ghost use mathlib.Core.Bool.{false, not};
 ghost use mathlib.Core.List.{[], _∷_, _++_};
 ghost use Prim.Native.Nat.{_+_, _*_, _-_, _≤_, _<_};
 ghost use lib.ListN.{length, drop, getD, set};
@@ -8,9 +8,9 @@ ghost use Rattle.rules.specs.Bytes.{if_then_else_, byte, part};
 ghost use Rattle.rules.specs.Reason.{first};
 ghost use Rattle.rules.specs.Frame.{updateOf};
 ghost use lib.Dec.{leb};
-ghost use Rattle.rules.specs.Key.{keyFormed, keyFits, shortKey};
-ghost use Rattle.rules.specs.Entry.{actionFormed, actionFits, shortEntry};
-ghost use Rattle.rules.specs.Update.{isInsert, held as heldIn, judgeBy};
+ghost use Rattle.rules.specs.Key.{shortKey};
+ghost use Rattle.rules.specs.Entry.{shortEntry};
+ghost use Rattle.rules.specs.Update.{isInsert, held as heldIn, entryFormed, entryFits, judgeBy};
 ghost use Rattle.rows.specs.Meaning.{rowOf};
 ghost use Rattle.entries.specs.Store.{entriesIn, tablesIn, place, placeOf, insertedAt, Left};
 ghost use Rattle.updates.specs.Undo.{noteOf, noted, Undone};
@@ -27,20 +27,20 @@ pub enum Verdict {
     Delete(usize),
 }
 
-// 17 over all of an entry.
-fn entry_formed(row: Row, entry: &[u8]) -> bool
+// 17 of an update's entry: its key and, but for a DELETE, its action and parameters.
+fn entry_formed(row: Row, kind: u8, entry: &[u8]) -> bool
     requires { ⌜ length (now entry) ≡ 220 ⌝ }
-    ensures { λ r. ⌜ r ≡ (keyFormed (rowOf row) (now (entry .entry)) && actionFormed (rowOf row) (now (entry .entry))) ⌝ }
+    ensures { λ r. ⌜ r ≡ entryFormed (rowOf row) kind (now (entry .entry)) ⌝ }
 {
-    checks::key_formed(row, &entry[8..148]) && checks::action_formed(row, entry)
+    checks::key_formed(row, &entry[8..148]) && (kind == 3 || checks::action_formed(row, entry))
 }
 
-// 18 over all of an entry.
-fn entry_fits(row: Row, entry: &[u8]) -> bool
+// 18 of an update's entry: the same.
+fn entry_fits(row: Row, kind: u8, entry: &[u8]) -> bool
     requires { ⌜ length (now entry) ≡ 220 ⌝ }
-    ensures { λ r. ⌜ r ≡ (keyFits (rowOf row) (now (entry .entry)) && actionFits (rowOf row) (now (entry .entry))) ⌝ }
+    ensures { λ r. ⌜ r ≡ entryFits (rowOf row) kind (now (entry .entry)) ⌝ }
 {
-    checks::key_fits(row, &entry[8..148]) && checks::action_fits(row, entry)
+    checks::key_fits(row, &entry[8..148]) && (kind == 3 || checks::action_fits(row, entry))
 }
 
 // The reason where a test fails, what the later tests give where it is passed.
@@ -60,13 +60,13 @@ pub fn in_order(formed: bool, fits: bool, ruled: bool) -> u8
     unless(formed, 17, unless(fits, 18, unless(ruled, 19, 0)))
 }
 
-// 17 to 19 of a whole entry.
-fn entry_reason(row: Row, entry: &[u8]) -> u8
+// 17 to 19 of an update's entry.
+fn entry_reason(row: Row, kind: u8, entry: &[u8]) -> u8
     requires { ⌜ length (now entry) ≡ 220 ⌝ }
-    ensures { λ r. ⌜ r ≡ entryReason (rowOf row) (now (entry .entry)) ⌝ }
+    ensures { λ r. ⌜ r ≡ entryReason (rowOf row) kind (now (entry .entry)) ⌝ }
 {
-    let formed = entry_formed(row, entry);
-    let fits = entry_fits(row, entry);
+    let formed = entry_formed(row, kind, entry);
+    let fits = entry_fits(row, kind, entry);
     let ruled = checks::key_rules(row, integer(entry, 4, 4), &entry[8..148]);
     in_order(formed, fits, ruled)
 }
@@ -159,7 +159,7 @@ pub fn judge(known: bool, row: Row, role: u8, store: &[u8], count: usize, update
     if !row.may_write(role) {
         return Verdict::Refused(16);
     }
-    let wrong = entry_reason(row, &update[1..]);
+    let wrong = entry_reason(row, kind, &update[1..]);
     if wrong != 0 {
         return Verdict::Refused(wrong);
     }

@@ -1,6 +1,8 @@
--- Right because an entry fits where its key and its action do. Assumes nothing.
+-- Right because an entry fits where its key does and, but for a DELETE, its action. Assumes nothing.
 use denote.Ref.{now}
 use borrow.Author.Needs.{needs}
+use borrow.Author.Tests.{ne-eqb}
+use Rattle.rules.specs.Update.{entryFits}
 use Rattle.rows.specs.Meaning.{rowOf}
 use Rattle.updates.proofs.Judging.{key-fits-lent}
 use Rattle.updates.proofs.entry_fits.Statement.{statement}
@@ -22,13 +24,23 @@ action-fits-requires : tie.Need-action-fits-requires
 action-fits-requires c κs = search needs
 
 returns : tie.Need-returns
+unfolding entryFits
 returns c =
     let k = c .before .before in
     let a = k .before .before .before .args in
-    rw (key-fits-lent (rowOf (a .row)) (now (a .entry)), ← k .key-fits .ensures, c .before .if1 .taken) (c .action-fits .ensures)
+    rw (key-fits-lent (rowOf (a .row)) (now (a .entry)), ← k .key-fits .ensures, c .before .if1 .taken, c .if2 .taken)
 
 returns-2 : tie.Need-returns-2
+unfolding entryFits
 returns-2 c =
+    let k = c .before .before .before in
+    let a = k .before .before .before .args in
+    rw (key-fits-lent (rowOf (a .row)) (now (a .entry)), ← k .key-fits .ensures, c .before .before .if1 .taken, ne-eqb (a .kind) 3 (c .before .if2 .left))
+    (c .action-fits .ensures)
+
+returns-3 : tie.Need-returns-3
+unfolding entryFits
+returns-3 c =
     let k = c .before in
     let a = k .before .before .before .args in
     rw (key-fits-lent (rowOf (a .row)) (now (a .entry)), ← k .key-fits .ensures, c .if1 .left)
@@ -43,4 +55,5 @@ entry-fits-spec =
     key-fits-requires
     action-fits-requires
     returns
-    returns-2)
+    returns-2
+    returns-3)

@@ -1,6 +1,8 @@
--- Right because an entry is formed where its key and its action do. Assumes nothing.
+-- Right because an entry is formed where its key is and, but for a DELETE, its action. Assumes nothing.
 use denote.Ref.{now}
 use borrow.Author.Needs.{needs}
+use borrow.Author.Tests.{ne-eqb}
+use Rattle.rules.specs.Update.{entryFormed}
 use Rattle.rows.specs.Meaning.{rowOf}
 use Rattle.updates.proofs.Judging.{key-formed-lent}
 use Rattle.updates.proofs.entry_formed.Statement.{statement}
@@ -22,13 +24,23 @@ action-formed-requires : tie.Need-action-formed-requires
 action-formed-requires c κs = search needs
 
 returns : tie.Need-returns
+unfolding entryFormed
 returns c =
     let k = c .before .before in
     let a = k .before .before .before .args in
-    rw (key-formed-lent (rowOf (a .row)) (now (a .entry)), ← k .key-formed .ensures, c .before .if1 .taken) (c .action-formed .ensures)
+    rw (key-formed-lent (rowOf (a .row)) (now (a .entry)), ← k .key-formed .ensures, c .before .if1 .taken, c .if2 .taken)
 
 returns-2 : tie.Need-returns-2
+unfolding entryFormed
 returns-2 c =
+    let k = c .before .before .before in
+    let a = k .before .before .before .args in
+    rw (key-formed-lent (rowOf (a .row)) (now (a .entry)), ← k .key-formed .ensures, c .before .before .if1 .taken, ne-eqb (a .kind) 3 (c .before .if2 .left))
+    (c .action-formed .ensures)
+
+returns-3 : tie.Need-returns-3
+unfolding entryFormed
+returns-3 c =
     let k = c .before in
     let a = k .before .before .before .args in
     rw (key-formed-lent (rowOf (a .row)) (now (a .entry)), ← k .key-formed .ensures, c .if1 .left)
@@ -43,4 +55,5 @@ entry-formed-spec =
     key-formed-requires
     action-formed-requires
     returns
-    returns-2)
+    returns-2
+    returns-3)
