@@ -8,7 +8,7 @@ use mathlib.Core.Logic.{_⊎_, _↔_}
 use mathlib.Core.List.{List, [], _∷_, _++_}
 use lib.ListN.{length, take, drop, length-append, length-drop}
 use lib.Seq.{take-append-le, drop-append-le}
-use Rattle.rules.specs.Bytes.{if_then_else_, int, bytesOf, concat}
+use Rattle.rules.specs.Bytes.{if_then_else_, Pointwise, int, bytesOf, concat}
 use Rattle.rules.specs.Reason.{codeOf, pairs}
 use Rattle.rules.specs.Frame.{Head, Update, Query, Command, cramped, WRITE, READ}
 use Rattle.rules.specs.Answer.{Reply, answerBytes, replyOf}
@@ -23,10 +23,11 @@ use Rattle.rules.proofs.Sizes.{answer-sized, count-read, write-count}
 use Rattle.rules.proofs.Replies.{written-whole}
 use Rattle.rules.proofs.Pairs.{pairs-length}
 use Rattle.rules.proofs.LookBack.{fresh-shows, agreement}
+use Rattle.rules.proofs.Deletes.{key-alone}
 use Rattle.rules.proofs.Primary.{authority}
 use Rattle.rules.proofs.Presence.{presence}
 use Rattle.calls.specs.Contract.{Memory, Input, Result, callOf, requested, Layout, Represents, Fresh, FreeBytes, Correct, Contract}
-use Rattle.calls.specs.Claim.{Step, Trace, callsOf, Place, ListClaim, Demand3}
+use Rattle.calls.specs.Claim.{Step, Trace, callsOf, AnsweredAlike, AskAlike, Place, ListClaim, Demand3}
 
 -- ---- where a list has come to
 
@@ -205,8 +206,7 @@ module _ {A : Type 0} (L : Layout A) (device : ℕ) (start : Memory A) (f : Fres
 
   -- a READ in its stead and after it
   reads-alike : (q : Query) → reply s (READ q) ≡ reply (next s c) (READ q) → (x y : Step A) → requested start (x .input) ≡ READ q
-      → y .input ≡ x .input → Trace L start (before ++ x ∷ []) → Trace L start (before ++ w ∷ y ∷ [])
-      → (x .result .reason ≡ y .result .reason) × (x .result .answer ≡ y .result .answer)
+      → y .input ≡ x .input → Trace L start (before ++ x ∷ []) → Trace L start (before ++ w ∷ y ∷ []) → AnsweredAlike x y
   reads-alike q same x y e i lx ly =
       let ax = replied L (arrives L room (fresh device) before (x ∷ []) (starts L device start (before ++ x ∷ []) f lx)) in
       let ay = replied L (onward L (arrives L room (fresh device) before (w ∷ y ∷ []) (starts L device start (before ++ w ∷ y ∷ []) f ly))) in
@@ -255,6 +255,26 @@ module _ {A : Type 0} (L : Layout A) where
           subst (λ (s : State). EveryStored (s .tables .entries)) (fresh-shows device (commandsOf room′ calls))
           (sound room′ device calls .tables .shortest)
 
+  -- two lists from one state, with stores of one length
+  all-alike : (start : Memory A) (s : State) (ws xs : List (Step A)) → Arrived L (length (start .store)) s ws
+      → Arrived L (length (start .store)) s xs → Pointwise (AskAlike start) ws xs → Pointwise AnsweredAlike ws xs
+  all-alike start s [] [] a b h = tt
+  all-alike start s [] (x ∷ xs) a b h = absurd h
+  all-alike start s (w ∷ ws) [] a b h = absurd h
+  all-alike start s (w ∷ ws) (x ∷ xs) a b h =
+      let c : Command = requested start (w .input) in
+      let d : Command = requested start (x .input) in
+      let r : reply s c ≡ reply s d = key-alone .answers s c d (h .0 .1) in
+      let more = subst (λ (t : State). Arrived L (length (start .store)) t xs) (sym (key-alone .states s c d (h .0 .1))) (onward L b) in (
+        (
+          replied L a .0 ∙ ap (λ (t : Reply). t .returned) r ∙ sym (replied L b .0),
+          replied L a .1
+              ∙ ap₂ (λ (t : Reply) (l : List ℕ). t .written ++ drop (length (t .written)) l) r (h .0 .0)
+              ∙ sym (replied L b .1),
+        ),
+        all-alike start (next s c) ws xs (onward L a) more (h .1),
+      )
+
   -- two memories of one state, with stores of one length
   both : (m n : Memory A) (i : Input) (x y : Result A) (s : State) → Sound s → Represents L m s → Represents L n s
       → length (m .store) ≡ length (n .store) → Contract L m i x → Contract L n i y
@@ -269,6 +289,7 @@ module _ {A : Type 0} (L : Layout A) where
   pub demand-3-of : FreeBytes L → Demand3 L
   demand-3-of f = record {
     lists = all-lists;
+    deletes = λ device start f ws xs l k. all-alike start (fresh device) ws xs (starts L device start ws f l) (starts L device start xs f k);
     free = λ m n i x y s k e a l u. both m n i x y s k e
         (record { control = ap (L .control) (sym a) ∙ e .control; tables = f m n (s .tables) a u (e .tables) }) l;
   }

@@ -11,7 +11,7 @@ use mathlib.Core.Logic.{_⊎_, _↔_}
 use mathlib.Core.List.{List, [], _∷_, _++_, map}
 use Prim.Native.Nat.{ℕ, _+_, _<_}
 use lib.ListN.{length, drop}
-use Rattle.rules.specs.Bytes.{int, bytesOf, concat}
+use Rattle.rules.specs.Bytes.{Pointwise, int, bytesOf, concat}
 use Rattle.rules.specs.Frame.{Head, Update, Query, Command, WRITE, READ}
 use Rattle.rules.specs.Call.{Call, State, accepted, next}
 use Rattle.rules.specs.LookBack.{Past, present, shows, tookEffect, readSeen, replySeen}
@@ -19,6 +19,7 @@ use Rattle.rules.specs.Agreement.{pastOf, pairAt}
 use Rattle.rules.specs.Presence.{Describes}
 use Rattle.rules.specs.Authority.{Event, eventsOf, Gives, Held}
 use Rattle.rules.specs.Sound.{Sound, EveryStored}
+use Rattle.rules.specs.Deletes.{AlikeCommands}
 use Rattle.calls.specs.Contract.{Memory, Input, Result, callOf, requested, Layout, Represents, Fresh, Contract}
 
 -- ---- lists of calls
@@ -36,6 +37,15 @@ Trace L m (w ∷ ws) = Contract L m (w .input) (w .result) × Trace L (w .result
 -- what the rules see of calls
 abbrev pub callsOf : {A : Type 0} → List (Step A) → List Call
 callsOf {A} ws = map (λ (w : Step A). callOf (w .input)) ws
+
+-- Two calls are *answered alike*: they return and write the same.
+abbrev pub AnsweredAlike : {A : Type 0} → Step A → Step A → Type 0
+AnsweredAlike x y = (x .result .reason ≡ y .result .reason) × (x .result .answer ≡ y .result .answer)
+
+-- Two calls *ask alike*, with stores as long as that of m: they are handed the same buffer, and differ in no more than action and
+-- parameters of DELETEs.
+abbrev pub AskAlike : {A : Type 0} → Memory A → Step A → Step A → Type 0
+AskAlike m x y = (x .input .buffer ≡ y .input .buffer) × AlikeCommands (requested m (x .input)) (requested m (y .input))
 
 -- A place in a list: a call, and the calls before it and after it.
 pub record Place {A : Type 0} (ws : List (Step A)) : Type 0 where
@@ -69,7 +79,7 @@ module _ {A : Type 0} (L : Layout A) (device : ℕ) (start : Memory A) (ws : Lis
   ChangesNoEntry p =
       (q : Query) (x y : Step A) → requested start (x .input) ≡ READ q → y .input ≡ x .input
       → Trace L start (p .before ++ x ∷ []) → Trace L start (p .before ++ p .call ∷ y ∷ [])
-      → (x .result .reason ≡ y .result .reason) × (x .result .answer ≡ y .result .answer)
+      → AnsweredAlike x y
 
   -- What is claimed of the list: at each place p of it,
   pub record ListClaim : Type 0 where
@@ -112,6 +122,11 @@ pub record Demand3 {A : Type 0} (L : Layout A) : Type 0 where
   -- Of every list of calls, from a fresh agent and any store.
   pub lists : (device : ℕ) (start : Memory A) → Fresh L device (start .agent)
       → (ws : List (Step A)) → Trace L start ws → ListClaim L device start ws
+  -- Of two such lists that differ in no more than the action and parameters of DELETEs: call by call they are answered alike
+  -- (document 02, request One).
+  pub deletes : (device : ℕ) (start : Memory A) → Fresh L device (start .agent)
+      → (ws xs : List (Step A)) → Trace L start ws → Trace L start xs
+      → Pointwise (AskAlike start) ws xs → Pointwise AnsweredAlike ws xs
   -- No answer depends on free bytes: where two stores are as long and have the same bytes wherever entries are, a call with the same
   -- record returns and writes the same with either, and leaves both memories representing one state.
   pub free : (m n : Memory A) (i : Input) (x y : Result A) (s : State) → Sound s → Represents L m s
