@@ -3,7 +3,7 @@
 use Prim.Native.Nat.{ℕ, _-_, _≤_, _<_}
 use native.Mathlib.Omega.{arith}
 use mathlib.Core.Path.{_≡_, refl, sym, ap, _∙_}
-use mathlib.Core.Bool.{Bool, true, false, _&&_, not}
+use mathlib.Core.Bool.{Bool, true, false, _&&_, _||_, not, Bool·not-not}
 use mathlib.Core.List.{List, [], _∷_}
 use lib.Dec.{eqb}
 use lib.ListN.{length, take, drop}
@@ -13,7 +13,8 @@ use Rattle.rules.specs.Reason.{first}
 use Rattle.rules.specs.Frame.{Update, updateOf}
 use Rattle.rules.specs.Row.{Row, known, rowFor, mayWrite}
 use Rattle.rules.specs.Key.{tableOf, slots, slotFormed, slotFits, slotRule, alongside, alongsideAll, priorityRule, keyFormed, keyFits, keyRules}
-use Rattle.rules.specs.Update.{Tables, entryFormed, entryFits, judgeBy, judge}
+use Rattle.rules.specs.Entry.{actionFormed, actionFits}
+use Rattle.rules.specs.Update.{Tables, isDelete, entryFormed, entryFits, judgeBy, judge}
 use Rattle.rules.proofs.Lists.{parts-lent, rest-all}
 use Rattle.updates.specs.declared.Verdict.{Verdict}
 use Rattle.updates.specs.Update.{entryReason, placeReason, reasonOf, Meant}
@@ -43,6 +44,16 @@ pub key-rules-lent : (row : Row) (e : List ℕ)
     → keyRules row e ≡ (alongside slotRule (row .fields) (lent e) && priorityRule (row .fields) (int 4 4 e))
 unfolding keyRules
 key-rules-lent row e = ap (λ l. alongside slotRule (row .fields) l && priorityRule (row .fields) (int 4 4 e)) (slots-lent e)
+
+-- ---- what is looked at of an entry: the whole of it, but for a DELETE
+
+pub whole-formed : (row : Row) (type : ℕ) (e : List ℕ) → entryFormed row type e ≡ keyFormed row e && (not (not (isDelete type)) || actionFormed row e)
+unfolding entryFormed
+whole-formed row type e = rw (Bool·not-not (isDelete type))
+
+pub whole-fits : (row : Row) (type : ℕ) (e : List ℕ) → entryFits row type e ≡ keyFits row e && (not (not (isDelete type)) || actionFits row e)
+unfolding entryFits
+whole-fits row type e = rw (Bool·not-not (isDelete type))
 
 -- ---- 17 to 19, one after the other
 

@@ -1,6 +1,6 @@
 // One update, judged and applied (document 01, "The maker of an update", and document 02, request One), and undone (request Two).
 ghost use mathlib.Core.Path.{_≡_};
-ghost use mathlib.Core.Bool.{false, not};
+ghost use mathlib.Core.Bool.{false, _&&_, _||_, not};
 ghost use mathlib.Core.List.{[], _∷_, _++_};
 ghost use Prim.Native.Nat.{_+_, _*_, _-_, _≤_, _<_};
 ghost use lib.ListN.{length, drop, getD, set};
@@ -8,9 +8,9 @@ ghost use Rattle.rules.specs.Bytes.{if_then_else_, byte, part};
 ghost use Rattle.rules.specs.Reason.{first};
 ghost use Rattle.rules.specs.Frame.{updateOf};
 ghost use lib.Dec.{leb};
-ghost use Rattle.rules.specs.Key.{shortKey};
-ghost use Rattle.rules.specs.Entry.{shortEntry};
-ghost use Rattle.rules.specs.Update.{isInsert, held as heldIn, entryFormed, entryFits, judgeBy};
+ghost use Rattle.rules.specs.Key.{keyFormed, keyFits, shortKey};
+ghost use Rattle.rules.specs.Entry.{actionFormed, actionFits, shortEntry};
+ghost use Rattle.rules.specs.Update.{isInsert, held as heldIn, judgeBy};
 ghost use Rattle.rows.specs.Meaning.{rowOf};
 ghost use Rattle.entries.specs.Store.{entriesIn, tablesIn, place, placeOf, insertedAt, Left};
 ghost use Rattle.updates.specs.Undo.{noteOf, noted, Undone};
@@ -27,20 +27,28 @@ pub enum Verdict {
     Delete(usize),
 }
 
-// 17 of an update's entry: its key and, but for a DELETE, its action and parameters.
-fn entry_formed(row: Row, kind: u8, entry: &[u8]) -> bool
+// 17 of an entry: its key and, if the whole of it is looked at, its action and parameters.
+fn entry_formed(row: Row, whole: bool, entry: &[u8]) -> bool
     requires { ⌜ length (now entry) ≡ 220 ⌝ }
-    ensures { λ r. ⌜ r ≡ entryFormed (rowOf row) kind (now (entry .entry)) ⌝ }
+    ensures { λ r. ⌜ r ≡ (keyFormed (rowOf row) (now (entry .entry)) && (not «whole» || actionFormed (rowOf row) (now (entry .entry)))) ⌝ }
 {
-    checks::key_formed(row, &entry[8..148]) && (kind == 3 || checks::action_formed(row, entry))
+    let formed = checks::key_formed(row, &entry[8..148]);
+    if !whole {
+        return formed;
+    }
+    formed && checks::action_formed(row, entry)
 }
 
-// 18 of an update's entry: the same.
-fn entry_fits(row: Row, kind: u8, entry: &[u8]) -> bool
+// 18 of an entry, in the same way.
+fn entry_fits(row: Row, whole: bool, entry: &[u8]) -> bool
     requires { ⌜ length (now entry) ≡ 220 ⌝ }
-    ensures { λ r. ⌜ r ≡ entryFits (rowOf row) kind (now (entry .entry)) ⌝ }
+    ensures { λ r. ⌜ r ≡ (keyFits (rowOf row) (now (entry .entry)) && (not «whole» || actionFits (rowOf row) (now (entry .entry)))) ⌝ }
 {
-    checks::key_fits(row, &entry[8..148]) && (kind == 3 || checks::action_fits(row, entry))
+    let fits = checks::key_fits(row, &entry[8..148]);
+    if !whole {
+        return fits;
+    }
+    fits && checks::action_fits(row, entry)
 }
 
 // The reason where a test fails, what the later tests give where it is passed.
@@ -60,13 +68,14 @@ pub fn in_order(formed: bool, fits: bool, ruled: bool) -> u8
     unless(formed, 17, unless(fits, 18, unless(ruled, 19, 0)))
 }
 
-// 17 to 19 of an update's entry.
+// 17 to 19 of an update's entry. A DELETE needs only the key.
 fn entry_reason(row: Row, kind: u8, entry: &[u8]) -> u8
     requires { ⌜ length (now entry) ≡ 220 ⌝ }
     ensures { λ r. ⌜ r ≡ entryReason (rowOf row) kind (now (entry .entry)) ⌝ }
 {
-    let formed = entry_formed(row, kind, entry);
-    let fits = entry_fits(row, kind, entry);
+    let whole = kind != 3;
+    let formed = entry_formed(row, whole, entry);
+    let fits = entry_fits(row, whole, entry);
     let ruled = checks::key_rules(row, integer(entry, 4, 4), &entry[8..148]);
     in_order(formed, fits, ruled)
 }

@@ -1,11 +1,11 @@
--- Right because the three tests are those of the whole entry. Assumes nothing.
+-- Right because the three tests are those of the entry, and the whole of it is looked at but for a DELETE. Assumes nothing.
 use mathlib.Core.Path.{_≡_, sym, _∙_}
 use denote.Ref.{now}
 use borrow.Author.Needs.{needs}
 use Rattle.rules.specs.Key.{keyRules}
 use Rattle.rows.specs.Meaning.{rowOf}
 use Rattle.updates.specs.Update.{entryReason}
-use Rattle.updates.proofs.Judging.{key-rules-lent}
+use Rattle.updates.proofs.Judging.{key-rules-lent, whole-formed, whole-fits}
 use Rattle.updates.proofs.entry_reason.Statement.{statement}
 use Rattle.updates.proofs.entry_reason.Tie as tie
 
@@ -40,7 +40,13 @@ returns c =
     let a = c .before .before .before .before .before .before .before .args in
     let ruled : keyRules (rowOf (a .row)) (now (a .entry)) ≡ k .key-rules .result =
     key-rules-lent (rowOf (a .row)) (now (a .entry)) ∙ sym (rw (c .before .before .before .integer .ensures) at (k .key-rules .ensures)) in
-    rw (← c .before .before .before .before .before .entry-formed .ensures, ← c .before .before .before .before .entry-fits .ensures, ruled) (c .in-order .ensures)
+    rw
+    (whole-formed (rowOf (a .row)) (a .kind) (now (a .entry)),
+    ← c .before .before .before .before .before .entry-formed .ensures,
+    whole-fits (rowOf (a .row)) (a .kind) (now (a .entry)),
+    ← c .before .before .before .before .entry-fits .ensures,
+    ruled)
+    (c .in-order .ensures)
 
 pub entry-reason-spec : {M : Type 1} → statement M
 entry-reason-spec =
