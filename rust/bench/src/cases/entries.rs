@@ -1,6 +1,6 @@
 //! WRITE and READ.
 
-use reference::bytes::{self, Update};
+use reference::bytes::{self, Entry, Update};
 
 use super::keys::TABLE;
 use super::state::{batch, eight_tables, modifies, single, stored, BATCH, DEVICE};
@@ -29,17 +29,21 @@ pub fn write(keys: Keys) -> Vec<Case> {
             .pairs(BATCH, 0)
             .timed(vec![batch(keys, Update::modify, (0..FULL).step_by(4))]),
         delete_first("1 DELETE, first of 256", keys, 1),
-        on("1 DELETE, last of 256", keys, FULL).pairs(1, 0).step(
-            vec![single(keys, Update::delete, last)],
-            vec![single(keys, Update::insert, last)],
-        ),
+        delete_last("1 DELETE, last of 256", keys, 1, Update::delete),
+        delete_last("1 DELETE by key alone, last of 256", keys, 1, by_key),
         delete_first("64 DELETEs, each the first, of 256", keys, BATCH),
-        on("64 DELETEs, each the last, of 256", keys, FULL)
-            .pairs(BATCH, 0)
-            .step(
-                vec![batch(keys, Update::delete, (FULL - BATCH..FULL).rev())],
-                vec![batch(keys, Update::insert, FULL - BATCH..FULL)],
-            ),
+        delete_last(
+            "64 DELETEs, each the last, of 256",
+            keys,
+            BATCH,
+            Update::delete,
+        ),
+        delete_last(
+            "64 DELETEs by key alone, each the last, of 256",
+            keys,
+            BATCH,
+            by_key,
+        ),
     ]
 }
 
@@ -52,6 +56,20 @@ pub fn write_four_slots() -> Vec<Case> {
         insert_many("64 INSERTs, store empty", keys, 0),
         modify("1 MODIFY, last of 256", keys, FULL - 1),
         delete_first("1 DELETE, first of 256", keys, 1),
+        delete_last("1 DELETE, last of 256", keys, 1, Update::delete),
+        delete_last("1 DELETE by key alone, last of 256", keys, 1, by_key),
+        delete_last(
+            "64 DELETEs, each the last, of 256",
+            keys,
+            BATCH,
+            Update::delete,
+        ),
+        delete_last(
+            "64 DELETEs by key alone, each the last, of 256",
+            keys,
+            BATCH,
+            by_key,
+        ),
     ]
 }
 
@@ -152,4 +170,18 @@ fn delete_first(name: &str, keys: Keys, each: usize) -> Case {
             vec![batch(keys, Update::insert, numbers)],
         )
     })
+}
+
+/// DELETE of the last entries, so many in a WRITE and each the last when it is its turn.
+fn delete_last(name: &str, keys: Keys, each: usize, delete: fn(Entry) -> Update) -> Case {
+    let numbers = FULL - each..FULL;
+    on(name, keys, FULL).pairs(each, 0).step(
+        vec![batch(keys, delete, numbers.clone().rev())],
+        vec![batch(keys, Update::insert, numbers)],
+    )
+}
+
+/// DELETE of an entry's key: the 72 bytes of action and parameters are zeros.
+pub fn by_key(entry: Entry) -> Update {
+    Update::delete(Entry::new(entry.table, entry.key, 0, &[]))
 }

@@ -2,6 +2,7 @@
 
 use reference::bytes::{self, Entry, Head, Key, Slot, Update, Value};
 
+use super::entries::by_key;
 use super::keys::TABLE;
 use super::state::{primary, stored, with_primary, write, BATCH, DEVICE, ID, LOWER, STREAM};
 use super::streams::full_rows;
@@ -77,11 +78,13 @@ pub fn updates() -> Vec<Case> {
         pair(15, "unknown table", Update::insert(table)),
         pair(17, "type 4", kind_4),
         pair(17, "padding not zero", Update::insert(padding)),
+        pair(17, "DELETE by key alone, padding not zero", by_key(padding)),
         pair(18, "parameter too wide", Update::insert(wide)),
         pair(19, "priority 1", Update::insert(priority)),
         pair(20, "INSERT of the last key", Update::insert(last)),
         pair(21, "MODIFY of an absent key", Update::modify(absent)),
         pair(21, "DELETE of an absent key", Update::delete(absent)),
+        pair(21, "DELETE of an absent key, by key alone", by_key(absent)),
         pair(22, "INSERT of an absent key", Update::insert(absent)),
     ]
 }
