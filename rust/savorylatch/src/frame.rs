@@ -7,11 +7,10 @@
 mod entry;
 mod row;
 
-pub use entry::{Entry, Slot, Update, UpdateKind, Value};
+pub use entry::{Entry, Key, Slot, Update, UpdateKind, Value};
 pub use row::{Action, Field, Kind, Row};
 
 use crate::bytes::count;
-use entry::put_key;
 
 /// The commands; the discriminant is the first byte of the frame.
 #[derive(Clone, Copy, Debug, PartialEq, Eq, Hash)]
@@ -119,25 +118,7 @@ pub enum Wanted {
     Table(u32),
     /// The one that has the key, if there is one. Table 0 is refused under
     /// [`BadFrame`](crate::Reason::BadFrame).
-    Key {
-        /// The table.
-        table: u32,
-        /// The priority, as in [`Entry::priority`].
-        priority: u32,
-        /// The slots, as in [`Entry::slots`].
-        slots: [Slot; 4],
-    },
-}
-
-impl Wanted {
-    /// The stored entry that has the key of this one, if there is one.
-    pub fn key_of(entry: &Entry) -> Wanted {
-        Wanted::Key {
-            table: entry.table,
-            priority: entry.priority,
-            slots: entry.slots,
-        }
-    }
+    Key(Key),
 }
 
 /// OPEN: a stream, 0 to 31, is opened. A number over 31 is refused under
@@ -193,7 +174,7 @@ pub fn configure(head: &Head, rows: &[Row]) -> Vec<u8> {
 /// let to_port = |port| {
 ///     Entry::new(0x0200_0001, 0, [Slot::exact(0x0a00_0001)], 0x0100_0001, [Value::new(port)])
 /// };
-/// let batch = [Update::delete(to_port(7)), Update::insert(to_port(8))];
+/// let batch = [Update::delete(to_port(7).key()), Update::insert(to_port(8))];
 /// let frame = frame::write(&head, Atomicity::ContinueOnError, &batch);
 /// assert_eq!(frame.len(), 29 + 221 * 2);
 /// ```
@@ -204,7 +185,7 @@ pub fn configure(head: &Head, rows: &[Row]) -> Vec<u8> {
 ///
 /// ```
 /// use savorylatch::answer::{Failure, Outcome};
-/// use savorylatch::frame::{self, Action, Atomicity, Entry, Field, Head, Kind};
+/// use savorylatch::frame::{self, Action, Atomicity, Entry, Field, Head, Key, Kind};
 /// use savorylatch::frame::{Query, Row, Slot, Update, Value, Wanted};
 /// use savorylatch::{Agent, Answer, Command, Reason, Store};
 ///
@@ -233,7 +214,7 @@ pub fn configure(head: &Head, rows: &[Row]) -> Vec<u8> {
 /// assert_eq!(call(frame::write(&head, Atomicity::ContinueOnError, &batch)), Reason::Done);
 ///
 /// let batch = [
-///     Update::delete(tenant(EAST, 0x0a00_0001, 7)),
+///     Update::delete(Key::new(EAST, 0, [Slot::exact(0x0a00_0001)])),
 ///     Update::insert(tenant(WEST, 0x0a00_0001, 8)),
 /// ];
 /// let reason = call(frame::write(&head, Atomicity::RollbackOnError, &batch));
@@ -273,19 +254,14 @@ pub fn read(query: &Query) -> Vec<u8> {
     let (table, key) = match query.wanted {
         Wanted::Everything => (0, None),
         Wanted::Table(table) => (table, None),
-        Wanted::Key {
-            table,
-            priority,
-            slots,
-        } => (table, Some((priority, slots))),
+        Wanted::Key(key) => (key.table, Some(key)),
     };
     let mut frame = vec![Command::Read as u8];
     frame.extend(query.device.to_be_bytes());
     frame.push(query.role);
     frame.extend(table.to_be_bytes());
     frame.push(u8::from(key.is_some()));
-    let (priority, slots) = key.unwrap_or_default();
-    put_key(priority, &slots, &mut frame);
+    key.unwrap_or_default().put(&mut frame);
     frame
 }
 
@@ -351,21 +327,35 @@ mod tests {
             [Value::new(7)],
         );
         let zeros = |n| "00".repeat(n);
-        let entry_hex = [
+        let key_hex = [
             "02000001 00000005",
             &format!("03 02 0a00 {} 02 ff00 {}", zeros(14), zeros(14)),
             &format!("02 01 00 {} 01 08 {}", zeros(15), zeros(15)),
             &zeros(70),
-            &format!("01000001 01 07 {} {}", zeros(15), zeros(51)),
         ]
         .concat();
+        let action_hex = format!("01000001 01 07 {} {}", zeros(15), zeros(51));
+        let kind = UpdateKind::Delete;
         let frame = write(
             &HEAD,
             Atomicity::DataplaneAtomic,
-            &[Update::modify(entry), Update::delete(entry)],
+            &[
+                Update::modify(entry),
+                Update::delete(entry.key()),
+                Update { kind, entry },
+            ],
         );
-        let hex = format!("05 {HEAD_HEX} 02 02  02 {entry_hex}  03 {entry_hex}");
-        assert_eq!(frame, unhex(&hex));
+        let hex = [
+            &format!("05 {HEAD_HEX} 02 03"),
+            &format!("02 {key_hex} {action_hex}"),
+            &format!("03 {key_hex} {}", zeros(72)),
+            &format!("03 {key_hex} {action_hex}"),
+        ];
+        assert_eq!(frame, unhex(&hex.map(String::as_str).concat()));
+    }
+
+    #[test]
+    fn write_has_its_atomicity_before_their_count() {
         for (atomicity, byte) in [
             (Atomicity::ContinueOnError, "00"),
             (Atomicity::RollbackOnError, "01"),
@@ -394,16 +384,16 @@ mod tests {
             read(&query(Wanted::Table(0x0200_0001))),
             frame("02000001", "00", "00".repeat(144))
         );
-        let entry = Entry::new(0x0200_0001, 9, [Slot::Omitted, Slot::optional(1)], 0, []);
-        let key = [
+        let key = Key::new(0x0200_0001, 9, [Slot::Omitted, Slot::optional(1)]);
+        let key_hex = [
             "00000009",
             &"00".repeat(35),
             "05 01 01",
             &"00".repeat(15 + 17 + 70),
         ];
         assert_eq!(
-            read(&query(Wanted::key_of(&entry))),
-            frame("02000001", "01", key.concat())
+            read(&query(Wanted::Key(key))),
+            frame("02000001", "01", key_hex.concat())
         );
     }
 

@@ -97,6 +97,11 @@
 //! [`View::outcomes`](answer::View::outcomes) what became of each. [`frame::write`] has an example:
 //! a tenant is moved, and the table that it is moved to is full.
 //!
+//! # Cleaning up by key
+//!
+//! A DELETE needs a table and a key, and no action: [`Update::delete`](frame::Update::delete) takes a
+//! [`Key`](frame::Key), which [`Entry::key`](frame::Entry::key) has of an entry that was read.
+//!
 //! # What is left to the host
 //!
 //! What is proved of a call holds for an agent and *its* store. All else that the library asks of a

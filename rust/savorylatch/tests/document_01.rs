@@ -3,8 +3,8 @@
 
 use savorylatch::answer::{Failure, Notification, Outcome, Status, View};
 use savorylatch::frame::Atomicity::{ContinueOnError, DataplaneAtomic, RollbackOnError};
-use savorylatch::frame::{self, Action, Entry, Field, Head, Kind, Query, Row, Slot, Update, Value};
-use savorylatch::frame::{UpdateKind, Wanted};
+use savorylatch::frame::{self, Action, Entry, Field, Head, Key, Kind, Query, Row, Slot, Update};
+use savorylatch::frame::{UpdateKind, Value, Wanted};
 use savorylatch::{Agent, Answer, Code, Command, Reason, Store, StreamState};
 
 #[allow(dead_code)] // its main
@@ -77,12 +77,18 @@ impl Bench {
         assert!(view.notifications().eq(expected));
     }
 
+    /// A WRITE of one update, and how that ends.
+    #[track_caller]
+    fn ends(&mut self, frame: &[u8], reason: Reason) {
+        let pairs: Vec<_> = self.call(frame).pairs().collect();
+        assert_eq!(pairs, [(reason, reason.code())]);
+    }
+
     /// An INSERT by the primary, and how it ends.
     #[track_caller]
     fn inserts(&mut self, entry: Entry, reason: Reason) {
         let frame = frame::write(&with(1), ContinueOnError, &[Update::insert(entry)]);
-        let pairs: Vec<_> = self.call(&frame).pairs().collect();
-        assert_eq!(pairs, [(reason, reason.code())]);
+        self.ends(&frame, reason);
     }
 
     /// The entries that a READ by role 0 shows.
@@ -321,7 +327,7 @@ fn what_is_written_is_read() {
     assert_eq!(all[1..], rich);
     assert_eq!(bench.shows(Wanted::Table(TABLE)), rich);
     assert_eq!(bench.shows(Wanted::Table(TABLE + 1)), [range]);
-    assert_eq!(bench.shows(Wanted::key_of(&rich[9])), [rich[9]]);
+    assert_eq!(bench.shows(Wanted::Key(rich[9].key())), [rich[9]]);
 
     // In its place, with the other action; and omitted slots.
     let modified = Entry::new(
@@ -343,7 +349,7 @@ fn what_is_written_is_read() {
             kind: UpdateKind::Modify,
             entry: modified,
         },
-        Update::delete(rich[0]),
+        Update::delete(rich[0].key()),
         Update::insert(omitted),
     ];
     bench.done(&frame::write(&with(1), ContinueOnError, &updates));
@@ -351,7 +357,7 @@ fn what_is_written_is_read() {
     assert_eq!(now[..8], rich[1..9]);
     assert_eq!(now[8], modified);
     assert_eq!(now[59], omitted);
-    assert_eq!(bench.shows(Wanted::key_of(&rich[0])), []);
+    assert_eq!(bench.shows(Wanted::Key(rich[0].key())), []);
 }
 
 /// The first table of [`what_is_written_is_read`] gets a number of its own.
@@ -577,7 +583,7 @@ fn an_atomic_batch_without_a_failure_takes_effect() {
     let four = entry(0, Slot::exact(4));
     // Each is judged as though those before it had taken effect.
     let batch = [
-        Update::delete(one),
+        Update::delete(one.key()),
         Update::insert(four),
         Update::modify(four),
         Update::insert(one),
@@ -602,12 +608,12 @@ fn an_atomic_batch_with_a_failure_leaves_everything() {
     let four = entry(0, Slot::exact(4));
     let malformed = Entry::new(TABLE, 9, [], 0, []);
     let batch = [
-        Update::delete(one),
+        Update::delete(one.key()),
         Update::modify(two),
         Update::insert(four),
         Update::insert(two), // stored already
         Update::insert(malformed),
-        Update::delete(two),
+        Update::delete(two.key()),
     ];
     let view = bench.call(&frame::write(&with(1), RollbackOnError, &batch));
     assert_eq!(view.reason(), Reason::SomeFailed);
@@ -627,7 +633,7 @@ fn an_atomic_batch_with_a_failure_leaves_everything() {
     let view = bench.call(&frame::write(
         &with(1),
         RollbackOnError,
-        &[Update::delete(four)],
+        &[Update::delete(four.key())],
     ));
     assert!(view.pairs().eq([(Reason::NotStored, Code::NotFound)]));
     let cause = Failure {
@@ -640,7 +646,7 @@ fn an_atomic_batch_with_a_failure_leaves_everything() {
 #[test]
 fn an_atomic_batch_of_64_is_rolled_back_by_its_last() {
     let (mut bench, stored) = three_stored();
-    let mut batch = [Update::delete(stored[0]), Update::insert(stored[0])].repeat(32);
+    let mut batch = [Update::delete(stored[0].key()), Update::insert(stored[0])].repeat(32);
     batch[63] = Update::insert(stored[1]);
     let view = bench.call(&frame::write(&with(1), RollbackOnError, &batch));
     let cause = Failure {
@@ -658,10 +664,111 @@ fn a_deposed_primarys_atomic_batch_is_refused_as_a_whole() {
     bench.done(&frame::arbitrate(2, &with(6)));
     bench.done(&frame::arbitrate(2, &with(4)));
     bench.done(&frame::close(2));
-    let batch = [Update::delete(stored[0]), Update::insert(stored[0])];
+    let batch = [Update::delete(stored[0].key()), Update::insert(stored[0])];
     let resent = frame::write(&with(1), RollbackOnError, &batch);
     bench.refused(&resent, Reason::NotPrimary);
     assert_eq!(bench.shows(Wanted::Everything), stored);
+}
+
+// ---- DELETE by key (document 02, request One)
+
+/// What may stand in the place of action and parameters: zeros, FF everywhere, FF in one place.
+fn rests() -> Vec<[u8; 72]> {
+    let one = |at: usize| std::array::from_fn(|place| if place == at { 0xff } else { 0 });
+    let all = [[0; 72], [0xff; 72]];
+    all.into_iter().chain((0..72).map(one)).collect()
+}
+
+/// A WRITE of one update with such bytes in it.
+fn carrying(head: &Head, update: Update, rest: [u8; 72]) -> Vec<u8> {
+    let mut frame = frame::write(head, ContinueOnError, &[update]);
+    let at = frame.len() - rest.len();
+    frame[at..].copy_from_slice(&rest);
+    frame
+}
+
+#[test]
+fn a_delete_is_done_whatever_stands_beside_its_key() {
+    let (mut bench, [one, two, three]) = three_stored();
+    for rest in rests() {
+        bench.done(&carrying(&with(1), Update::delete(one.key()), rest));
+        assert_eq!(bench.shows(Wanted::Everything), [two, three]);
+        bench.inserts(one, Reason::Done);
+    }
+    // With an action, too, whether it is the stored one or none of the row's.
+    let kind = UpdateKind::Delete;
+    for action in [ACTION, 0x01ff_ffff] {
+        let entry = Entry { action, ..one };
+        let frame = frame::write(&with(1), ContinueOnError, &[Update { kind, entry }]);
+        bench.ends(&frame, Reason::Done);
+        bench.inserts(one, Reason::Done);
+    }
+}
+
+#[test]
+fn insert_and_modify_are_checked_as_whole_entries() {
+    let (mut bench, stored) = three_stored();
+    let four = entry(0, Slot::exact(4));
+    for rest in rests() {
+        for update in [Update::insert(four), Update::modify(stored[0])] {
+            bench.ends(&carrying(&with(1), update, rest), Reason::BadForm);
+        }
+    }
+    assert_eq!(bench.shows(Wanted::Everything), stored);
+}
+
+#[test]
+fn the_key_of_a_delete_is_checked() {
+    let (mut bench, stored) = three_stored();
+    let of_role_1 = Head { role: 1, ..with(1) };
+    bench.done(&frame::open(1));
+    bench.done(&frame::arbitrate(1, &of_role_1));
+    let one = Slot::exact(1);
+    for (head, key, reason) in [
+        (with(1), Key::new(TABLE + 9, 0, [one]), Reason::NoSuchTable),
+        (of_role_1, stored[0].key(), Reason::NotTheRoles),
+        (with(1), Key::new(TABLE, 0, []), Reason::BadForm),
+        (with(1), Key::new(TABLE, 0, [one; 2]), Reason::BadForm),
+        (
+            with(1),
+            Key::new(TABLE, 0, [Slot::lpm(1, 16)]),
+            Reason::BadForm,
+        ),
+        (
+            with(1),
+            Key::new(TABLE, 0, [Slot::exact(1 << 16)]),
+            Reason::TooWide,
+        ),
+        (with(1), Key::new(TABLE, 1, [one]), Reason::RuleBroken),
+        (
+            with(1),
+            Key::new(TABLE, 0, [Slot::exact(4)]),
+            Reason::NotStored,
+        ),
+    ] {
+        for rest in rests() {
+            bench.ends(&carrying(&head, Update::delete(key), rest), reason);
+        }
+    }
+    assert_eq!(bench.shows(Wanted::Everything), stored);
+}
+
+#[test]
+fn an_atomic_clean_up_is_undone_for_a_key_that_is_gone() {
+    let (mut bench, stored) = three_stored();
+    let gone = Key::new(TABLE, 0, [Slot::exact(4)]);
+    let batch = [stored[0].key(), gone, stored[2].key()].map(Update::delete);
+    let failed = Outcome::Failed(Reason::NotStored);
+
+    let view = bench.call(&frame::write(&with(1), RollbackOnError, &batch));
+    let undone = Outcome::RolledBack;
+    assert!(view.outcomes().eq([undone, failed, undone]));
+    assert_eq!(bench.shows(Wanted::Everything), stored);
+
+    let view = bench.call(&frame::write(&with(1), ContinueOnError, &batch));
+    let done = Outcome::TookEffect;
+    assert!(view.outcomes().eq([done, failed, done]));
+    assert_eq!(bench.shows(Wanted::Everything), [stored[1]]);
 }
 
 // ---- what the builders say is refused
@@ -678,11 +785,7 @@ fn frames_that_are_refused() {
     bench.refused(&frame::open(0), Reason::AlreadyOpen);
     bench.refused(&frame::close(1), Reason::NotOpen);
 
-    let key = Wanted::Key {
-        table: 0,
-        priority: 0,
-        slots: [Slot::exact(1), Slot::Omitted, Slot::Omitted, Slot::Omitted],
-    };
+    let key = Wanted::Key(Key::new(0, 0, [Slot::exact(1)]));
     let read = |role, wanted| {
         frame::read(&Query {
             device: DEVICE,

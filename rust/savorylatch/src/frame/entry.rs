@@ -55,9 +55,18 @@ impl Entry {
         entry
     }
 
+    /// Its key: the entry without its action.
+    pub fn key(&self) -> Key {
+        Key {
+            table: self.table,
+            priority: self.priority,
+            slots: self.slots,
+        }
+    }
+
     fn put(&self, frame: &mut Vec<u8>) {
         frame.extend(self.table.to_be_bytes());
-        put_key(self.priority, &self.slots, frame);
+        self.key().put(frame);
         frame.extend(self.action.to_be_bytes());
         for parameter in self.parameters {
             put_value(parameter, frame);
@@ -88,11 +97,42 @@ impl Entry {
     }
 }
 
-/// Writes a key without its table.
-pub(super) fn put_key(priority: u32, slots: &[Slot; 4], frame: &mut Vec<u8>) {
-    frame.extend(priority.to_be_bytes());
-    for slot in slots {
-        slot.put(frame);
+/// The key of an entry: what a table has at most one entry of, and all that a DELETE or a READ of
+/// one entry needs.
+///
+/// ```
+/// use savorylatch::frame::{Entry, Key, Slot, Value};
+///
+/// let entry = Entry::new(0x0200_0001, 0, [Slot::lpm(0x0a00_0000, 8)], 0x0100_0001, [Value::new(7)]);
+/// assert_eq!(entry.key(), Key::new(0x0200_0001, 0, [Slot::lpm(0x0a00_0000, 8)]));
+/// ```
+#[derive(Clone, Copy, Debug, Default, PartialEq, Eq)]
+pub struct Key {
+    /// The table's id.
+    pub table: u32,
+    /// The priority, as in [`Entry::priority`].
+    pub priority: u32,
+    /// The slots, as in [`Entry::slots`].
+    pub slots: [Slot; 4],
+}
+
+impl Key {
+    /// With up to four slots, the others not used. More do not compile:
+    ///
+    /// ```compile_fail
+    /// # use savorylatch::frame::{Key, Slot};
+    /// Key::new(0x0200_0001, 0, [Slot::Omitted; 5]);
+    /// ```
+    pub fn new<const S: usize>(table: u32, priority: u32, slots: [Slot; S]) -> Key {
+        Entry::new(table, priority, slots, 0, []).key()
+    }
+
+    /// Writes it without its table.
+    pub(super) fn put(&self, frame: &mut Vec<u8>) {
+        frame.extend(self.priority.to_be_bytes());
+        for slot in &self.slots {
+            slot.put(frame);
+        }
     }
 }
 
@@ -101,7 +141,7 @@ pub(super) fn put_key(priority: u32, slots: &[Slot; 4], frame: &mut Vec<u8>) {
 pub struct Update {
     /// What is done.
     pub kind: UpdateKind,
-    /// With which entry.
+    /// With which entry. Of a DELETE's only the key is looked at.
     pub entry: Entry,
 }
 
@@ -113,7 +153,7 @@ pub enum UpdateKind {
     Insert = 1,
     /// Replaces action and parameters of the entry that has the key.
     Modify = 2,
-    /// Removes the entry that has the key. Action and parameters must be allowed too.
+    /// Removes the entry that has the key, whatever action and parameters are sent with it.
     Delete = 3,
 }
 
@@ -130,9 +170,59 @@ impl Update {
         Update { kind, entry }
     }
 
-    /// DELETE of the entry that has this one's key.
-    pub fn delete(entry: Entry) -> Update {
+    /// DELETE of the entry that has the key. No action goes with it: its 72 bytes in the frame are
+    /// zeros, and the agent does not look at them. The key is checked as that of any entry.
+    ///
+    /// Here a controller deletes all that it reads, and then once more:
+    ///
+    /// ```
+    /// # use savorylatch::frame::{Action, Field, Kind, Query, Row, Value, Wanted};
+    /// use savorylatch::answer::Outcome;
+    /// use savorylatch::frame::{self, Atomicity::ContinueOnError, Entry, Head, Slot, Update};
+    /// use savorylatch::{Agent, Answer, Command, Reason, Store};
+    ///
+    /// # let head = Head { device: 1, role: 0, id: Some(5) };
+    /// # let rows = [Row {
+    /// #     table: 0x0200_0001,
+    /// #     owner: 0,
+    /// #     size: 4,
+    /// #     fields: vec![Field { kind: Kind::Exact, width: 32 }],
+    /// #     actions: vec![Action { id: 0x0100_0001, widths: vec![9] }],
+    /// # }];
+    /// # let stored = [0x0a00_0001, 0x0a00_0002].map(|address| {
+    /// #     Entry::new(0x0200_0001, 0, [Slot::exact(address)], 0x0100_0001, [Value::new(7)])
+    /// # });
+    /// # let everything = Query { device: 1, role: 0, wanted: Wanted::Everything };
+    /// # let (mut agent, mut store, mut answer) = (Agent::new(1), Store::new(), Answer::new());
+    /// # let mut call = |frame: Vec<u8>| agent.call(&frame, &mut store, &mut answer);
+    /// # assert_eq!(call(frame::open(1)), Reason::Done);
+    /// # assert_eq!(call(frame::arbitrate(1, &head)), Reason::Done);
+    /// # assert_eq!(call(frame::configure(&head, &rows)), Reason::Done);
+    /// # let batch = stored.map(Update::insert);
+    /// # assert_eq!(call(frame::write(&head, ContinueOnError, &batch)), Reason::Done);
+    /// assert_eq!(agent.call(&frame::read(&everything), &mut store, &mut answer), Reason::Done);
+    /// let read = answer.view(Command::Read)?.entries();
+    /// let batch: Vec<Update> = read.map(|entry| Update::delete(entry.key())).collect();
+    /// let frame = frame::write(&head, ContinueOnError, &batch);
+    ///
+    /// assert_eq!(agent.call(&frame, &mut store, &mut answer), Reason::Done);
+    /// assert_eq!(agent.entries(), 0);
+    /// // Now they are gone.
+    /// assert_eq!(agent.call(&frame, &mut store, &mut answer), Reason::SomeFailed);
+    /// let outcomes = answer.view(Command::Write)?.outcomes();
+    /// assert!(outcomes.eq([Outcome::Failed(Reason::NotStored); 2]));
+    /// # Ok::<(), savorylatch::answer::Unreadable>(())
+    /// ```
+    ///
+    /// An entry is not taken, as its action would go for nothing:
+    ///
+    /// ```compile_fail
+    /// # use savorylatch::frame::{Entry, Slot, Update};
+    /// Update::delete(Entry::new(0x0200_0001, 0, [Slot::exact(0x0a00_0001)], 0x0100_0001, []));
+    /// ```
+    pub fn delete(key: Key) -> Update {
         let kind = UpdateKind::Delete;
+        let entry = Entry::new(key.table, key.priority, key.slots, 0, []);
         Update { kind, entry }
     }
 
