@@ -59,9 +59,10 @@ pub enum Reason {
     NoSuchTable = 15,
     /// The table is not the role's.
     NotTheRoles = 16,
-    /// An update, slot, value or action is not well formed.
+    /// An update, slot, value or action is not well formed. A DELETE's action is not looked at.
     BadForm = 17,
-    /// A value, other than a prefix length, is not below 2 to its width.
+    /// A value, other than a prefix length, is not below 2 to its width. A DELETE's parameters
+    /// are not looked at.
     TooWide = 18,
     /// A rule of the match kinds or of the priority is broken.
     RuleBroken = 19,

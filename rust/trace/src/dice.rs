@@ -36,8 +36,9 @@ impl Dice {
 }
 
 /// The example scripts.
-pub const SCRIPTS: [&str; 12] = [
+pub const SCRIPTS: [&str; 13] = [
     include_str!("../../../scripts/atomic-move.txt"),
+    include_str!("../../../scripts/clean-up.txt"),
     include_str!("../../../scripts/document-01.txt"),
     include_str!("../../../scripts/failover.txt"),
     include_str!("../../../scripts/five-events.txt"),

@@ -2,6 +2,7 @@
 
 use crate::dice::{Dice, SCRIPTS};
 use crate::input;
+use crate::notation::hex;
 use crate::parse;
 use crate::session;
 
@@ -176,31 +177,42 @@ fn what_explain_says_of_a_call_is_a_script_again() {
     for text in SCRIPTS {
         let script = parse::script(text).unwrap();
         let frames = session::frames(&script);
-        let trace = session::explain(&input::cut(&frames), 1).unwrap();
-        let again = parse::script(&scripted(&trace)).unwrap();
+        let input = input::cut(&frames);
+        let trace = session::explain(&input, 1).unwrap();
+        let again = parse::script(&scripted(&trace, &input.frames)).unwrap();
         assert_eq!(session::frames(&again), frames);
     }
 }
 
-/// The calls, rows and updates of a trace, laid out as a script.
-fn scripted(trace: &str) -> String {
-    let mut script = String::new();
+/// The calls, rows and updates of a trace, laid out as a script. A call with a part that no other
+/// statement can send, which is shown in brackets, is there as `raw`.
+fn scripted(trace: &str, frames: &[&[u8]]) -> String {
+    let mut calls: Vec<String> = Vec::new();
     for line in trace.lines() {
         let (first, rest) = line.trim_start().split_once(' ').unwrap_or((line, ""));
         let rest = rest.trim_start();
         let behind = rest
             .split_once(' ')
             .map_or("", |(_, behind)| behind.trim_start());
-        match first {
-            _ if !line.starts_with(' ') => script += &format!("{rest}\n"),
-            "row" => script += &format!("  {behind}\n"),
-            "update" => {
-                let text = behind.split(" -> ").next().unwrap_or("");
-                script += &format!("  {text}\n");
+        let part = match first {
+            _ if !line.starts_with(' ') => {
+                calls.push(format!("{rest}\n"));
+                continue;
             }
-            _ => {}
+            "row" => behind,
+            "update" => behind.split(" -> ").next().unwrap_or(""),
+            _ => continue,
+        };
+        if let Some(call) = calls.last_mut() {
+            *call += &format!("  {part}\n");
         }
     }
     // The last line is no call.
-    script.trim_end().trim_end_matches("calls").to_owned()
+    calls.pop();
+    for (call, frame) in calls.iter_mut().zip(frames) {
+        if call.contains('[') {
+            *call = format!("raw {}\n", hex(frame));
+        }
+    }
+    calls.concat()
 }

@@ -214,12 +214,38 @@ mod tests {
         assert_eq!(last(&format!("{TABLE}{batch}")), lines);
     }
 
+    /// What a DELETE carries beside its key is shown as it is sent, and nothing is said of it.
+    #[test]
+    fn what_a_delete_carries_is_shown() {
+        let ill_formed = format!("[length 255: {}]", "ff".repeat(16));
+        let rubbish = format!("0xffffffff({})", [&*ill_formed; 4].join(", "));
+        for (rest, shown) in [
+            ("00*72", ""),
+            ("01000001 01.09.00*15 00*51", " a(p=9)"),
+            ("01000001 02.0100.00*14 00*51", " a(p=256)"),
+            ("01000001 00*17 01.09.00*15 00*34", " a(p=[empty], 0x09)"),
+            ("01000009 01.09.00*15 00*51", " 0x01000009(0x09)"),
+            ("00*4 01.09.00*15 00*51", " 0x00000000(0x09)"),
+            ("ff*72", &format!(" {rubbish}")),
+        ] {
+            let update = format!("03 02000001 00*4 01 01.01.00*15 00*17 00*105 {rest}");
+            let lines = [
+                "5  write role 0 id 5",
+                "     answer     done (0), OK (0): 1 update took effect",
+                &format!("     update 1   delete table t k=1{shown}  -> done (0), OK (0)"),
+                "     role 0     primary is stream 1, the mark is 5",
+            ];
+            let write = format!("raw 05 00*7.01 00 01 00*15.05 00 01 {update}");
+            assert_eq!(last(&format!("{TABLE}{write}")), lines);
+        }
+    }
+
     #[test]
     fn other_atomic_batches() {
         for (updates, why) in [
             ("\n", "done (0), OK (0): there are no updates"),
             (
-                " delete table t k=1 a(7)\n insert table t k=1 a(8)\n",
+                " delete table t k=1\n insert table t k=1 a(8)\n",
                 "done (0), OK (0): 2 updates took effect",
             ),
             (

@@ -81,6 +81,8 @@ pub struct Value {
 pub const KINDS: [&str; 6] = ["omitted", "exact", "lpm", "ternary", "range", "optional"];
 /// The types of updates by their numbers; 0 is none.
 pub const TYPES: [&str; 4] = ["type 0", "insert", "modify", "delete"];
+/// The type of an update whose action and parameters are not looked at.
+pub const DELETE: u8 = 3;
 
 impl Value {
     /// One to sixteen bytes as they are; `None` for no bytes or more.

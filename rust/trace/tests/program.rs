@@ -42,8 +42,9 @@ fn sample(what: &str, name: &str) -> Vec<u8> {
     output.stdout
 }
 
-const SCRIPTS: [&str; 12] = [
+const SCRIPTS: [&str; 13] = [
     "atomic-move",
+    "clean-up",
     "document-01",
     "failover",
     "five-events",
@@ -58,8 +59,9 @@ const SCRIPTS: [&str; 12] = [
 ];
 
 /// The scripts that are samples too.
-const SAMPLES: [&str; 6] = [
+const SAMPLES: [&str; 7] = [
     "atomic-move",
+    "clean-up",
     "document-01",
     "five-events",
     "p2-p3-p4",

@@ -1,12 +1,13 @@
 //! What is wrong with an update or a key, whatever is stored: reasons 15 to 19.
 //!
-//! As in document 01, all of 17 is looked at before all of 18, and that before 19.
+//! As in document 01, all of 17 is looked at before all of 18, and that before 19. Of a DELETE, as in
+//! document 02, only table and key are looked at.
 
 use savorylatch::frame::{Action, Field, Kind, Row};
 use savorylatch::Reason;
 
 use crate::explain::Finding;
-use crate::wire::{Entry, Key, Slot, Update, Value};
+use crate::wire::{Entry, Key, Slot, Update, Value, DELETE};
 use crate::words::{self, some, Words};
 
 /// The highest priority.
@@ -24,6 +25,9 @@ pub fn update(update: &Update, role: u8, rows: &[Row], words: &Words) -> Option<
         Ok(row) => row,
         Err(finding) => return Some(finding),
     };
+    if update.kind == DELETE {
+        return key(row, &entry.key, words);
+    }
     let part = Part { row, words };
     part.key_form(&entry.key)
         .or_else(|| part.action_form(entry))
@@ -36,7 +40,7 @@ pub fn update(update: &Update, role: u8, rows: &[Row], words: &Words) -> Option<
         .or_else(|| Some(Finding::new(Reason::RuleBroken, part.rules(&entry.key)?)))
 }
 
-/// The first thing that is wrong with a READ's key.
+/// The first thing that is wrong with the key of a READ or a DELETE.
 pub fn key(row: &Row, key: &Key, words: &Words) -> Option<Finding> {
     let part = Part { row, words };
     let form = part.key_form(key).map(|t| (Reason::BadForm, t));
@@ -137,7 +141,7 @@ impl Part<'_> {
                 .collect();
             let known = known.join(", ");
             return Some(match entry.action {
-                0 => format!("no action is named, which delete needs too; {table} has {known}"),
+                0 => format!("no action is named; {table} has {known}"),
                 id => format!("{table} has no action 0x{id:08x}; it has {known}"),
             });
         };

@@ -167,6 +167,32 @@ fn updates() {
     }
 }
 
+/// An action may be left out, and then nothing is sent of one; if it is written, it is sent.
+#[test]
+fn a_delete_needs_no_action() {
+    let text = format!(
+        "{CONFIGURE}write role 1 id 5\n delete table t priority 3 a=1\n \
+         delete table t priority 3 a=1 go(1, 2)\n delete table t priority 3 a=1 9(0x0007)"
+    );
+    let Call::Write { updates, .. } = call(&text) else {
+        panic!();
+    };
+    let key = entry("table t priority 3 a=1").key;
+    for (update, action, parameters) in [
+        (updates[0], 0, &[][..]),
+        (updates[1], 0x0100_0001, &[Value::new(1), Value::new(2)]),
+        (updates[2], 9, &[Value::from_bytes(&[0, 7]).unwrap()]),
+    ] {
+        let mut sent = [Value::default(); 4];
+        sent[..parameters.len()].copy_from_slice(parameters);
+        assert_eq!((update.kind, update.entry.key), (3, key));
+        assert_eq!(
+            (update.entry.action, update.entry.parameters),
+            (action, sent)
+        );
+    }
+}
+
 #[test]
 fn matches() {
     let slot = |kind, first, second: Option<u128>| Slot {

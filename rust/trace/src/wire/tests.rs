@@ -141,14 +141,22 @@ fn frames_are_the_wrapper_s() {
     ];
     let values = [7, 0, 1 << 100, 8].map(frame::Value::new);
     let typed = Typed::new(0x0200_0001, 5, typed_slots, 0x0100_0001, values);
-    let update = Update { kind: 2, entry };
+    let by_key = Entry {
+        action: 0,
+        parameters: [Value::default(); 4],
+        ..entry
+    };
+    let update = |kind, entry| Update { kind, entry };
     let call = Call::Write {
         head: HEAD,
         atomicity: 1,
-        updates: vec![update],
+        updates: vec![update(2, entry), update(DELETE, by_key)],
     };
-    let update = frame::Update::modify(typed);
-    let frame = frame::write(&HEAD, Atomicity::RollbackOnError, &[update]);
+    let updates = [
+        frame::Update::modify(typed),
+        frame::Update::delete(typed.key()),
+    ];
+    let frame = frame::write(&HEAD, Atomicity::RollbackOnError, &updates);
     assert_eq!(call.encode(), frame);
 }
 

@@ -42,6 +42,12 @@ const CHANGES: &[(&str, usize, &str, &str, &str)] = &[
     ("atomic-move", 7, "pairs", "type 9 table east dst=10.0.0.3 forward(port=7)  -> rolled-back (25), ABORTED (10)", "type 9 table east dst=10.0.0.3 forward(port=7)  -> bad-form (17), INVALID_ARGUMENT (3)"),
     ("atomic-move", 8, "entries", "dst=10.0.0.2 forward(port=7)\n      entry 2    table east dst=10.0.0.3", "dst=10.0.0.3 forward(port=7)\n      entry 2    table east dst=10.0.0.2"),
     ("five-events-atomic", 11, "pairs", "west dst=10.0.0.1 forward(port=8)  -> not looked at", "west dst=10.0.0.1 forward(port=8)  -> rolled-back (25), ABORTED (10)"),
+    // Those of DELETEs, by their keys alone.
+    ("clean-up", 8, "pairs", "dst=10.0.0.1                    -> done (0), OK (0)", "dst=10.0.0.1                    -> not looked at"),
+    ("clean-up", 10, "pairs", "-broken (19)", "-broken (17)"),
+    ("clean-up", 12, "pairs", "-wide (18), OUT_OF_RANGE (11)", "-form (17), INVALID_ARGUMENT (3)"),
+    ("clean-up", 12, "pairs", "dst=10.0.0.1                         -> not-stored (21)", "dst=10.0.0.1                         -> not-stored (17)"),
+    ("clean-up", 13, "pairs", "-broken (19), INVALID_ARGUMENT (3)", "-wide (18), OUT_OF_RANGE (11)"),
     // The entries.
     ("five-events", 11, "entries", "port=8", "port=7"),
     ("five-events", 11, "entries", "dst=10.0.0.1", "dst=10.0.0.2"),
