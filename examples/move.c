@@ -1,5 +1,6 @@
 /* A host that moves tenants by WRITEs of atomicity 1, which take effect as a whole or not at all: one is accepted, one rolled back, one
- * mended. It makes the calls of samples/atomic-move.txt and prints a line for each, as the program `play` does. */
+ * mended. It makes the calls of samples/atomic-move.txt, except that it deletes by key alone, and prints a line for each, as the program
+ * `play` does. */
 #include "savorylatch.h"
 
 #include <stdio.h>
@@ -9,7 +10,6 @@ static uint8_t store[SAVORYLATCH_STORE], answer[SAVORYLATCH_ANSWER], frame[SAVOR
 static size_t length;
 
 enum { OPEN = 0x01, ARBITRATE = 0x03, CONFIGURE = 0x04, WRITE = 0x05, READ = 0x06 };
-enum { INSERT = 1, MODIFY = 2, DELETE = 3 };
 enum { EAST = 0x02000001, WEST = 0x02000002, FORWARD = 0x01000001 };
 
 /* ---- making a frame */
@@ -39,12 +39,22 @@ static void start_write(uint8_t atomicity, uint8_t updates) {
     put(1, atomicity), put(1, updates);
 }
 
-/* an update: tenant 10.0.0.N of a table goes to a port */
-static void update(uint8_t type, uint32_t table, uint8_t tenant, uint8_t port) {
+/* the first part of an update: its type, and tenant 10.0.0.N of a table as its key */
+static void start_update(uint8_t type, uint32_t table, uint8_t tenant) {
     put(1, type), put(4, table), put(4, 0);
     put(1, 1), put(1, 4), put(4, 0x0a000000u + tenant), put(12, 0), put(17, 0), put(105, 0);
+}
+
+/* an update of a type: the tenant goes to a port */
+static void update(uint8_t type, uint32_t table, uint8_t tenant, uint8_t port) {
+    start_update(type, table, tenant);
     put(4, FORWARD), put(1, 1), put(1, port), put(15, 0), put(51, 0);
 }
+
+static void insert(uint32_t table, uint8_t tenant, uint8_t port) { update(SAVORYLATCH_UPDATE_INSERT, table, tenant, port); }
+
+/* a DELETE needs only the key: action and parameters are zeros */
+static void delete_key(uint32_t table, uint8_t tenant) { start_update(SAVORYLATCH_UPDATE_DELETE, table, tenant), put(72, 0); }
 
 /* ---- calling, and the answer */
 
@@ -85,18 +95,18 @@ static void before(void) {
     start(ARBITRATE), put(1, 1), head(), call();
     start(CONFIGURE), head(), put(1, 2), row(EAST, 4), row(WEST, 1), call();
     start_write(SAVORYLATCH_ATOMICITY_CONTINUE_ON_ERROR, 3);
-    for (uint8_t tenant = 1; tenant <= 3; tenant++) update(INSERT, EAST, tenant, 7);
+    for (uint8_t tenant = 1; tenant <= 3; tenant++) insert(EAST, tenant, 7);
     call();
 }
 
 /* tenant 1 moves west; then tenant 2 is to follow, but the west holds only one */
 static int moves(void) {
     start_write(SAVORYLATCH_ATOMICITY_ROLLBACK_ON_ERROR, 2);
-    update(DELETE, EAST, 1, 7), update(INSERT, WEST, 1, 8);
+    delete_key(EAST, 1), insert(WEST, 1, 8);
     int moved = call() == SAVORYLATCH_REASON_DONE;
     read_all();
     start_write(SAVORYLATCH_ATOMICITY_ROLLBACK_ON_ERROR, 4);
-    update(DELETE, EAST, 2, 7), update(MODIFY, EAST, 3, 9), update(INSERT, WEST, 2, 8), update(9, EAST, 3, 7);
+    delete_key(EAST, 2), update(SAVORYLATCH_UPDATE_MODIFY, EAST, 3, 9), insert(WEST, 2, 8), update(9, EAST, 3, 7);
     return moved && call() == SAVORYLATCH_REASON_SOME_FAILED && failed() == 3;
 }
 
@@ -104,7 +114,7 @@ static int moves(void) {
 static void mended(void) {
     read_all();
     start_write(SAVORYLATCH_ATOMICITY_ROLLBACK_ON_ERROR, 4);
-    update(DELETE, EAST, 2, 7), update(DELETE, WEST, 1, 8), update(INSERT, WEST, 2, 8), update(INSERT, EAST, 1, 7);
+    delete_key(EAST, 2), delete_key(WEST, 1), insert(WEST, 2, 8), insert(EAST, 1, 7);
     call();
     read_all();
 }
@@ -117,6 +127,6 @@ int main(void) {
     start_write(SAVORYLATCH_ATOMICITY_ROLLBACK_ON_ERROR, 0);
     call();
     start_write(SAVORYLATCH_ATOMICITY_DATAPLANE_ATOMIC, 1);
-    update(DELETE, EAST, 3, 7);
+    delete_key(EAST, 3);
     return call() != SAVORYLATCH_REASON_ATOMICITY;
 }

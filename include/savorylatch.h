@@ -142,6 +142,13 @@ SAVORYLATCH_FIELD(savorylatch_agent, count, 1456, 8);
 
 /* ---- what is sent */
 
+/* The type of an update, byte 0 of its 221. The others are an entry: table 4, key 144, action 4, parameters 68. */
+enum savorylatch_update {
+    SAVORYLATCH_UPDATE_INSERT = 1,
+    SAVORYLATCH_UPDATE_MODIFY = 2,
+    SAVORYLATCH_UPDATE_DELETE = 3 /* needs only table and key: action and parameters, 72 bytes, are not looked at, and may be zeros */
+};
+
 /* The atomicity of a WRITE, byte 27 of its frame: whether its updates take effect alone or together. The names are P4Runtime's. */
 enum savorylatch_atomicity {
     SAVORYLATCH_ATOMICITY_CONTINUE_ON_ERROR = 0, /* each update succeeds or fails alone */
@@ -174,8 +181,8 @@ enum savorylatch_reason {
     /* the maker of an update, or of a READ's key */
     SAVORYLATCH_REASON_NO_SUCH_TABLE = 15, /* unknown table (5) */
     SAVORYLATCH_REASON_NOT_THE_ROLES = 16, /* a table that is not the role's (7) */
-    SAVORYLATCH_REASON_BAD_FORM = 17,      /* an update, slot, value or action that is not well formed (3) */
-    SAVORYLATCH_REASON_TOO_WIDE = 18,      /* a value, other than a prefix length, not below 2 to its width (11) */
+    SAVORYLATCH_REASON_BAD_FORM = 17,      /* an update, slot, value or action that is not well formed; no action of a DELETE (3) */
+    SAVORYLATCH_REASON_TOO_WIDE = 18,      /* a value, other than a prefix length, not below 2 to its width; no parameter of a DELETE (11) */
     SAVORYLATCH_REASON_RULE_BROKEN = 19,   /* a rule of the kinds or of the priority broken (3) */
     SAVORYLATCH_REASON_STORED = 20,        /* INSERT while a stored entry has the key (6) */
     SAVORYLATCH_REASON_NOT_STORED = 21,    /* MODIFY or DELETE while no stored entry has the key (5) */

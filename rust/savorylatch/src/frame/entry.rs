@@ -481,6 +481,20 @@ mod tests {
     }
 
     #[test]
+    fn types_are_the_header_s() {
+        let header = include_str!("../../../../include/savorylatch.h");
+        for (name, kind) in [
+            ("INSERT", UpdateKind::Insert),
+            ("MODIFY", UpdateKind::Modify),
+            ("DELETE", UpdateKind::Delete),
+        ] {
+            let line = format!("SAVORYLATCH_UPDATE_{name} = {}", kind as u8);
+            let ends = [",", " "].map(|end| header.contains(&(line.clone() + end)));
+            assert!(ends.contains(&true), "{line}");
+        }
+    }
+
+    #[test]
     fn values_in_shortest_form() {
         for (number, bytes) in [
             (0, &[0][..]),
