@@ -181,8 +181,8 @@ enum savorylatch_reason {
     /* the maker of an update, or of a READ's key */
     SAVORYLATCH_REASON_NO_SUCH_TABLE = 15, /* unknown table (5) */
     SAVORYLATCH_REASON_NOT_THE_ROLES = 16, /* a table that is not the role's (7) */
-    SAVORYLATCH_REASON_BAD_FORM = 17,      /* an update, slot, value or action that is not well formed; no action of a DELETE (3) */
-    SAVORYLATCH_REASON_TOO_WIDE = 18,      /* a value, other than a prefix length, not below 2 to its width; no parameter of a DELETE (11) */
+    SAVORYLATCH_REASON_BAD_FORM = 17,      /* an update, slot, value or action that is not well formed; never the action of a DELETE (3) */
+    SAVORYLATCH_REASON_TOO_WIDE = 18,      /* a value, other than a prefix length, not below 2 to its width; never a parameter of a DELETE (11) */
     SAVORYLATCH_REASON_RULE_BROKEN = 19,   /* a rule of the kinds or of the priority broken (3) */
     SAVORYLATCH_REASON_STORED = 20,        /* INSERT while a stored entry has the key (6) */
     SAVORYLATCH_REASON_NOT_STORED = 21,    /* MODIFY or DELETE while no stored entry has the key (5) */
