@@ -97,8 +97,8 @@ impl Entry {
     }
 }
 
-/// The key of an entry: what a table has at most one entry of, and all that a DELETE or a READ of
-/// one entry needs.
+/// The key of an entry. No two entries have the same, so it is all that a DELETE, or a READ of one
+/// entry, needs.
 ///
 /// ```
 /// use savorylatch::frame::{Entry, Key, Slot, Value};
@@ -141,7 +141,7 @@ impl Key {
 pub struct Update {
     /// What is done.
     pub kind: UpdateKind,
-    /// With which entry. Of a DELETE's only the key is looked at.
+    /// With which entry; of a DELETE only its key is looked at.
     pub entry: Entry,
 }
 
@@ -173,7 +173,7 @@ impl Update {
     /// DELETE of the entry that has the key. No action goes with it: its 72 bytes in the frame are
     /// zeros, and the agent does not look at them. The key is checked as that of any entry.
     ///
-    /// Here a controller deletes all that it reads, and then once more:
+    /// Here a controller deletes all that it reads, and then tries once more:
     ///
     /// ```
     /// # use savorylatch::frame::{Action, Field, Kind, Query, Row, Value, Wanted};
