@@ -2,7 +2,8 @@
 //!
 //! The three are judged over a whole update one after the other, so each is a
 //! pass of its own. The first pass turns raw bytes into numbers; from there on
-//! padding is gone and equal numbers are equal.
+//! padding is gone and equal numbers are equal. An INSERT or a MODIFY is judged
+//! as a whole ([`judge`]), of a DELETE and of a READ the key ([`Key::judge`]).
 
 use crate::frame::{is_zero, KEY};
 use crate::reason::Reason;
@@ -90,7 +91,8 @@ impl Key {
         check_priority(row, self.priority)
     }
 
-    /// 17, 18 and 19 on a key that stands alone, as in a READ.
+    /// 17, 18 and 19 on a key of which nothing else is looked at: that of a
+    /// READ or of a DELETE.
     pub fn judge(row: &Row, bytes: &[u8; KEY]) -> Result<Key, Reason> {
         let key = Key::read(row, bytes)?;
         key.check_widths(row)?;
@@ -143,7 +145,8 @@ impl Deed {
     }
 }
 
-/// 17, then 18, then 19 over the whole of an entry.
+/// 17, then 18, then 19 over the whole of an entry, as INSERT and MODIFY have
+/// it.
 pub fn judge(row: &Row, bytes: &[u8; ENTRY]) -> Result<(Key, Deed), Reason> {
     let key = Key::read(row, key_of(bytes))?;
     let deed = Deed::read(row, &bytes[ACTION_AT..PARAMS_AT], &bytes[PARAMS_AT..])?;
@@ -158,7 +161,8 @@ pub fn table_of(bytes: &[u8; ENTRY]) -> u32 {
     read_u32(&bytes[..4])
 }
 
-fn key_of(bytes: &[u8; ENTRY]) -> &[u8; KEY] {
+/// The bytes of an entry's key.
+pub fn key_of(bytes: &[u8; ENTRY]) -> &[u8; KEY] {
     bytes[4..].first_chunk().expect("a key follows the table")
 }
 

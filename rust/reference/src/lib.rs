@@ -1,7 +1,7 @@
 //! The hall switch agent, a second time.
 //!
-//! A second implementation of document 01 and of request Two of document 02,
-//! for comparison with the proved one.
+//! A second implementation of document 01 and of requests One and Two of
+//! document 02, for comparison with the proved one.
 //! It shares nothing with that: types, layout and control flow are its own.
 //!
 //! Two evaluations of the same rules live side by side here:

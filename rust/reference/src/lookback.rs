@@ -1,8 +1,9 @@
 //! Looking back: what every call must answer, told from the calls before it.
 //!
 //! [`Past`] judges a list of calls the way document 01's "Looking back" words
-//! it, and request Two of document 02 for batches that roll back. It keeps two
-//! logs, both oldest first:
+//! it, request One of document 02 for what is looked at of a DELETE, and
+//! request Two for batches that roll back. It keeps two logs, both oldest
+//! first:
 //!
 //! * what happened to streams: opened, closed, an ARBITRATE accepted;
 //! * what happened to entries: inserted, modified, deleted, all cleared.
@@ -451,32 +452,34 @@ impl Past {
         if !(1..=3).contains(&kind) {
             return Err(17);
         }
-        let row = self.row_for(role, &entry[..4])?;
-        let (key, deed) = (&entry[4..148], &entry[148..220]);
-        if key_has_wrong_form(&row, key) || deed_has_wrong_form(&row, deed) {
+        let (table, key) = (&entry[..4], &entry[4..148]);
+        let row = self.row_for(role, table)?;
+        // Request One: the bytes after the key of a DELETE are not looked at.
+        let deed = (kind != 3).then_some(&entry[148..220]);
+        if key_has_wrong_form(&row, key) || deed.is_some_and(|deed| deed_has_wrong_form(&row, deed))
+        {
             return Err(17);
         }
-        if key_is_too_wide(&row, key) || deed_is_too_wide(&row, deed) {
+        if key_is_too_wide(&row, key) || deed.is_some_and(|deed| deed_is_too_wide(&row, deed)) {
             return Err(18);
         }
         if key_breaks_rule(&row, key) {
             return Err(19);
         }
-        let full_name = shortened_name(&entry[..4], key);
-        let deed = shortened_deed(deed);
+        let full_name = shortened_name(table, key);
         let present = self.is_present(supposed, &full_name);
         match kind {
             1 if present => return Err(20),
-            1 if self.present_in(supposed, &entry[..4]).len() >= size(&row) => return Err(22),
+            1 if self.present_in(supposed, table).len() >= size(&row) => return Err(22),
             1 if self.present(supposed).len() >= 256 => return Err(24),
             2 | 3 if !present => return Err(21),
             _ => {}
         }
         let name = self.names.number(full_name);
-        Ok(match kind {
-            1 => Effect::Inserted { name, deed },
-            2 => Effect::Modified { name, deed },
-            _ => Effect::Deleted { name },
+        Ok(match deed.map(shortened_deed) {
+            None => Effect::Deleted { name },
+            Some(deed) if kind == 1 => Effect::Inserted { name, deed },
+            Some(deed) => Effect::Modified { name, deed },
         })
     }
 

@@ -131,6 +131,9 @@ impl Tables {
 
     /// Carries out one update for a role, or says why not. The order: 17 for
     /// the type, 15, 16, 17, 18, 19, then 20, 22, 24 or 21.
+    ///
+    /// INSERT and MODIFY are checked as whole entries. Of a DELETE nothing is
+    /// looked at but table and key (document 02, request One).
     pub fn update(&mut self, role: u8, update: &[u8; UPDATE]) -> Result<(), Reason> {
         let stored = self.stored();
         let change = Change::read(update[0])?;
@@ -140,15 +143,21 @@ impl Tables {
         let number = self.next_number;
         let at = self.find(role, entry::table_of(bytes))?;
         let table = &mut self.tables[at];
-        let (key, deed) = entry::judge(&table.row, bytes)?;
         match change {
             Change::Insert => {
+                let (key, deed) = entry::judge(&table.row, bytes)?;
                 table.insert(key, &deed, number, stored)?;
                 self.next_number += 1;
                 Ok(())
             }
-            Change::Modify => table.modify(&key, &deed),
-            Change::Delete => table.delete(&key),
+            Change::Modify => {
+                let (key, deed) = entry::judge(&table.row, bytes)?;
+                table.modify(&key, &deed)
+            }
+            Change::Delete => {
+                let key = Key::judge(&table.row, entry::key_of(bytes))?;
+                table.delete(&key)
+            }
         }
     }
 

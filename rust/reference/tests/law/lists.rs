@@ -31,6 +31,30 @@ fn agent_and_past_agree_on_random_lists() {
     assert_eq!(seen, (0..=25).filter(|&reason| reason != 24).collect());
 }
 
+/// Document 02, request One: a list and the same list with other bytes after
+/// the keys of its DELETEs are answered alike.
+#[test]
+fn bytes_after_the_key_of_a_delete_change_no_answer() {
+    let mut deleted = 0;
+    for seed in 1..=150 {
+        let mut player = Player::new(seed);
+        let (mut bench, mut again) = (Bench::fresh(), Bench::fresh());
+        let mut frames = player.opening();
+        frames.extend((0..60).map(|at| match at % 4 {
+            0 => player.read(),
+            _ => player.write(),
+        }));
+        for frame in frames {
+            let outcome = bench.call(&frame);
+            let (other, deletes) = player.with_other_bytes(&frame);
+            assert_eq!(again.call(&other), outcome);
+            let effects = deletes.iter().filter_map(|&at| outcome.effects.get(at));
+            deleted += effects.filter(|&&took_effect| took_effect).count();
+        }
+    }
+    assert!(deleted >= 100, "{deleted} DELETEs took effect");
+}
+
 /// A xorshift generator; the seed must not be 0.
 struct Dice(u64);
 
@@ -55,6 +79,10 @@ impl Dice {
         from[self.below(from.len())]
     }
 }
+
+/// Where the updates are in a WRITE, and in an update its action.
+const UPDATES_AT: usize = 29;
+const REST_AT: usize = 149;
 
 /// Makes frames, remembering what it sent so that later ones refer to it.
 struct Player {
@@ -222,10 +250,37 @@ impl Player {
         self.pad(&mut entry);
         let kind = self.dice.pick(&[1, 1, 1, 1, 2, 2, 3, 3]);
         let mut bytes = Update { kind, entry }.bytes();
+        if kind == 3 && self.dice.once_in(2) {
+            self.litter(&mut bytes[REST_AT..]);
+        }
         if self.dice.once_in(12) {
             self.spoil_byte(&mut bytes);
         }
         bytes
+    }
+
+    /// Fills the bytes after a key with anything.
+    fn litter(&mut self, rest: &mut [u8]) {
+        match self.dice.below(3) {
+            0 => rest.fill(0),
+            1 => rest.fill(0xff),
+            _ => rest.fill_with(|| self.dice.next() as u8),
+        }
+    }
+
+    /// The frame with other bytes after the keys of its DELETEs, and which of
+    /// its updates these are.
+    fn with_other_bytes(&mut self, frame: &[u8]) -> (Vec<u8>, Vec<usize>) {
+        let mut frame = frame.to_vec();
+        let mut deletes = Vec::new();
+        if frame.len() > UPDATES_AT && frame[0] == 5 {
+            let updates = frame[UPDATES_AT..].chunks_exact_mut(221).enumerate();
+            for (at, update) in updates.filter(|(_, update)| update[0] == 3) {
+                self.litter(&mut update[REST_AT..]);
+                deletes.push(at);
+            }
+        }
+        (frame, deletes)
     }
 
     fn read(&mut self) -> Vec<u8> {

@@ -1,9 +1,10 @@
-//! Document 01, and request Two of document 02, as tests. Expected answers are
-//! written out from the text; every call is played to the agent and to the
-//! look-back evaluator alike.
+//! Document 01, and requests One and Two of document 02, as tests. Expected
+//! answers are written out from the text; every call is played to the agent and
+//! to the look-back evaluator alike.
 
 mod bench_cases;
 mod configuration;
+mod deletes;
 mod forms;
 mod frames;
 mod lists;

@@ -119,7 +119,7 @@ fn modify_and_delete_of_no_entry_are_21() {
 }
 
 #[test]
-fn all_three_are_checked_as_whole_entries() {
+fn insert_and_modify_are_checked_as_whole_entries() {
     let mut bench = Bench::configured(&[plain_row(FIRST, 0, 4)]);
     bench.takes(plain(FIRST, 1, 1));
     let mut no_action = plain(FIRST, 1, 1);
@@ -127,15 +127,19 @@ fn all_three_are_checked_as_whole_entries() {
     let mut no_param = plain(FIRST, 1, 1);
     no_param.params[0] = Value::NONE;
     let wide = plain(FIRST, 1, 0x1_0000);
-    for update in [Update::insert, Update::modify, Update::delete] {
+    for update in [Update::insert, Update::modify] {
         bench.writes(
             &[update(no_action), update(no_param), update(wide)],
             (23, 2),
             &[(17, 3), (17, 3), (18, 11)],
         );
     }
-    // Other values of good form do not matter to a DELETE.
-    bench.writes(&[Update::delete(plain(FIRST, 1, 9))], (0, 0), &[(0, 0)]);
+    // Of a DELETE table and key alone: the first of them finds the entry.
+    bench.writes(
+        &[no_action, no_param, wide].map(Update::delete),
+        (23, 2),
+        &[(0, 0), (21, 5), (21, 5)],
+    );
 }
 
 #[test]
