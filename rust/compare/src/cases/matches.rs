@@ -251,14 +251,14 @@ fn action_params() -> Case {
         .inserts(nhop(&[port, mac, spelt]))
         .shows(read_one(DEVICE, 0, TABLE, key(0, ten)), &[good])
         .fails(&[Update::modify(made(ten, 0, &[]))], &[[17, 3]])
-        .fails(&[Update::delete(made(ten, FOREIGN, &[]))], &[[17, 3]])
-        .fails(&[Update::delete(made(ten, 0, &[]))], &[[17, 3]])
-        .fails(&[Update::delete(nhop(&[wide_port, mac, mac]))], &[[18, 11]])
+        .fails(&[Update::modify(made(ten, FOREIGN, &[]))], &[[17, 3]])
+        .fails(&[Update::modify(nhop(&[wide_port, mac, mac]))], &[[18, 11]])
         .shows(read_all(DEVICE, 0, TABLE), &[good])
         .takes(&[Update::modify(good)])
         .takes(&[Update::modify(drop)])
         .shows(read_all(DEVICE, 0, TABLE), &[drop])
-        .takes(&[Update::delete(nhop(&[port, mac, mac]))])
+        // Of a DELETE they are not looked at (document 02, request One).
+        .takes(&[Update::delete(made(ten, FOREIGN, &[wide_port]))])
         .fails(&[Update::modify(drop)], &[[21, 5]])
         .fails(&[Update::delete(drop)], &[[21, 5]])
         .fails(
