@@ -9,6 +9,7 @@ use reference::Expected;
 use crate::again::Reads;
 use crate::describe::hex;
 use crate::dice::noise;
+use crate::twice::{Library, Twin};
 
 /// The least bytes an answer buffer must hold.
 pub const ANSWER_ROOM: usize = 57_344;
@@ -171,6 +172,8 @@ pub struct Seen<'a> {
     pub answer: &'a [u8],
     /// Is it a READ that was made before a batch that was rolled back too?
     pub after_rollback: bool,
+    /// Was it played again with other bytes after the keys of DELETEs?
+    pub twice: bool,
 }
 
 /// The library beside the two that it is compared with.
@@ -179,6 +182,7 @@ pub struct Bench<S, L> {
     second: S,
     past: L,
     reads: Reads,
+    twin: Twin<Library>,
     store: Vec<u8>,
     /// The store as the last call found it.
     before: Vec<u8>,
@@ -197,6 +201,7 @@ impl<S: Second, L: LookBack> Bench<S, L> {
             second: S::fresh(device),
             past: L::fresh(device),
             reads: Reads::default(),
+            twin: Twin::new(device),
             before: store.clone(),
             store,
             used: 0,
@@ -233,32 +238,10 @@ impl<S: Second, L: LookBack> Bench<S, L> {
         let expected = self.past.expect(&call.frame, call.is_roomy());
 
         let image = expected.accepted.then(|| self.past.store_image());
-        let verdict = self.agrees_with_second(returned, second).and_then(|kept| {
-            if !L::JUDGES {
-                return Ok(());
-            }
-            self.agrees_with_past(returned, &expected, fill)?;
-            match &image {
-                Some(image) if image.len() != kept || !self.store.starts_with(image) => {
-                    Err("library and looking back: the entries kept differ".to_owned())
-                }
-                _ => Ok(()),
-            }
-        });
-        let verdict = verdict.and_then(|()| {
-            let answer = &self.answer[..expected.answer.len()];
-            self.reads.note(&call.frame, answer)
-        });
-        let after_rollback = verdict.map_err(|text| {
-            Difference(format!(
-                "{text}\n  library:               returned {returned}, answer {}\n  \
-                 second implementation: returned {second}, answer {}\n  \
-                 looking back:          returned {}, answer {}",
-                shown(written(&self.answer, fill)),
-                shown(written(&self.other, fill)),
-                expected.reason,
-                shown(&expected.answer),
-            ))
+        let verdict = self.verdict(call, returned, second, &expected, image.as_deref());
+        let (after_rollback, twice) = verdict.map_err(|text| {
+            let answers = [&self.answer, &self.other].map(|answer| written(answer, fill));
+            difference(&text, [returned, second], answers, &expected)
         })?;
         if let Some(image) = image {
             self.used = image.len();
@@ -268,7 +251,34 @@ impl<S: Second, L: LookBack> Bench<S, L> {
             reason: returned,
             answer: &self.answer[..expected.answer.len()],
             after_rollback,
+            twice,
         })
+    }
+
+    /// Compares all that a call leaves behind. Gives what [`Seen`] says of it
+    /// beside reason and answer.
+    fn verdict(
+        &mut self,
+        call: &Call,
+        returned: u8,
+        second: u8,
+        expected: &Expected,
+        image: Option<&[u8]>,
+    ) -> Result<(bool, bool), String> {
+        let kept = self.agrees_with_second(returned, second)?;
+        if L::JUDGES {
+            self.agrees_with_past(returned, expected, noise(call.fill, call.answer_len))?;
+            if image.is_some_and(|image| image.len() != kept || !self.store.starts_with(image)) {
+                return Err("library and looking back: the entries kept differ".to_owned());
+            }
+        }
+        let answer = &self.answer[..expected.answer.len()];
+        let after_rollback = self.reads.note(&call.frame, answer)?;
+        let twice = self.twin.call(call, returned, &self.answer)?;
+        if image.is_some_and(|image| !self.twin.keeps(image)) {
+            return Err("the list played twice: the entries kept differ".to_owned());
+        }
+        Ok((after_rollback, twice))
     }
 
     /// Gives the bytes of the entries that the second implementation keeps.
@@ -355,6 +365,25 @@ impl<S: Second, L: LookBack> Bench<S, L> {
         }
         self.before[..end].copy_from_slice(&self.store[..end]);
     }
+}
+
+/// A difference, with what the library and the second implementation returned
+/// and answered, and with what looking back expects.
+fn difference(
+    text: &str,
+    [returned, second]: [u8; 2],
+    [answer, other]: [&[u8]; 2],
+    expected: &Expected,
+) -> Difference {
+    Difference(format!(
+        "{text}\n  library:               returned {returned}, answer {}\n  \
+         second implementation: returned {second}, answer {}\n  \
+         looking back:          returned {}, answer {}",
+        shown(answer),
+        shown(other),
+        expected.reason,
+        shown(&expected.answer),
+    ))
 }
 
 /// Where two slices differ first; the end of the shorter one counts.

@@ -9,10 +9,11 @@
 //! that a refused call changes nothing.
 //!
 //! Reading order: [`bench`] (one call to all three), [`again`] (READs before
-//! and after a batch that was rolled back), [`cases`] (by hand), [`lists`] (at
-//! random), [`tally`] (what has to be met), [`shrink`] (the shortest list that
-//! shows a difference), [`faults`] (that the comparison can fail), [`play`]
-//! (the program), [`report`] (what is printed).
+//! and after a batch that was rolled back), [`twice`] (lists with other bytes
+//! after the keys of their DELETEs), [`cases`] (by hand), [`lists`] (at random),
+//! [`tally`] (what has to be met), [`shrink`] (the shortest list that shows a
+//! difference), [`faults`] (that the comparison can fail), [`play`] (the
+//! program), [`report`] (what is printed).
 
 #![forbid(unsafe_code)]
 
@@ -31,6 +32,7 @@ mod shrink;
 mod tally;
 #[cfg(test)]
 mod tests;
+mod twice;
 
 use std::io::{self, Write};
 use std::process::ExitCode;

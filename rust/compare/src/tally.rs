@@ -1,5 +1,6 @@
 //! What a run has met, and whether that is all that can be met.
 
+mod after_key;
 mod atomic;
 
 use std::collections::BTreeMap;
@@ -40,8 +41,9 @@ const OF_BATCHES: &[u8] = &[15, 16, 17, 18, 19, 20, 21, 22];
 
 const TYPES: [&str; 4] = ["other", "INSERT", "MODIFY", "DELETE"];
 
-/// Situations that a run has to come by, beside those of [`atomic::SIGHTS`].
-const SIGHTS: [&str; 22] = [
+/// Situations that a run has to come by, beside those of [`atomic::SIGHTS`] and
+/// [`after_key::cells`].
+const SIGHTS: [&str; 25] = [
     "status 0",
     "status 5",
     "status 6",
@@ -64,6 +66,9 @@ const SIGHTS: [&str; 22] = [
     "a READ of a key that is absent",
     "free bytes overwritten",
     "a READ of entries before and after a rollback",
+    "a DELETE done twice, with other bytes after its key",
+    "a DELETE failed twice, with other bytes after its key",
+    "a DELETE rolled back or not tried twice, with other bytes after its key",
 ];
 
 /// Counts of all that was met.
@@ -74,6 +79,7 @@ pub struct Tally {
     of_calls: [[u64; REASONS]; 7],
     of_updates: [[u64; REASONS]; 4],
     of_batches: [u64; REASONS],
+    after_keys: after_key::Counts,
     ways: BTreeMap<(u8, &'static str), u64>,
     sights: BTreeMap<&'static str, u64>,
 }
@@ -106,12 +112,10 @@ impl Tally {
         }
     }
 
-    /// A batch with atomicity 1 that was accepted.
+    /// A batch that was accepted.
     fn look_at_batch(&mut self, view: &View, frame: &Frame, seen: &Seen<'_>, aims: &[Aim]) {
         let Frame::Write {
-            atomicity: 1,
-            updates,
-            ..
+            atomicity, updates, ..
         } = frame
         else {
             return;
@@ -120,11 +124,22 @@ impl Tally {
             return;
         }
         let reasons: Vec<u8> = seen.answer[4..].iter().step_by(2).copied().collect();
-        if let Some(reason) = atomic::ended_by(&reasons) {
-            add(&mut self.of_batches, reason);
+        for (update, &reason) in updates.iter().zip(&reasons) {
+            let kind = usize::from(update.kind);
+            let kind = if kind < TYPES.len() { kind } else { 0 };
+            add(&mut self.of_updates[kind], reason);
+            if seen.twice && update.kind == 3 {
+                self.see(played_twice(reason));
+            }
         }
-        for sight in atomic::sights(view, updates, &reasons, aims) {
-            self.see(sight);
+        self.after_keys.count(view, *atomicity, updates, &reasons);
+        if *atomicity == 1 {
+            if let Some(reason) = atomic::ended_by(&reasons) {
+                add(&mut self.of_batches, reason);
+            }
+            for sight in atomic::sights(view, updates, &reasons, aims) {
+                self.see(sight);
+            }
         }
     }
 
@@ -167,20 +182,11 @@ impl Tally {
                     self.see("13 without updates");
                 }
             }
-            Frame::Write { updates, .. } if is_done(seen.reason) => {
-                match updates.len() {
-                    0 => self.see("no update"),
-                    64 => self.see("64 updates"),
-                    _ => {}
-                }
-                for (at, update) in updates.iter().enumerate() {
-                    let kind = usize::from(update.kind);
-                    let kind = if kind < TYPES.len() { kind } else { 0 };
-                    if let Some(reason) = pair(seen, at) {
-                        add(&mut self.of_updates[kind], reason);
-                    }
-                }
-            }
+            Frame::Write { updates, .. } if is_done(seen.reason) => match updates.len() {
+                0 => self.see("no update"),
+                64 => self.see("64 updates"),
+                _ => {}
+            },
             Frame::Read { only, .. } if seen.reason == 0 => {
                 if view.entries.len() == 256 {
                     self.see("a store of 256 entries");
@@ -251,7 +257,18 @@ impl Tally {
                 missing.push(sight.to_owned());
             }
         }
+        let cells = after_key::cells().filter(|&cell| self.after_keys.of(cell) == 0);
+        missing.extend(cells.map(|cell| cell.to_string()));
         missing
+    }
+}
+
+/// The situation of a DELETE that is played twice.
+fn played_twice(reason: u8) -> &'static str {
+    match reason {
+        0 => "a DELETE done twice, with other bytes after its key",
+        25 => "a DELETE rolled back or not tried twice, with other bytes after its key",
+        _ => "a DELETE failed twice, with other bytes after its key",
     }
 }
 
@@ -298,16 +315,20 @@ impl fmt::Display for Tally {
             }
             writeln!(f)?;
         }
+        writeln!(f, "\n{}\n", self.after_keys)?;
         let met = |count: Option<&u64>| count.copied().unwrap_or(0);
-        let rarest_way = ways::all().map(|way| met(self.ways.get(&way))).min();
-        let rarest_sight = all_sights().map(|sight| met(self.sights.get(sight))).min();
+        let ways: Vec<u64> = ways::all().map(|way| met(self.ways.get(&way))).collect();
+        let sights = all_sights().map(|sight| met(self.sights.get(sight)));
+        let cells = after_key::cells().map(|cell| self.after_keys.of(cell));
+        let situations: Vec<u64> = sights.chain(cells).collect();
+        let rarest = |counts: &[u64]| counts.iter().min().copied().unwrap_or(0);
         write!(
             f,
             "{} ways to go wrong, each met {} times or more; {} situations, each {} times or more",
-            ways::all().count(),
-            rarest_way.unwrap_or(0),
-            all_sights().count(),
-            rarest_sight.unwrap_or(0),
+            ways.len(),
+            rarest(&ways),
+            situations.len(),
+            rarest(&situations),
         )
     }
 }

@@ -53,6 +53,7 @@ impl Maker {
         }
         let at = plan.updates.len();
         let failing = self.failing(view, role, &plan, aims);
+        let failing = self.littered(view, failing);
         plan.updates.push(failing);
         plan.fails_at = Some(at);
         let after = match self.dice.below(40) {
@@ -103,12 +104,13 @@ impl Maker {
             if self.dice.percent(30) {
                 entries::pad(&mut self.dice, &mut entry);
             }
-            plan.updates.push(Update { kind, entry });
+            let update = self.littered(view, Update { kind, entry });
+            plan.updates.push(update);
         }
     }
 
     /// A row that the role may write.
-    fn own_row(&mut self, view: &View, role: u8) -> Option<Row> {
+    pub(super) fn own_row(&mut self, view: &View, role: u8) -> Option<Row> {
         let own = view.rows.iter();
         let own: Vec<&Row> = own.filter(|row| role == 0 || row.owner == role).collect();
         self.dice.choose(&own).map(|row| **row)
@@ -122,8 +124,7 @@ impl Maker {
             return self.update(view, role, at, aims);
         };
         let fresh = entries::entry(&mut self.dice, &row, Spread::Wide);
-        let touched = self.dice.choose(&plan.updates);
-        let touched = touched.map_or(fresh, |update| short_entry(update.entry));
+        let touched = self.touched(view, plan).unwrap_or(fresh);
         let others = self.others_row(view, role);
         match (self.dice.below(10), others) {
             // There already, or not there: often by what the plan did.
@@ -144,13 +145,20 @@ impl Maker {
             _ => {
                 let kind = self.dice.between(1, 3) as u8;
                 let entry = if plan.has(&touched) { touched } else { fresh };
-                self.spoilt(&row, Update { kind, entry }, at, aims)
+                self.spoilt(view, Update { kind, entry }, at, aims)
             }
         }
     }
 
+    /// An entry of a key that the plan has changed, with an action of its row.
+    fn touched(&mut self, view: &View, plan: &Plan) -> Option<Entry> {
+        let mut entry = short_entry(self.dice.choose(&plan.updates)?.entry);
+        entries::act(&mut self.dice, view.row(entry.table)?, &mut entry);
+        Some(entry)
+    }
+
     /// A row that the role may not write.
-    fn others_row(&mut self, view: &View, role: u8) -> Option<Row> {
+    pub(super) fn others_row(&mut self, view: &View, role: u8) -> Option<Row> {
         let others = view.rows.iter();
         let others: Vec<&Row> = others
             .filter(|row| role != 0 && row.owner != role)
@@ -175,25 +183,22 @@ impl Maker {
         match self.dice.below(10) {
             0 => self.mistype(&mut update, at, aims),
             1 => update.entry.table = self.unknown_table(update.entry.table),
-            2..=4 => {
-                if let Some(&row) = view.row(update.entry.table) {
-                    update = self.spoilt(&row, update, at, aims);
-                }
-            }
+            2..=4 => update = self.spoilt(view, update, at, aims),
             _ => {}
         }
         update
     }
 
-    /// The update with one rule of its entry broken.
-    fn spoilt(&mut self, row: &Row, update: Update, at: usize, aims: &mut Vec<Aim>) -> Update {
+    /// The update with one rule of its entry broken; as it is where its table is
+    /// unknown.
+    fn spoilt(&mut self, view: &View, update: Update, at: usize, aims: &mut Vec<Aim>) -> Update {
         let Update { kind, mut entry } = update;
+        let Some(&row) = view.row(entry.table) else {
+            return update;
+        };
         aims.retain(|aim| aim.update != Some(at));
-        let aim = self.spoil(row, &mut entry, |_| true);
-        aims.extend(aim.map(|aim| Aim {
-            update: Some(at),
-            ..aim
-        }));
+        let aim = self.spoil_for(view, kind, &row, &mut entry);
+        aims.extend(aim.map(|aim| aim.of(at)));
         Update { kind, entry }
     }
 }

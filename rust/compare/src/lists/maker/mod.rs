@@ -6,6 +6,7 @@
 //! primary, no rows), calls that get it going again are the more likely.
 
 mod atomic;
+mod deletes;
 mod frames;
 mod stories;
 mod streams;
@@ -27,6 +28,16 @@ pub struct Aim {
     pub name: &'static str,
     /// The update it is about; the call itself without one.
     pub update: Option<usize>,
+}
+
+impl Aim {
+    /// The same, of an update.
+    fn of(self, at: usize) -> Aim {
+        Aim {
+            update: Some(at),
+            ..self
+        }
+    }
 }
 
 /// A call and what it was made to meet.

@@ -129,6 +129,9 @@ impl Maker {
         if !view.rows.is_empty() && self.dice.percent(atomic) {
             return self.atomic(view, aims);
         }
+        if !view.rows.is_empty() && !filling && self.dice.percent(15) {
+            return self.clean_up(view, aims);
+        }
         let head = self.speaker(view);
         let plain = if view.rows.is_empty() { 4 } else { 40 };
         let atomicity = match self.dice.below(plain) {
@@ -170,25 +173,21 @@ impl Maker {
         let row = self.row(view, role);
         let mut entry = self.entry(view, &row);
         let kind = self.kind(view, &entry);
-        let wrong = self.dice.percent(16);
-        if wrong {
-            let aim = self.spoil(&row, &mut entry, |_| true);
-            aims.extend(aim.map(|aim| Aim {
-                update: Some(at),
-                ..aim
-            }));
+        if self.dice.percent(16) {
+            let aim = self.spoil_for(view, kind, &row, &mut entry);
+            aims.extend(aim.map(|aim| aim.of(at)));
             // Two at once: the order of refusals shows.
             if self.dice.percent(25) {
-                self.spoil(&row, &mut entry, |_| true);
+                self.spoil_for(view, kind, &row, &mut entry);
                 aims.retain(|aim| aim.update != Some(at));
             }
         } else {
             self.remember(entry);
+            if self.dice.percent(40) {
+                entries::pad(&mut self.dice, &mut entry);
+            }
         }
-        if self.dice.percent(40) && !wrong {
-            entries::pad(&mut self.dice, &mut entry);
-        }
-        let mut update = Update { kind, entry };
+        let mut update = self.littered(view, Update { kind, entry });
         match self.dice.below(40) {
             0 => self.mistype(&mut update, at, aims),
             1 => update.entry.table = self.unknown_table(update.entry.table),
@@ -279,6 +278,24 @@ impl Maker {
         self.recent.push_back(entry);
     }
 
+    /// Breaks one rule of an update's entry, if one is found that applies. Of a
+    /// DELETE only the key has rules.
+    pub(super) fn spoil_for(
+        &mut self,
+        view: &View,
+        kind: u8,
+        row: &Row,
+        entry: &mut Entry,
+    ) -> Option<Aim> {
+        if kind == 3 {
+            return self.spoil(row, entry, EntryWay::is_of_key);
+        }
+        if self.dice.percent(5) && self.borrow_action(view, row, entry) {
+            return None;
+        }
+        self.spoil(row, entry, |_| true)
+    }
+
     /// Breaks one rule of an entry, if one is found that applies.
     pub(super) fn spoil(
         &mut self,
@@ -286,11 +303,9 @@ impl Maker {
         entry: &mut Entry,
         wanted: impl Fn(&EntryWay) -> bool,
     ) -> Option<Aim> {
+        let wanted: Vec<&EntryWay> = ENTRY_WAYS.iter().filter(|way| wanted(way)).collect();
         for _ in 0..12 {
-            let way = &ENTRY_WAYS[self.dice.below(ENTRY_WAYS.len())];
-            if !wanted(way) {
-                continue;
-            }
+            let way = self.dice.choose(&wanted)?;
             if let Some(spoilt) = way.spoil(&mut self.dice, row, entry) {
                 *entry = spoilt;
                 return Some(Aim {

@@ -30,7 +30,8 @@ enum Change {
 }
 
 impl EntryWay {
-    /// Is it about the key, so that a READ can go wrong in the same way?
+    /// Is it about the key, so that a DELETE or a READ can go wrong in the same
+    /// way?
     pub fn is_of_key(&self) -> bool {
         matches!(self.change, Change::Slot(..) | Change::Key(_))
     }
@@ -255,6 +256,23 @@ pub const ENTRY_WAYS: &[EntryWay] = &[
         }
         entry.params[dice.between(used, 3)] = unexpected(dice);
         true
+    }),
+    deed("72 zero bytes after the key", 17, |_, _, entry| {
+        (entry.action, entry.params) = (0, [Value::NONE; 4]);
+        true
+    }),
+    deed("72 bytes FF after the key", 17, |_, _, entry| {
+        let (length, bytes) = (0xff, [0xff; 16]);
+        (entry.action, entry.params) = (u32::MAX, [Value { length, bytes }; 4]);
+        true
+    }),
+    deed("72 random bytes after the key", 17, |dice, row, entry| {
+        entry.action = dice.next() as u32;
+        entry.params = entry.params.map(|_| Value {
+            length: dice.next() as u8,
+            bytes: dice.wide().to_be_bytes(),
+        });
+        actions(row).iter().all(|action| action.id != entry.action)
     }),
     // 18.
     slot(
