@@ -4,13 +4,14 @@
 use std::ffi::OsString;
 use std::time::Duration;
 
-use reference::bytes::{configure, open, read_all, write, Head};
+use reference::bytes::{configure, open, read_all, write, Entry, Head, Update};
 use reference::{Agent, Past};
 
 use crate::again::Reads;
 use crate::bench::{Bench, Call, List, STORE_ROOM};
 use crate::options::Order;
 use crate::parse::Frame;
+use crate::twice::with_other_bytes;
 use crate::{cases, faults, lists, shrink};
 
 fn order(words: &[&str]) -> Result<Order, String> {
@@ -189,4 +190,60 @@ fn a_read_after_a_change_may_be_anything() {
         assert_eq!(reads.note(&change, &[10, 7, 0, 0]), Ok(false));
         assert!(reads.note(&read, &none).is_err());
     }
+}
+
+/// Where the updates are in a WRITE, and in an update what follows the key.
+const UPDATES_AT: usize = 29;
+const REST_AT: usize = 149;
+
+#[test]
+fn other_bytes_are_those_after_the_keys_of_deletes() {
+    let entry = Entry::default();
+    let updates = [
+        Update::delete(entry),
+        Update::insert(entry),
+        Update::modify(entry),
+        Update { kind: 131, entry },
+        Update::delete(entry),
+    ];
+    let frame = write(Head::set(1, 0, 1), 1, &updates);
+    for seed in 0..40 {
+        let other = with_other_bytes(&frame, seed).expect("there are DELETEs");
+        assert_eq!(other[..UPDATES_AT], frame[..UPDATES_AT]);
+        let pairs = other[UPDATES_AT..]
+            .chunks(221)
+            .zip(frame[UPDATES_AT..].chunks(221));
+        for (now, then) in pairs {
+            assert_eq!(now[..REST_AT], then[..REST_AT]);
+            assert_eq!(now[REST_AT..] != then[REST_AT..], then[0] == 3);
+        }
+    }
+    assert_eq!(
+        with_other_bytes(&write(Head::set(1, 0, 1), 0, &updates[1..4]), 1),
+        None
+    );
+    assert_eq!(with_other_bytes(&frame[..frame.len() - 1], 1), None);
+    assert_eq!(with_other_bytes(&read_all(1, 0, 0), 1), None);
+}
+
+#[test]
+fn playing_twice_shows_what_is_looked_at_after_a_key() {
+    let shows = |name| {
+        let number = faults::names().iter().position(|&other| other == name);
+        assert!(number.is_some(), "{name}");
+        faults::shows_when_played_twice(number, 1)
+    };
+    for name in [
+        "the action of a DELETE is checked under 17",
+        "the parameters of a DELETE are checked under 18",
+        "a DELETE is looked up by the whole entry",
+        "a rolled back DELETE leaves its own action",
+        "in an atomic batch a DELETE is checked as a whole entry",
+    ] {
+        assert!(shows(name), "{name}");
+    }
+    // What is wrong both times is for others to find.
+    assert!(!shows("the key of a DELETE is not checked under 17"));
+    assert!(!shows("MODIFY leaves the parameters"));
+    assert!(!faults::shows_when_played_twice(None, 1));
 }

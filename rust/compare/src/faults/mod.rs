@@ -12,6 +12,8 @@ use std::time::Duration;
 use crate::bench::{sides, LookBack, Second, Silent};
 use crate::lists::{self, Found};
 use crate::shrink::shrink;
+#[cfg(test)]
+use crate::{dice::noise, twice::Twin};
 
 #[allow(clippy::all, dead_code, unused)]
 mod faulty {
@@ -78,6 +80,28 @@ pub fn find(number: usize, seed: u64) -> Option<Catch> {
     } else {
         hunt::<faulty::agent::Agent, Silent<reference::Past>>(seed, MOST)
     }
+}
+
+/// Plays lists twice to the copy with a fault, or with none. Is a difference
+/// seen, though its answers are compared with nothing but themselves?
+#[cfg(test)]
+pub fn shows_when_played_twice(number: Option<usize>, seed: u64) -> bool {
+    (1..=4).any(|list| {
+        let (mut calls, mut device) = (Vec::new(), 1);
+        let seed = lists::seed_of(seed, list);
+        let _ = lists::play::<reference::Agent, reference::Past>(seed, 600, |view, draft, _| {
+            device = view.device;
+            calls.push(draft.call.clone());
+        });
+        faulty::plant(number);
+        let mut agent = <faulty::agent::Agent as Second>::fresh(device);
+        let mut twin = Twin::<faulty::agent::Agent>::new(device);
+        calls.iter().any(|call| {
+            let mut answer = noise(call.fill, call.answer_len).to_vec();
+            let returned = agent.call(&call.frame, call.store_len, &mut answer);
+            twin.call(call, returned, &answer).is_err() || !twin.keeps(&agent.store_image())
+        })
+    })
 }
 
 fn hunt<S: Second, L: LookBack>(seed: u64, most: usize) -> Option<Catch> {
