@@ -91,8 +91,7 @@ impl Key {
         check_priority(row, self.priority)
     }
 
-    /// 17, 18 and 19 on a key of which nothing else is looked at: that of a
-    /// READ or of a DELETE.
+    /// 17, 18 and 19 on a key alone, as in a READ and in a DELETE.
     pub fn judge(row: &Row, bytes: &[u8; KEY]) -> Result<Key, Reason> {
         let key = Key::read(row, bytes)?;
         key.check_widths(row)?;
@@ -145,8 +144,8 @@ impl Deed {
     }
 }
 
-/// 17, then 18, then 19 over the whole of an entry, as INSERT and MODIFY have
-/// it.
+/// 17, then 18, then 19 over the whole of an entry, as in an INSERT and in a
+/// MODIFY.
 pub fn judge(row: &Row, bytes: &[u8; ENTRY]) -> Result<(Key, Deed), Reason> {
     let key = Key::read(row, key_of(bytes))?;
     let deed = Deed::read(row, &bytes[ACTION_AT..PARAMS_AT], &bytes[PARAMS_AT..])?;
