@@ -257,8 +257,11 @@ fn action_params() -> Case {
         .takes(&[Update::modify(good)])
         .takes(&[Update::modify(drop)])
         .shows(read_all(DEVICE, 0, TABLE), &[drop])
-        // Of a DELETE they are not looked at (document 02, request One).
-        .takes(&[Update::delete(made(ten, FOREIGN, &[wide_port]))])
+        // Of a DELETE they are not looked at (document 02, request One). These three were 17, 17 and
+        // 18; the first finds the entry.
+        .takes(&[Update::delete(made(ten, FOREIGN, &[]))])
+        .fails(&[Update::delete(made(ten, 0, &[]))], &[[21, 5]])
+        .fails(&[Update::delete(nhop(&[wide_port, mac, mac]))], &[[21, 5]])
         .fails(&[Update::modify(drop)], &[[21, 5]])
         .fails(&[Update::delete(drop)], &[[21, 5]])
         .fails(
