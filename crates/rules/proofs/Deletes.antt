@@ -67,13 +67,14 @@ module _ (u v : Update) (s : SameDelete u v) where
   judged-by : (isKnown : Bool) (row : Row) (role : ℕ) (t : Tables) → judgeBy isKnown row role t u ≡ judgeBy isKnown row role t v
   unfolding judgeBy entryFormed entryFits
   judged-by isKnown row role t =
-      rw
-      (s .one,
-      s .other,
-      of-one-key (keyFormed row) (λ x. formed-in x row) d e (s .key),
-      of-one-key (keyFits row) (λ x. fits-in x row) d e (s .key),
-      of-one-key (keyRules row) (λ x. rules-in x row) d e (s .key),
-      of-one-key shortKey short-in d e (s .key))
+      rw (
+        s .one,
+        s .other,
+        of-one-key (keyFormed row) (λ x. formed-in x row) d e (s .key),
+        of-one-key (keyFits row) (λ x. fits-in x row) d e (s .key),
+        of-one-key (keyRules row) (λ x. rules-in x row) d e (s .key),
+        of-one-key shortKey short-in d e (s .key),
+      )
 
   same-reason : (rows : List Row) (role : ℕ) (t : Tables) → judge rows role t u ≡ judge rows role t v
   unfolding judge
@@ -113,7 +114,7 @@ module _ (rows : List Row) (role : ℕ) where
   each-alone t (u ∷ us) [] a = absurd a
   each-alone t (u ∷ us) (v ∷ vs) a =
       let rest = each-alone (apply (judge rows role t u) u t) us vs (a .1)
-          ∙ ap (λ (x : Tables). eachAlone rows role x vs) (judged-left t u v (a .0)) in
+      ∙ ap (λ (x : Tables). eachAlone rows role x vs) (judged-left t u v (a .0)) in
       ap₂ (λ (r : ℕ) (b : Batch). record { tables = b .tables; reasons = r ∷ b .reasons }) (alike-reason rows role t u v (a .0)) rest
 
   one-failure : (t : Tables) (us vs : List Update) → Pointwise Alike us vs → failure rows role t us ≡ failure rows role t vs
@@ -123,7 +124,7 @@ module _ (rows : List Row) (role : ℕ) where
   one-failure t (u ∷ us) [] a = absurd a
   one-failure t (u ∷ us) (v ∷ vs) a =
       let rest = one-failure (apply (judge rows role t u) u t) us vs (a .1)
-          ∙ ap (λ (x : Tables). failure rows role x vs) (judged-left t u v (a .0)) in
+      ∙ ap (λ (x : Tables). failure rows role x vs) (judged-left t u v (a .0)) in
       ap₂ (λ (r : ℕ) (o : Option (ℕ × ℕ)). if eqb r 0 then oneFurther o else some (0, r)) (alike-reason rows role t u v (a .0)) rest
 
 alike-length : (us vs : List Update) → Pointwise Alike us vs → length us ≡ length vs

@@ -40,12 +40,13 @@ returns c =
     let a = c .before .before .before .before .before .before .before .args in
     let ruled : keyRules (rowOf (a .row)) (now (a .entry)) ≡ k .key-rules .result =
     key-rules-lent (rowOf (a .row)) (now (a .entry)) ∙ sym (rw (c .before .before .before .integer .ensures) at (k .key-rules .ensures)) in
-    rw
-    (whole-formed (rowOf (a .row)) (a .kind) (now (a .entry)),
-    ← c .before .before .before .before .before .entry-formed .ensures,
-    whole-fits (rowOf (a .row)) (a .kind) (now (a .entry)),
-    ← c .before .before .before .before .entry-fits .ensures,
-    ruled)
+    rw (
+      whole-formed (rowOf (a .row)) (a .kind) (now (a .entry)),
+      ← c .before .before .before .before .before .entry-formed .ensures,
+      whole-fits (rowOf (a .row)) (a .kind) (now (a .entry)),
+      ← c .before .before .before .before .entry-fits .ensures,
+      ruled,
+    )
     (c .in-order .ensures)
 
 pub entry-reason-spec : {M : Type 1} → statement M

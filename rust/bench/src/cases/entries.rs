@@ -10,7 +10,7 @@ use super::{Case, Frame, Keys, ENTRY, FULL};
 pub fn write(keys: Keys) -> Vec<Case> {
     let half = FULL / 2;
     let last = FULL - 1;
-    vec![
+    let mut cases = vec![
         insert("1 INSERT, store empty", keys, 0),
         insert("1 INSERT, store half full (128)", keys, half),
         insert("1 INSERT, at the last place (255)", keys, last),
@@ -29,48 +29,24 @@ pub fn write(keys: Keys) -> Vec<Case> {
             .pairs(BATCH, 0)
             .timed(vec![batch(keys, Update::modify, (0..FULL).step_by(4))]),
         delete_first("1 DELETE, first of 256", keys, 1),
-        delete_last("1 DELETE, last of 256", keys, 1, Update::delete),
-        delete_last("1 DELETE by key alone, last of 256", keys, 1, by_key),
         delete_first("64 DELETEs, each the first, of 256", keys, BATCH),
-        delete_last(
-            "64 DELETEs, each the last, of 256",
-            keys,
-            BATCH,
-            Update::delete,
-        ),
-        delete_last(
-            "64 DELETEs by key alone, each the last, of 256",
-            keys,
-            BATCH,
-            by_key,
-        ),
-    ]
+    ];
+    cases.extend(deletes_at_the_end(keys));
+    cases
 }
 
 /// WRITE where every slot and every parameter is used.
 pub fn write_four_slots() -> Vec<Case> {
     let keys = Keys::Four;
-    vec![
+    let mut cases = vec![
         insert("1 INSERT, store empty", keys, 0),
         insert("1 INSERT, at the last place (255)", keys, FULL - 1),
         insert_many("64 INSERTs, store empty", keys, 0),
         modify("1 MODIFY, last of 256", keys, FULL - 1),
         delete_first("1 DELETE, first of 256", keys, 1),
-        delete_last("1 DELETE, last of 256", keys, 1, Update::delete),
-        delete_last("1 DELETE by key alone, last of 256", keys, 1, by_key),
-        delete_last(
-            "64 DELETEs, each the last, of 256",
-            keys,
-            BATCH,
-            Update::delete,
-        ),
-        delete_last(
-            "64 DELETEs by key alone, each the last, of 256",
-            keys,
-            BATCH,
-            by_key,
-        ),
-    ]
+    ];
+    cases.extend(deletes_at_the_end(keys));
+    cases
 }
 
 /// READ of more than one entry.
@@ -170,6 +146,18 @@ fn delete_first(name: &str, keys: Keys, each: usize) -> Case {
             vec![batch(keys, Update::insert, numbers)],
         )
     })
+}
+
+/// DELETE of the last entry and of the last 64, with an action and by key alone.
+fn deletes_at_the_end(keys: Keys) -> [Case; 4] {
+    let many = "64 DELETEs, each the last, of 256";
+    let many_by_key = "64 DELETEs by key alone, each the last, of 256";
+    [
+        delete_last("1 DELETE, last of 256", keys, 1, Update::delete),
+        delete_last("1 DELETE by key alone, last of 256", keys, 1, by_key),
+        delete_last(many, keys, BATCH, Update::delete),
+        delete_last(many_by_key, keys, BATCH, by_key),
+    ]
 }
 
 /// DELETE of the last entries, so many in a WRITE and each the last when it is its turn.
