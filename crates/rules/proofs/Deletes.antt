@@ -1,55 +1,26 @@
 -- A DELETE needs only the key: what the rules and looking back ask of it they ask of its first 148 bytes. Assumes nothing.
 use Prim.Native.Nat.{ℕ, suc}
-use native.Mathlib.Omega.{arith}
 use mathlib.Core.Path.{_≡_, refl, sym, _∙_, ap, ap₂}
-use mathlib.Core.Bool.{Bool, true, false, _&&_, _||_, not}
+use mathlib.Core.Bool.{Bool, _&&_, _||_, not}
 use mathlib.Core.Logic.{inl, inr}
 use mathlib.Core.List.{List, [], _∷_, _++_, map}
 use mathlib.Core.Option.{Option, none, some}
 use lib.Dec.{eqb}
-use lib.ListN.{length, take, drop}
-use lib.Seq.{take-take}
-use Rattle.rules.specs.Bytes.{if_then_else_, Pointwise, part, parts, number}
-use Rattle.rules.specs.Frame.{Update, Command, WRITE}
+use lib.ListN.{length}
+use Rattle.rules.specs.Bytes.{if_then_else_, Pointwise}
+use Rattle.rules.specs.Frame.{Update, Command}
 use Rattle.rules.specs.Row.{Row}
-use Rattle.rules.specs.Key.{tableOf, priorityOf, slots, keyFormed, keyFits, keyRules, shortKey, keyOf}
+use Rattle.rules.specs.Key.{tableOf, keyFormed, keyFits, keyRules, shortKey, keyOf}
 use Rattle.rules.specs.Update.{Tables, entryFormed, entryFits, judge, judgeBy, perform, apply, Batch, eachAlone, oneFurther, failure, unlessFailed, allOrNone, batch}
-use Rattle.rules.specs.Answer.{Answer, Reply, replyOf}
-use Rattle.rules.specs.Call.{State, writeReason, refusal, nextControl, nextTables, next, headOf, pairOf, batchOf, plain, answer, reply}
-use Rattle.rules.specs.LookBack.{Effect, Past, shows, effectOf, reasonAt, succeeds, noteUpdate, noteUpdates, someFails, rollsBack, noteBatch, noted, note, pairsAlone, pairsRolledBack, pairsSeen, answerSeen, replySeen}
-use Rattle.rules.specs.Deletes.{SameDelete, Alike, SameWrite, AlikeCommands, KeyAlone}
-use Rattle.rules.proofs.Lists.{drop-take, parts-lent}
+use Rattle.rules.specs.Answer.{Reply, replyOf}
+use Rattle.rules.specs.Call.{State, writeReason, refusal, nextControl, nextTables, next, headOf, pairOf, plain, answer, reply}
+use Rattle.rules.specs.LookBack.{Effect, Past, shows, effectOf, reasonAt, succeeds, noteUpdate, noteUpdates, someFails, noteBatch, noted, note, pairsAlone, pairsRolledBack, pairsSeen, answerSeen, replySeen}
+use Rattle.rules.specs.Deletes.{SameDelete, Alike, AlikeCommands, KeyAlone}
+use Rattle.rules.proofs.Shortest.{key-of-key, table-of-key, formed-of-key, fits-of-key, rules-of-key}
 
--- ---- the parts of a key are in the first 148 bytes of an entry
+-- ---- two entries with one key
 
-module _ (e : List ℕ) where
-  table-in : tableOf (keyOf e) ≡ tableOf e
-  table-in = ap number (take-take 4 148 e (omega arith))
-
-  slots-in : slots (keyOf e) ≡ slots e
-  slots-in = ap (parts 4 35) (drop-take 8 148 e) ∙ parts-lent 4 35 (drop 8 e)
-
-  priority-in : priorityOf (keyOf e) ≡ priorityOf e
-  priority-in = ap (λ (l : List ℕ). number (take 4 l)) (drop-take 4 148 e) ∙ ap number (take-take 4 144 (drop 4 e) (omega arith))
-
-  short-in : shortKey (keyOf e) ≡ shortKey e
-  unfolding shortKey
-  short-in = rw (slots-in, take-take 8 148 e (omega arith))
-
-  module _ (row : Row) where
-    formed-in : keyFormed row (keyOf e) ≡ keyFormed row e
-    unfolding keyFormed
-    formed-in = rw slots-in
-
-    fits-in : keyFits row (keyOf e) ≡ keyFits row e
-    unfolding keyFits
-    fits-in = rw slots-in
-
-    rules-in : keyRules row (keyOf e) ≡ keyRules row e
-    unfolding keyRules
-    rules-in = rw (slots-in, priority-in)
-
--- what depends on those bytes alone is the same of two entries with one key
+-- what depends on the 148 bytes of a key alone is the same of both
 module _ {A : Type 0} (f : List ℕ → A) (in-key : (e : List ℕ) → f (keyOf e) ≡ f e) where
   of-one-key : (d e : List ℕ) → keyOf d ≡ keyOf e → f d ≡ f e
   of-one-key d e k = sym (in-key d) ∙ ap f k ∙ in-key e
@@ -70,22 +41,22 @@ module _ (u v : Update) (s : SameDelete u v) where
       rw (
         s .one,
         s .other,
-        of-one-key (keyFormed row) (λ x. formed-in x row) d e (s .key),
-        of-one-key (keyFits row) (λ x. fits-in x row) d e (s .key),
-        of-one-key (keyRules row) (λ x. rules-in x row) d e (s .key),
-        of-one-key shortKey short-in d e (s .key),
+        of-one-key (keyFormed row) (λ x. formed-of-key row x) d e (s .key),
+        of-one-key (keyFits row) (λ x. fits-of-key row x) d e (s .key),
+        of-one-key (keyRules row) (λ x. rules-of-key row x) d e (s .key),
+        of-one-key shortKey key-of-key d e (s .key),
       )
 
   same-reason : (rows : List Row) (role : ℕ) (t : Tables) → judge rows role t u ≡ judge rows role t v
   unfolding judge
-  same-reason rows role t = rw (← of-one-key tableOf table-in d e (s .key)) (judged-by _ _ role t)
+  same-reason rows role t = rw (← of-one-key tableOf table-of-key d e (s .key)) (judged-by _ _ role t)
 
   same-left : (t : Tables) → perform u t ≡ perform v t
   unfolding perform
-  same-left t = rw (s .one, s .other, of-one-key shortKey short-in d e (s .key))
+  same-left t = rw (s .one, s .other, of-one-key shortKey key-of-key d e (s .key))
 
   same-effect : effectOf u ≡ effectOf v
-  same-effect = rw (s .one, s .other, of-one-key shortKey short-in d e (s .key))
+  same-effect = rw (s .one, s .other, of-one-key shortKey key-of-key d e (s .key))
 
 alike-reason : (rows : List Row) (role : ℕ) (t : Tables) (u v : Update) → Alike u v → judge rows role t u ≡ judge rows role t v
 alike-reason rows role t u v (inl q) = ap (judge rows role t) q

@@ -25,7 +25,7 @@ use Rattle.rules.specs.Keys.{SameKey, Compared, KeysAsNumbers}
 use Rattle.rules.proofs.Tests.{clash, fails, and-true, and-false, same-true, eq-same, every-split, every-take}
 use Rattle.rules.proofs.Orders.{first-clear, first-avoids, first-passes, first-more}
 use Rattle.rules.proofs.Formed.{Whole, Formed, call-formed}
-use Rattle.rules.proofs.Shortest.{key-of-key, slots-of-key, priority-of-key, table-of-key, table-of-short-key, key-of-short}
+use Rattle.rules.proofs.Shortest.{key-of-key, slots-of-key, priority-of-key, formed-of-key, table-of-key, table-of-short-key, key-of-short}
 use Rattle.rules.proofs.Numbers.{keys-same}
 use Rattle.rules.proofs.Tables.{alone-every, alone-sound}
 use Rattle.rules.proofs.Sound.{ids-distinct, sound}
@@ -36,14 +36,10 @@ use Rattle.rules.proofs.OfBytes.{isByte, entryOfBytes, OfBytes, call-by
 
 -- ---- the key of a stored entry
 
-numbers-of-key : (e : List ℕ) → 148 ≤ length e → keyNumbers (keyOf e) ≡ keyNumbers e
+numbers-of-key : (e : List ℕ) → keyNumbers (keyOf e) ≡ keyNumbers e
 unfolding keyNumbers
-numbers-of-key e h =
-    ap₂ _∷_ (table-of-key e) (ap₂ _∷_ (priority-of-key e) (ap (λ ss. concat (map slotNumbers ss)) (slots-of-key e h)))
-
-formed-of-key : (row : Row) (e : List ℕ) → 148 ≤ length e → keyFormed row (keyOf e) ≡ keyFormed row e
-unfolding keyFormed
-formed-of-key row e h = rw (slots-of-key e h)
+numbers-of-key e =
+    ap₂ _∷_ (table-of-key e) (ap₂ _∷_ (priority-of-key e) (ap (λ ss. concat (map slotNumbers ss)) (slots-of-key e)))
 
 -- two keys that pass 17 by one row, with whatever follows them
 same-row : (row : Row) (k j : List ℕ) → 148 ≤ length k → 148 ≤ length j → allBytes k ≡ true → allBytes j ≡ true
@@ -52,8 +48,8 @@ same-row row k j h g p q a b =
     let l : length (keyOf k) ≡ 148 = simp length-take (omega arith) in
     let m : length (keyOf j) ≡ 148 = simp length-take (omega arith) in
     let r = keys-same row (keyOf k) (keyOf j) l m (every-take isByte 148 k p) (every-take isByte 148 j q)
-    (formed-of-key row k h ∙ a) (formed-of-key row j g ∙ b) in
-    rw (numbers-of-key k h, numbers-of-key j g, key-of-key k h, key-of-key j g) at r
+    (formed-of-key row k ∙ a) (formed-of-key row j ∙ b) in
+    rw (numbers-of-key k, numbers-of-key j, key-of-key k, key-of-key j) at r
 
 -- of one table they pass 17 by one row; of two tables they differ either way
 same-rows : (rows : List Row) (k j : List ℕ) → 148 ≤ length k → 148 ≤ length j → allBytes k ≡ true → allBytes j ≡ true

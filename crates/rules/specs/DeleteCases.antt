@@ -1,6 +1,5 @@
 -- Worked cases of DELETEs, which need only the key: whole frames, and the whole answers that documents 01 and 02 give them, written
 -- out (document 02, request One). Assumes nothing.
-use mathlib.Core.Path.{_≡_}
 use mathlib.Core.List.{List, [], _∷_, _++_, map}
 use Prim.Native.Nat.{ℕ}
 use lib.ListN.{set, replicate}

@@ -116,10 +116,10 @@ slot-in-place d d₁ d₂ at room e₁ e₂ =
     (sym (part-part at 35 1 17 d (omega arith))) (sym (part-part at 35 18 17 d (omega arith)))
 
 -- the key, the first 148 bytes of an entry
-pub key-parts : (e : List ℕ) → 148 ≤ length e
+pub key-parts : (e : List ℕ)
     → take 8 (part 0 148 e) ++ concat (map shortSlot (parts 4 35 (drop 8 (part 0 148 e)))) ≡ shortKey e
 unfolding shortKey
-key-parts e h = key-of-key e h
+key-parts e = key-of-key e
 
 -- the action and its parameters, the last 72 bytes of an entry
 pub action-parts : (e : List ℕ) → length e ≡ 220

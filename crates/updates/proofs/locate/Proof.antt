@@ -29,7 +29,7 @@ returns : tie.Need-returns
 returns c =
     let a = c .before .before .before .before .before .before .args in
     c .before .look-up .ensures
-    ∙ ap (λ (k : List ℕ). place k (entriesIn (a .count) (now (a .store)))) (key-of-key (now (a .entry)) (omega arith))
+    ∙ ap (λ (k : List ℕ). place k (entriesIn (a .count) (now (a .store)))) (key-of-key (now (a .entry)))
 
 pub locate-spec : {M : Type 1} → statement M
 locate-spec =

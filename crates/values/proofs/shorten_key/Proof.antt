@@ -80,7 +80,7 @@ returns c =
     replaced-all shortSlot 35 k (now (a .dst)) (m .last .1 .0) (m .ensures) (35 * l .loop .i + 8) (4 - l .loop .i) (l .loop .dst) (omega arith)
     (l .loop .inv .2)
     ∙ ap (λ (i : ℕ). splice (now (a .dst)) 0 (take (35 * i + 8) k ++ concat (map shortSlot (parts (4 - i) 35 (drop (35 * i + 8) k))))) e
-    ∙ ap (splice (now (a .dst)) 0) (key-parts (now (a .entry)) (omega arith))
+    ∙ ap (splice (now (a .dst)) 0) (key-parts (now (a .entry)))
 
 pub shorten-key-spec : {M : Type 1} → statement M
 shorten-key-spec =
