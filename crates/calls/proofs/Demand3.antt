@@ -10,7 +10,7 @@ use lib.ListN.{length, take, drop, length-append, length-drop}
 use lib.Seq.{take-append-le, drop-append-le}
 use Rattle.rules.specs.Bytes.{if_then_else_, Pointwise, int, bytesOf, concat}
 use Rattle.rules.specs.Reason.{codeOf, pairs}
-use Rattle.rules.specs.Frame.{Head, Update, Query, Command, cramped, WRITE, READ}
+use Rattle.rules.specs.Frame.{Head, Update, Query, Command, tooShort, WRITE, READ, onTables}
 use Rattle.rules.specs.Answer.{Reply, answerBytes, replyOf}
 use Rattle.rules.specs.Call.{Call, State, fresh, accepted, refusal, plain, answer, commandOf, next, reply, run}
 use Rattle.rules.specs.LookBack.{Past, present, shows, tookEffect, pairsSeen, someFails, readSeen, answerSeen, replySeen}
@@ -90,20 +90,20 @@ pair-in i b rest h =
     ∙ take-append-le 2 (drop (4 + 2 * i) b) rest (omega (arith, length-drop (4 + 2 * i) b))
 
 -- an accepted READ's bytes, and how long an accepted WRITE's are
-read-bytes : (p : Past) (q : Query) → accepted (shows p) (READ q) ≡ true
-    → replySeen p (READ q) .written
+read-bytes : (p : Past) (q : Query) → accepted (shows p) (onTables (READ q)) ≡ true
+    → replySeen p (onTables (READ q)) .written
     ≡ 0 ∷ 0 ∷ bytesOf 2 (length (readSeen (p .control .rows) q (present (p .effects)))) ++ concat (readSeen (p .control .rows) q (present (p .effects)))
 unfolding replySeen replyOf answerSeen answerBytes codeOf pairs
 read-bytes p q e =
     ap (λ (b : Bool). replyOf (if b then record { reason = 0; records = readSeen (p .control .rows) q (present (p .effects)) } else
-    plain (refusal (shows p) (READ q))) .written) e
+    plain (refusal (shows p) (onTables (READ q)))) .written) e
 
 head-length : (r c n : ℕ) (l : List ℕ) → length (r ∷ c ∷ bytesOf 2 n ++ l) ≡ 4 + length l
 unfolding bytesOf
 head-length r c n l = omega arith
 
-write-length : (p : Past) (h : Head) (atomicity : ℕ) (us : List Update) → accepted (shows p) (WRITE h atomicity us) ≡ true
-    → length (replySeen p (WRITE h atomicity us) .written) ≡ 4 + 2 * length us
+write-length : (p : Past) (h : Head) (atomicity : ℕ) (us : List Update) → accepted (shows p) (onTables (WRITE h atomicity us)) ≡ true
+    → length (replySeen p (onTables (WRITE h atomicity us)) .written) ≡ 4 + 2 * length us
 unfolding replySeen replyOf answerSeen answerBytes
 write-length p h atomicity us e = rw e (go (someFails p (h .role) us))
   where
@@ -148,7 +148,7 @@ module _ {A : Type 0} (L : Layout A) (device : ℕ) (start : Memory A) (f : Fres
         subst (λ (r : ℕ). ((r ≡ 0) ⊎ (r ≡ 23)) ↔ (accepted (shows p) c ≡ true)) (sym (replied L here .0))
         (agreement room device calls (callOf (w .input)) .acceptance)
 
-    is-read : (q : Query) → c ≡ READ q → accepted (shows p) c ≡ true →
+    is-read : (q : Query) → c ≡ onTables (READ q) → accepted (shows p) c ≡ true →
         let asked = readSeen (p .control .rows) q (present (p .effects)) in
         w .result .answer ≡ (0 ∷ 0 ∷ bytesOf 2 (length asked) ++ concat asked) ++ drop (4 + length (concat asked)) (w .input .buffer)
     is-read q e a =
@@ -159,13 +159,13 @@ module _ {A : Type 0} (L : Layout A) (device : ℕ) (start : Memory A) (f : Fres
         ∙ ap (λ (n : ℕ). (0 ∷ 0 ∷ bytesOf 2 (length asked) ++ concat asked) ++ drop n (w .input .buffer)) (head-length 0 0 (length asked) (concat asked))
 
     -- the count in the answer's head
-    counts : (c ≡ cramped → ⊥) → int 2 2 (w .result .answer) ≡ length (answer s c .records)
+    counts : (c ≡ tooShort → ⊥) → int 2 2 (w .result .answer) ≡ length (answer s c .records)
     counts n =
         ap (int 2 2) (replied L here .1 ∙ ap (λ (b : List ℕ). b ++ drop (length b) (w .input .buffer)) (written-whole s c n))
         ∙ count-read (answer s c) _ (answer-sized s c (call-formed room (callOf (w .input))) (sound room device calls) .1)
 
     takes-effect : (h : Head) (atomicity : ℕ) (earlier : List Update) (u : Update) (later : List Update)
-        → c ≡ WRITE h atomicity (earlier ++ u ∷ later)
+        → c ≡ onTables (WRITE h atomicity (earlier ++ u ∷ later))
         → ((length earlier < int 2 2 (w .result .answer)) × (pairAt (length earlier) (w .result .answer) ≡ 0 ∷ 0 ∷ []))
         ↔ (accepted (shows p) c && tookEffect p (h .role) atomicity earlier u later ≡ true)
     unfolding replyAfter pastOf
@@ -177,7 +177,7 @@ module _ {A : Type 0} (L : Layout A) (device : ℕ) (start : Memory A) (f : Fres
         T : Bool
         T = tookEffect p (h .role) atomicity earlier u later
 
-        write : (x : Command) → x ≡ WRITE h atomicity us → x ≡ cramped → ⊥
+        write : (x : Command) → x ≡ onTables (WRITE h atomicity us) → x ≡ tooShort → ⊥
         write x q z = let w : _≡_ {A = ℕ} 0 1 = cc in omega arith
 
         -- a pair for each update where the WRITE is accepted, and none where it is refused
@@ -205,20 +205,20 @@ module _ {A : Type 0} (L : Layout A) (device : ℕ) (start : Memory A) (f : Fres
             (λ z. absurd (let l = z .0 in omega (arith, l)), λ t. absurd (false≢true t))
 
   -- a READ in its stead and after it
-  reads-alike : (q : Query) → reply s (READ q) ≡ reply (next s c) (READ q) → (x y : Step A) → requested start (x .input) ≡ READ q
+  reads-alike : (q : Query) → reply s (onTables (READ q)) ≡ reply (next s c) (onTables (READ q)) → (x y : Step A) → requested start (x .input) ≡ onTables (READ q)
       → y .input ≡ x .input → Trace L start (before ++ x ∷ []) → Trace L start (before ++ w ∷ y ∷ []) → AnsweredAlike x y
   reads-alike q same x y e i lx ly =
       let ax = replied L (arrives L room (fresh device) before (x ∷ []) (starts L device start (before ++ x ∷ []) f lx)) in
       let ay = replied L (onward L (arrives L room (fresh device) before (w ∷ y ∷ []) (starts L device start (before ++ w ∷ y ∷ []) f ly))) in
-      let ey : commandOf room (callOf (y .input)) ≡ READ q = ap (λ (j : Input). commandOf room (callOf j)) i ∙ e in
+      let ey : commandOf room (callOf (y .input)) ≡ onTables (READ q) = ap (λ (j : Input). commandOf room (callOf j)) i ∙ e in
       let r : reply s (commandOf room (callOf (x .input))) ≡ reply (next s c) (commandOf room (callOf (y .input))) = ap (reply s) e ∙ same ∙ ap (reply (next s c)) (sym ey) in (
         ax .0 ∙ ap (λ (t : Reply). t .returned) r ∙ sym (ay .0),
         ax .1 ∙ ap₂ (λ (t : Reply) (j : Input). t .written ++ drop (length (t .written)) (j .buffer)) r (sym i) ∙ sym (ay .1),
       )
 
   -- after a batch that was rolled back
-  rolls-back : (after : List (Step A)) → Trace L start (before ++ w ∷ after) → (h : Head) (us : List Update) → c ≡ WRITE h 1 us
-      → w .result .reason ≡ 23 → (q : Query) → reply s (READ q) ≡ reply (next s c) (READ q)
+  rolls-back : (after : List (Step A)) → Trace L start (before ++ w ∷ after) → (h : Head) (us : List Update) → c ≡ onTables (WRITE h 1 us)
+      → w .result .reason ≡ 23 → (q : Query) → reply s (onTables (READ q)) ≡ reply (next s c) (onTables (READ q))
   unfolding replyAfter
   rolls-back after l h us e r q =
       agreement room device calls (callOf (w .input)) .rolled-back h us e (sym (replied L (here after l) .0) ∙ r) q

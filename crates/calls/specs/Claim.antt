@@ -12,7 +12,7 @@ use mathlib.Core.List.{List, [], _∷_, _++_, map}
 use Prim.Native.Nat.{ℕ, _+_, _<_}
 use lib.ListN.{length, drop}
 use Rattle.rules.specs.Bytes.{Pointwise, int, bytesOf, concat}
-use Rattle.rules.specs.Frame.{Head, Update, Query, Command, WRITE, READ}
+use Rattle.rules.specs.Frame.{Head, Update, Query, Command, WRITE, READ, onTables}
 use Rattle.rules.specs.Call.{Call, State, accepted, next}
 use Rattle.rules.specs.LookBack.{Past, present, shows, tookEffect, readSeen, replySeen}
 use Rattle.rules.specs.Agreement.{pastOf, pairAt}
@@ -77,7 +77,7 @@ module _ {A : Type 0} (L : Layout A) (device : ℕ) (start : Memory A) (ws : Lis
   -- The call at p *changes no entry*: a READ x made in its stead, and the same READ y made after it, are answered alike.
   abbrev pub ChangesNoEntry : Place ws → Type 0
   ChangesNoEntry p =
-      (q : Query) (x y : Step A) → requested start (x .input) ≡ READ q → y .input ≡ x .input
+      (q : Query) (x y : Step A) → requested start (x .input) ≡ onTables (READ q) → y .input ≡ x .input
       → Trace L start (p .before ++ x ∷ []) → Trace L start (p .before ++ p .call ∷ y ∷ [])
       → AnsweredAlike x y
 
@@ -91,7 +91,7 @@ module _ {A : Type 0} (L : Layout A) (device : ℕ) (start : Memory A) (ws : Lis
     pub acceptance : (p : Place ws) → ((p .call .result .reason ≡ 0) ⊎ (p .call .result .reason ≡ 23))
         ↔ (accepted (shows (past p)) (command p) ≡ true)
     -- 2. An accepted READ answers reason 0, code 0, as count the number of present entries that it asks for, then these.
-    pub reads : (p : Place ws) (q : Query) → command p ≡ READ q → accepted (shows (past p)) (command p) ≡ true →
+    pub reads : (p : Place ws) (q : Query) → command p ≡ onTables (READ q) → accepted (shows (past p)) (command p) ≡ true →
         let found = readSeen (past p .control .rows) q (entries p) in
         p .call .result .answer
         ≡ (0 ∷ 0 ∷ bytesOf 2 (length found) ++ concat found) ++ drop (4 + length (concat found)) (p .call .input .buffer)
@@ -102,7 +102,7 @@ module _ {A : Type 0} (L : Layout A) (device : ℕ) (start : Memory A) (ws : Lis
     -- the WRITE is accepted, and the update is refused under no reason after the updates before it (atomicity 0), or no update of
     -- the batch is, each judged after those before it (atomicity 1).
     pub updates : (p : Place ws) (h : Head) (atomicity : ℕ) (earlier : List Update) (u : Update) (later : List Update)
-        → command p ≡ WRITE h atomicity (earlier ++ u ∷ later) →
+        → command p ≡ onTables (WRITE h atomicity (earlier ++ u ∷ later)) →
         let answer = p .call .result .answer in
         ((length earlier < int 2 2 answer) × (pairAt (length earlier) answer ≡ 0 ∷ 0 ∷ []))
         ↔ (accepted (shows (past p)) (command p) && tookEffect (past p) (h .role) atomicity earlier u later ≡ true)
@@ -113,7 +113,7 @@ module _ {A : Type 0} (L : Layout A) (device : ℕ) (start : Memory A) (ws : Lis
     -- 5. A call that gives no such id changes no entry.
     pub unchanged : (p : Place ws) → ((role id : ℕ) → Gives role id (command p) → Held role id (events p) → ⊥) → ChangesNoEntry p
     -- 6. A WRITE with atomicity 1 that was answered 23 changes no entry.
-    pub rolled-back : (p : Place ws) (h : Head) (us : List Update) → command p ≡ WRITE h 1 us → p .call .result .reason ≡ 23
+    pub rolled-back : (p : Place ws) (h : Head) (us : List Update) → command p ≡ onTables (WRITE h 1 us) → p .call .result .reason ≡ 23
         → ChangesNoEntry p
 
 -- ---- the claim

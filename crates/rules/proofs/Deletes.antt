@@ -13,7 +13,7 @@ use Rattle.rules.specs.Row.{Row}
 use Rattle.rules.specs.Key.{tableOf, keyFormed, keyFits, keyRules, shortKey, keyOf}
 use Rattle.rules.specs.Update.{Tables, entryFormed, entryFits, judge, judgeBy, perform, apply, Batch, eachAlone, oneFurther, failure, unlessFailed, allOrNone, batch}
 use Rattle.rules.specs.Answer.{Reply, replyOf}
-use Rattle.rules.specs.Call.{State, writeReason, refusal, nextControl, nextTables, next, headOf, pairOf, plain, answer, reply}
+use Rattle.rules.specs.Call.{State, writeReason, refusal, nextControl, nextTables, next, headReason, pairOf, plain, answer, reply}
 use Rattle.rules.specs.LookBack.{Effect, Past, shows, effectOf, reasonAt, succeeds, noteUpdate, noteUpdates, someFails, noteBatch, noted, note, pairsAlone, pairsRolledBack, pairsSeen, answerSeen, replySeen}
 use Rattle.rules.specs.Deletes.{SameDelete, Alike, AlikeCommands, KeyAlone}
 use Rattle.rules.proofs.Shortest.{key-of-key, table-of-key, formed-of-key, fits-of-key, rules-of-key}
@@ -131,7 +131,7 @@ module _ (s : State) where
       refused = writeReason (s .control) (w .head) (w .atomicity)
 
       written : Batch → Reply
-      written b = replyOf (if eqb refused 0 then record { reason = headOf (b .reasons); records = map pairOf (b .reasons) } else plain refused)
+      written b = replyOf (if eqb refused 0 then record { reason = headReason (b .reasons); records = map pairOf (b .reasons) } else plain refused)
 
   alike-next : (c d : Command) → AlikeCommands c d → next s c ≡ next s d
   unfolding next nextControl nextTables refusal

@@ -10,9 +10,9 @@ use lib.ListN.{length, drop, length-take, length-drop, length-append, length-map
 use lib.Seq.{take-at}
 use borrow.Author.Tests.{eqb-true, leb-true}
 use Rattle.rules.specs.Bytes.{if_then_else_, byte, part, parts, int, number, allZero}
-use Rattle.rules.specs.Frame.{Update, Command, cramped, malformed, OPEN, CLOSE, ARBITRATE, CONFIGURE, WRITE, READ, headAt, updateOf, queryOf, flagFits, streamFits, streamFormed, arbitrateFormed, configureFormed, writeFormed, readFormed, configureOf, writeOf, readFrame}
+use Rattle.rules.specs.Frame.{Update, Command, tooShort, malformed, OPEN, CLOSE, ARBITRATE, CONFIGURE, WRITE, READ, headAt, updateOf, queryOf, flagFits, streamFits, streamFormed, arbitrateFormed, configureFormed, writeFormed, readFormed, configureOf, writeOf, readFrame, onStreams, onPipeline, onTables}
 use Rattle.rules.specs.Key.{tableOf}
-use Rattle.rules.specs.Call.{Call, roomy, commandOf}
+use Rattle.rules.specs.Call.{Call, longEnough, commandOf}
 use Rattle.rules.proofs.Tests.{and-true}
 
 -- every part has the length n
@@ -27,14 +27,14 @@ Whole (u ∷ us) = (length (u .entry) ≡ 220) × Whole us
 
 -- what the reader tests
 abbrev pub Formed : Command → Type 0
-Formed cramped = Unit {0}
+Formed tooShort = Unit {0}
 Formed malformed = Unit {0}
-Formed (OPEN n) = n ≤ 31
-Formed (CLOSE n) = n ≤ 31
-Formed (ARBITRATE n h) = n ≤ 31
-Formed (CONFIGURE h rows) = EveryLength 53 rows
-Formed (WRITE h atomicity us) = (length us ≤ 64) × Whole us
-Formed (READ q) = (length (q .key) ≡ 148) × (tableOf (q .key) ≡ q .table) × (q .only ≡ 1 → q .table ≡ 0 → ⊥)
+Formed (onStreams (OPEN n)) = n ≤ 31
+Formed (onStreams (CLOSE n)) = n ≤ 31
+Formed (onStreams (ARBITRATE n h)) = n ≤ 31
+Formed (onPipeline (CONFIGURE h rows)) = EveryLength 53 rows
+Formed (onTables (WRITE h atomicity us)) = (length us ≤ 64) × Whole us
+Formed (onTables (READ q)) = (length (q .key) ≡ 148) × (tableOf (q .key) ≡ q .table) × (q .only ≡ 1 → q .table ≡ 0 → ⊥)
 
 abbrev pub EveryFormed : List Command → Type 0
 EveryFormed [] = Unit {0}
@@ -66,11 +66,11 @@ module _ (P : Command → Type 0) where
   choose false x y h k = k
 
   -- what holds of a malformed frame, and of each command where its frame passes, holds of what the reader hands on
-  pub read-law : (f : List ℕ) → P malformed → (streamFormed f ≡ true → P (OPEN (byte 1 f)) × P (CLOSE (byte 1 f)))
-      → (arbitrateFormed f ≡ true → P (ARBITRATE (byte 1 f) (headAt 2 f)))
+  pub read-law : (f : List ℕ) → P malformed → (streamFormed f ≡ true → P (onStreams (OPEN (byte 1 f))) × P (onStreams (CLOSE (byte 1 f))))
+      → (arbitrateFormed f ≡ true → P (onStreams (ARBITRATE (byte 1 f) (headAt 2 f))))
       → (configureFormed (byte 27 f) f ≡ true → P (configureOf (byte 27 f) f))
       → (writeFormed (byte 28 f) f ≡ true → P (writeOf (byte 28 f) f))
-      → (readFormed f ≡ true → P (READ (queryOf f))) → P (readFrame f)
+      → (readFormed f ≡ true → P (onTables (READ (queryOf f)))) → P (readFrame f)
   unfolding readFrame
   read-law [] bad stream arbitrate configure write read = bad
   read-law (c ∷ operands) bad stream arbitrate configure write read =
@@ -85,15 +85,15 @@ module _ (P : Command → Type 0) where
       f = c ∷ operands
 
   -- and of the command of a call
-  pub call-law : (room : ℕ) (c : Call) → P cramped → P (readFrame (c .frame)) → P (commandOf room c)
+  pub call-law : (room : ℕ) (c : Call) → P tooShort → P (readFrame (c .frame)) → P (commandOf room c)
   unfolding commandOf
-  call-law room c short read = choose (roomy room (c .buffer)) _ _ (λ h. read) short
+  call-law room c short read = choose (longEnough room (c .buffer)) _ _ (λ h. read) short
 
 -- no frame is refused under 2: that is for buffers
-pub frame-read : (f : List ℕ) → readFrame f ≡ cramped → ⊥
+pub frame-read : (f : List ℕ) → readFrame f ≡ tooShort → ⊥
 unfolding configureOf writeOf
 frame-read f =
-    read-law (λ (c : Command). c ≡ cramped → ⊥) f (λ z. let w : _≡_ {A = ℕ} 0 1 = cc in omega arith)
+    read-law (λ (c : Command). c ≡ tooShort → ⊥) f (λ z. let w : _≡_ {A = ℕ} 0 1 = cc in omega arith)
     (λ h. (λ z. let w : _≡_ {A = ℕ} 0 1 = cc in omega arith, λ z. let w : _≡_ {A = ℕ} 0 1 = cc in omega arith))
     (λ h z. let w : _≡_ {A = ℕ} 0 1 = cc in omega arith) (λ h z. let w : _≡_ {A = ℕ} 0 1 = cc in omega arith)
     (λ h z. let w : _≡_ {A = ℕ} 0 1 = cc in omega arith) (λ h z. let w : _≡_ {A = ℕ} 0 1 = cc in omega arith)
@@ -130,7 +130,7 @@ one-named : (only table : ℕ) (blank : Bool) → (eqb only 0 && blank) || (eqb 
     → only ≡ 1 → table ≡ 0 → ⊥
 one-named only table blank h o t = false≢true (rw (o, t) at h)
 
-query-fits : (f : List ℕ) → readFormed f ≡ true → Formed (READ (queryOf f))
+query-fits : (f : List ℕ) → readFormed f ≡ true → Formed (onTables (READ (queryOf f)))
 unfolding readFormed
 query-fits f h =
     let a = and-true _ _ h in

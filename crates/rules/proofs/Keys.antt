@@ -11,7 +11,7 @@ use lib.ListN.{length, length-take}
 use borrow.Author.Tests.{eqb-true, eqb-false, eq-eqb, ne-eqb, not-false}
 use Rattle.rules.specs.Bytes.{if_then_else_, between, keep, every, some-of, concat, allBytes}
 use Rattle.rules.specs.Reason.{first}
-use Rattle.rules.specs.Frame.{Head, Update, Query, WRITE, READ}
+use Rattle.rules.specs.Frame.{Head, Update, Query, WRITE, READ, onTables}
 use Rattle.rules.specs.Row.{Row, known, rowFor, mayWrite}
 use Rattle.rules.specs.Key.{tableOf, slotNumbers, keyFormed, keyFits, keyRules, shortKey, keyNumbers, keyOf, hasKey}
 use Rattle.rules.specs.Entry.{actionFormed, actionFits, passes}
@@ -241,7 +241,7 @@ whole-place [] u later w = (tt, w .0)
 whole-place (v ∷ earlier) u later w = let r = whole-place earlier u later (w .1) in ((w .0, r .0), r .1)
 
 -- the key of an accepted READ of one key passed 17
-read-formed : (s : State) (q : Query) → tableOf (q .key) ≡ q .table → q .only ≡ 1 → accepted s (READ q) ≡ true
+read-formed : (s : State) (q : Query) → tableOf (q .key) ≡ q .table → q .only ≡ 1 → accepted s (onTables (READ q)) ≡ true
     → keyFormed (rowFor (tableOf (q .key)) (s .control .rows)) (q .key) ≡ true
 unfolding refusal readReason
 read-formed s q here o a =
@@ -290,7 +290,7 @@ keys-as-numbers room device before c bs b = record {
     once = numbers-once rows (shows p .tables) (ok .tables) bytes es (λ e i. i) (ok .tables .distinct)
 
     updates : (h : Head) (atomicity : ℕ) (earlier : List Update) (u : Update) (later : List Update)
-        → commandOf room c ≡ WRITE h atomicity (earlier ++ u ∷ later) → Compared (noteUpdates p (h .role) earlier) (h .role) u
+        → commandOf room c ≡ onTables (WRITE h atomicity (earlier ++ u ∷ later)) → Compared (noteUpdates p (h .role) earlier) (h .role) u
     updates h atomicity earlier u later e =
         let w = whole-place earlier u later (subst Formed e (call-formed room c) .1) in
         let d = every-split entryOfBytes earlier (u ∷ later) (subst OfBytes e (call-bytes room c b)) in
@@ -302,11 +302,11 @@ keys-as-numbers room device before c bs b = record {
         → batchOf (run (fresh device) (commandsOf room before)) h 0 earlier .tables ≡ shows (noteUpdates p (h .role) earlier) .tables
     entries h earlier = ap (λ s. batchOf s h 0 earlier .tables) seen ∙ alone-shows p (h .role) earlier
 
-    reads : (q : Query) → commandOf room c ≡ READ q → q .only ≡ 1 → accepted (shows p) (READ q) ≡ true → (e : List ℕ)
+    reads : (q : Query) → commandOf room c ≡ onTables (READ q) → q .only ≡ 1 → accepted (shows p) (onTables (READ q)) ≡ true → (e : List ℕ)
         → In e (readSeen rows q es) ↔ (In e es × (keyNumbers e ≡ keyNumbers (q .key)))
     reads q is o a e = (to, from)
       where
-        f : Formed (READ q)
+        f : Formed (onTables (READ q))
         f = subst Formed is (call-formed room c)
 
         has : List ℕ → Bool

@@ -12,14 +12,14 @@ use lib.ListN.{length, replicate}
 use borrow.Author.Tests.{eqb-true, eq-eqb}
 use Rattle.rules.specs.Bytes.{if_then_else_, keep, every, concat, same}
 use Rattle.rules.specs.Reason.{first}
-use Rattle.rules.specs.Frame.{Head, Update, Query, Command, cramped, malformed, OPEN, CLOSE, ARBITRATE, CONFIGURE, WRITE, READ}
+use Rattle.rules.specs.Frame.{Head, Update, Query, Command, tooShort, malformed, OPEN, CLOSE, ARBITRATE, CONFIGURE, WRITE, READ, onStreams, onPipeline, onTables}
 use Rattle.rules.specs.Streams.{Stream, closed, unbound, bound, orderOf, streamAt, openStream, closeStream, arbitrateReason, arbitrate}
 use Rattle.rules.specs.Row.{Row, mayWrite}
 use Rattle.rules.specs.Key.{keyOf, hasKey, shortKey, tableOf}
 use Rattle.rules.specs.Entry.{shortEntry}
 use Rattle.rules.specs.Update.{Tables, noEntries, inTable, perform, apply, eachAlone, oneFurther, failure, rolledBack, unlessFailed, allOrNone, batch}
 use Rattle.rules.specs.Answer.{Answer, replyOf}
-use Rattle.rules.specs.Call.{State, Call, fresh, configureReason, writeReason, readReason, refusal, accepted, nextControl, nextTables, next, plain, pairOf, headOf, batchOf, asked, gathered, shown, answer, commandOf, reply, run}
+use Rattle.rules.specs.Call.{State, Call, fresh, configureReason, writeReason, readReason, refusal, accepted, nextControl, nextTables, next, plain, pairOf, headReason, batchOf, asked, gathered, shown, answer, commandOf, reply, run}
 use Rattle.rules.specs.LookBack.{Effect, inserted, modified, deleted, cleared, revise, present, Past, nothing, shows, effectOf, reasonAt, succeeds, noteUpdate, noteUpdates, someFails, tookEffect, noteBatch, noted, note, lookBack, pairsAlone, pairsRolledBack, pairsSeen, named, asksFor, readSeen, answerSeen, replySeen}
 use Rattle.rules.specs.Agreement.{commandsOf, replyAfter, pastOf, pairAt, Agreement}
 use Rattle.rules.proofs.Tests.{same-sym}
@@ -265,27 +265,25 @@ shown-seen p q = rows-seen q (p .control .rows) (present (p .effects))
 -- ---- a call
 
 answers-agree : (p : Past) (c : Command) → answer (shows p) c ≡ answerSeen p c
-unfolding answer answerSeen shows
-answers-agree p cramped = refl
+unfolding answer answerSeen shows refusal
+answers-agree p tooShort = refl
 answers-agree p malformed = refl
-answers-agree p (OPEN n) = refl
-answers-agree p (CLOSE n) = refl
-answers-agree p (ARBITRATE n h) = refl
-answers-agree p (CONFIGURE h rows) = refl
-answers-agree p (WRITE h atomicity us) = rw (b .1, b .2) (go (someFails p (h .role) us))
+answers-agree p (onStreams x) = refl
+answers-agree p (onPipeline x) = refl
+answers-agree p (onTables (WRITE h atomicity us)) = rw (b .1, b .2) (go (someFails p (h .role) us))
   where
     b : Batched (h .role) p atomicity us
     b = batched (h .role) p atomicity us
 
     told : ℕ → Answer
     told reason =
-        if accepted (shows p) (WRITE h atomicity us) then record { reason = reason; records = pairsSeen p (h .role) atomicity us } else
-        plain (refusal (shows p) (WRITE h atomicity us))
+        if accepted (shows p) (onTables (WRITE h atomicity us)) then record { reason = reason; records = pairsSeen p (h .role) atomicity us } else
+        plain (refusal (shows p) (onTables (WRITE h atomicity us)))
 
     go : (t : Bool) → told (if not t then 0 else 23) ≡ told (if t then 23 else 0)
     go true = refl
     go false = refl
-answers-agree p (READ q) = rw (shown-seen p q)
+answers-agree p (onTables (READ q)) = rw (shown-seen p q)
 
 -- what is left of the entries, and of the whole agent
 unnoted : (b : Bool) (effects : List Effect) → present effects ≡ present (if b then effects else effects)
@@ -293,24 +291,22 @@ unnoted true effects = refl
 unnoted false effects = refl
 
 tables-agree : (p : Past) (c : Command) → nextTables (shows p) c .entries ≡ present (if accepted (shows p) c then noted p c else p .effects)
-unfolding nextTables noted shows takeEffect
-tables-agree p cramped = unnoted (accepted (shows p) cramped) (p .effects)
+unfolding nextTables noted shows takeEffect refusal
+tables-agree p tooShort = unnoted (accepted (shows p) tooShort) (p .effects)
 tables-agree p malformed = unnoted (accepted (shows p) malformed) (p .effects)
-tables-agree p (OPEN n) = unnoted (accepted (shows p) (OPEN n)) (p .effects)
-tables-agree p (CLOSE n) = unnoted (accepted (shows p) (CLOSE n)) (p .effects)
-tables-agree p (ARBITRATE n h) = unnoted (accepted (shows p) (ARBITRATE n h)) (p .effects)
-tables-agree p (CONFIGURE h rows) = go (accepted (shows p) (CONFIGURE h rows))
+tables-agree p (onStreams x) = unnoted (accepted (shows p) (onStreams x)) (p .effects)
+tables-agree p (onPipeline (CONFIGURE h rows)) = go (accepted (shows p) (onPipeline (CONFIGURE h rows)))
   where
     go : (b : Bool) → (if b then noEntries else shows p .tables) .entries ≡ present (if b then p .effects ++ (cleared ∷ []) else p .effects)
     go true = sym (present-snoc (p .effects) cleared)
     go false = refl
-tables-agree p (WRITE h atomicity us) = go (accepted (shows p) (WRITE h atomicity us))
+tables-agree p (onTables (WRITE h atomicity us)) = go (accepted (shows p) (onTables (WRITE h atomicity us)))
   where
     go : (b : Bool) → (if b then batch atomicity (p .control .rows) (h .role) (shows p .tables) us .tables else shows p .tables) .entries
         ≡ present (if b then noteBatch p (h .role) atomicity us .effects else p .effects)
     go true = ap (λ t. t .entries) (batched (h .role) p atomicity us .0)
     go false = refl
-tables-agree p (READ q) = unnoted (accepted (shows p) (READ q)) (p .effects)
+tables-agree p (onTables (READ q)) = unnoted (accepted (shows p) (onTables (READ q))) (p .effects)
 
 pub next-shows : (p : Past) (c : Command) → next (shows p) c ≡ shows (note p c)
 unfolding next note shows
@@ -330,20 +326,20 @@ fresh-shows device cs = run-shows (nothing device) cs
 
 -- 23 is no refusal
 not-23 : (s : State) (c : Command) → refusal s c ≡ 23 → ⊥
-unfolding refusal configureReason writeReason readReason arbitrateReason
-not-23 s cramped e = omega arith
+unfolding refusal configureReason writeReason readReason openStream closeStream arbitrate arbitrateReason
+not-23 s tooShort e = omega arith
 not-23 s malformed e = omega arith
-not-23 s (OPEN n) e = first-avoids 23 _ (omega arith) refl e
-not-23 s (CLOSE n) e = first-avoids 23 _ (omega arith) refl e
-not-23 s (ARBITRATE n h) e = by-state (streamAt (s .control .streams) n) e
+not-23 s (onStreams (OPEN n)) e = first-avoids 23 _ (omega arith) refl e
+not-23 s (onStreams (CLOSE n)) e = first-avoids 23 _ (omega arith) refl e
+not-23 s (onStreams (ARBITRATE n h)) e = by-state (streamAt (s .control .streams) n) e
   where
     by-state : (x : Stream) → first (orderOf (s .control .device) (s .control .streams) n h x) ≡ 23 → ⊥
     by-state closed q = first-avoids 23 _ (omega arith) refl q
     by-state unbound q = first-avoids 23 _ (omega arith) refl q
     by-state (bound r i) q = first-avoids 23 _ (omega arith) refl q
-not-23 s (CONFIGURE h rows) e = first-avoids 23 _ (omega arith) refl e
-not-23 s (WRITE h atomicity us) e = first-avoids 23 _ (omega arith) refl e
-not-23 s (READ q) e = first-avoids 23 _ (omega arith) refl e
+not-23 s (onPipeline (CONFIGURE h rows)) e = first-avoids 23 _ (omega arith) refl e
+not-23 s (onTables (WRITE h atomicity us)) e = first-avoids 23 _ (omega arith) refl e
+not-23 s (onTables (READ q)) e = first-avoids 23 _ (omega arith) refl e
 
 -- a call that answers its own reason
 its-reason : (s : State) (c : Command) (r : ℕ) → r ≡ refusal s c → ((r ≡ 0) ⊎ (r ≡ 23)) ↔ (accepted s c ≡ true)
@@ -361,36 +357,36 @@ one-of-two s c a h false q = its-reason s c (refusal s c) refl
 
 pub returned-accepted : (s : State) (c : Command) → ((reply s c .returned ≡ 0) ⊎ (reply s c .returned ≡ 23)) ↔ (accepted s c ≡ true)
 unfolding reply replyOf answer refusal openStream closeStream arbitrate
-returned-accepted s cramped = its-reason s cramped 2 refl
+returned-accepted s tooShort = its-reason s tooShort 2 refl
 returned-accepted s malformed = its-reason s malformed 1 refl
-returned-accepted s (OPEN n) = its-reason s (OPEN n) _ refl
-returned-accepted s (CLOSE n) = its-reason s (CLOSE n) _ refl
-returned-accepted s (ARBITRATE n h) = its-reason s (ARBITRATE n h) _ refl
-returned-accepted s (CONFIGURE h rows) = its-reason s (CONFIGURE h rows) _ refl
-returned-accepted s (WRITE h atomicity us) =
-    one-of-two s (WRITE h atomicity us) _ (head-reason (every (eqb 0) (batch atomicity (s .control .rows) (h .role) (s .tables) us .reasons)))
-    (accepted s (WRITE h atomicity us)) refl
+returned-accepted s (onStreams (OPEN n)) = its-reason s (onStreams (OPEN n)) _ refl
+returned-accepted s (onStreams (CLOSE n)) = its-reason s (onStreams (CLOSE n)) _ refl
+returned-accepted s (onStreams (ARBITRATE n h)) = its-reason s (onStreams (ARBITRATE n h)) _ refl
+returned-accepted s (onPipeline (CONFIGURE h rows)) = its-reason s (onPipeline (CONFIGURE h rows)) _ refl
+returned-accepted s (onTables (WRITE h atomicity us)) =
+    one-of-two s (onTables (WRITE h atomicity us)) _ (head-reason (every (eqb 0) (batch atomicity (s .control .rows) (h .role) (s .tables) us .reasons)))
+    (accepted s (onTables (WRITE h atomicity us))) refl
   where
     head-reason : (b : Bool) → _≡_ {A = ℕ} (if b then 0 else 23) 0 ⊎ _≡_ {A = ℕ} (if b then 0 else 23) 23
     head-reason true = inl refl
     head-reason false = inr refl
-returned-accepted s (READ q) =
-    one-of-two s (READ q) (record { reason = 0; records = shown s q }) (inl refl) (accepted s (READ q)) refl
+returned-accepted s (onTables (READ q)) =
+    one-of-two s (onTables (READ q)) (record { reason = 0; records = shown s q }) (inl refl) (accepted s (onTables (READ q))) refl
 
 -- ---- a batch that was rolled back
 
 -- a WRITE with atomicity 1 that returned 23 leaves the agent as it was
-left : (s : State) (h : Head) (us : List Update) → reply s (WRITE h 1 us) .returned ≡ 23 → next s (WRITE h 1 us) ≡ s
-unfolding reply replyOf answer next nextControl nextTables
+left : (s : State) (h : Head) (us : List Update) → reply s (onTables (WRITE h 1 us)) .returned ≡ 23 → next s (onTables (WRITE h 1 us)) ≡ s
+unfolding reply replyOf answer next nextControl nextTables refusal
 left s h us e = ap (λ (t : Tables). record { control = s .control; tables = t }) (go (accepted s c) refl e)
   where
     c : Command
-    c = WRITE h 1 us
+    c = onTables (WRITE h 1 us)
 
     rs : List ℕ
     rs = batchOf s h 1 us .reasons
 
-    go : (b : Bool) → accepted s c ≡ b → (if b then record { reason = headOf rs; records = map pairOf rs } else plain (refusal s c)) .reason ≡ 23
+    go : (b : Bool) → accepted s c ≡ b → (if b then record { reason = headReason rs; records = map pairOf rs } else plain (refusal s c)) .reason ≡ 23
         → (if b then batchOf s h 1 us .tables else s .tables) ≡ s .tables
     go true q z = rollback (s .control .rows) (h .role) (s .tables) .left us z
     go false q z = refl
@@ -417,7 +413,7 @@ agreement room device before c = record {
     replies = ap (λ s. reply s (commandOf room c)) shown-past ∙ ap replyOf (answers-agree p (commandOf room c))
 
     updates : (h : Head) (atomicity : ℕ) (earlier : List Update) (u : Update) (later : List Update)
-        → commandOf room c ≡ WRITE h atomicity (earlier ++ u ∷ later)
+        → commandOf room c ≡ onTables (WRITE h atomicity (earlier ++ u ∷ later))
         → accepted (shows p) (commandOf room c) ≡ true
         → (pairAt (length earlier) (reply (run (fresh device) (commandsOf room before)) (commandOf room c) .written) ≡ 0 ∷ 0 ∷ [])
         ↔ (tookEffect p (h .role) atomicity earlier u later ≡ true)
@@ -431,8 +427,8 @@ agreement room device before c = record {
     s : State
     s = run (fresh device) (commandsOf room before)
 
-    undone : (h : Head) (us : List Update) → commandOf room c ≡ WRITE h 1 us → reply s (commandOf room c) .returned ≡ 23
-        → (q : Query) → reply s (READ q) ≡ reply (next s (commandOf room c)) (READ q)
+    undone : (h : Head) (us : List Update) → commandOf room c ≡ onTables (WRITE h 1 us) → reply s (commandOf room c) .returned ≡ 23
+        → (q : Query) → reply s (onTables (READ q)) ≡ reply (next s (commandOf room c)) (onTables (READ q))
     undone h us e r q =
-        let same : next s (WRITE h 1 us) ≡ s = left s h us (subst (λ (x : Command). reply s x .returned ≡ 23) e r) in
-        sym (ap (λ (t : State). reply t (READ q)) (ap (next s) e ∙ same))
+        let same : next s (onTables (WRITE h 1 us)) ≡ s = left s h us (subst (λ (x : Command). reply s x .returned ≡ 23) e r) in
+        sym (ap (λ (t : State). reply t (onTables (READ q))) (ap (next s) e ∙ same))

@@ -9,12 +9,12 @@ use lib.Dec.{eqb, ltb}
 use lib.ListN.{length, take, drop, replicate, length-take}
 use borrow.Author.Tests.{lt-ltb}
 use Rattle.rules.specs.Bytes.{if_then_else_, every, concat, byte, part, parts, allBytes}
-use Rattle.rules.specs.Frame.{Update, Command, cramped, malformed, OPEN, CLOSE, ARBITRATE, CONFIGURE, WRITE, READ, updateOf, writeOf, configureOf, readFrame}
+use Rattle.rules.specs.Frame.{Update, Command, tooShort, malformed, OPEN, CLOSE, ARBITRATE, CONFIGURE, WRITE, READ, updateOf, writeOf, configureOf, readFrame, onStreams, onPipeline, onTables}
 use Rattle.rules.specs.Value.{stripped, short}
 use Rattle.rules.specs.Key.{value1, value2, slots, shortSlot, shortKey}
 use Rattle.rules.specs.Entry.{parameters, shortEntry}
 use Rattle.rules.specs.Update.{Tables, noEntries}
-use Rattle.rules.specs.Call.{State, Call, accepted, batchOf, nextTables, next, commandOf, run}
+use Rattle.rules.specs.Call.{State, Call, refusal, accepted, batchOf, nextTables, next, commandOf, run}
 use Rattle.rules.specs.Agreement.{commandsOf}
 use Rattle.rules.specs.Keys.{ofBytes}
 use Rattle.rules.proofs.Tests.{and-true, both-true, every-append, every-take, every-drop, every-part}
@@ -90,14 +90,12 @@ entryOfBytes u = allBytes (u .entry)
 
 -- entries and keys in a command are bytes
 abbrev pub OfBytes : Command → Type 0
-OfBytes cramped = Unit {0}
+OfBytes tooShort = Unit {0}
 OfBytes malformed = Unit {0}
-OfBytes (OPEN n) = Unit {0}
-OfBytes (CLOSE n) = Unit {0}
-OfBytes (ARBITRATE n h) = Unit {0}
-OfBytes (CONFIGURE h rows) = Unit {0}
-OfBytes (WRITE h atomicity us) = every entryOfBytes us ≡ true
-OfBytes (READ q) = allBytes (q .key) ≡ true
+OfBytes (onStreams x) = Unit {0}
+OfBytes (onPipeline x) = Unit {0}
+OfBytes (onTables (WRITE h atomicity us)) = every entryOfBytes us ≡ true
+OfBytes (onTables (READ q)) = allBytes (q .key) ≡ true
 
 updates-bytes : (n : ℕ) (l : List ℕ) → allBytes l ≡ true → every entryOfBytes (map updateOf (parts n 221 l)) ≡ true
 unfolding parts
@@ -125,25 +123,23 @@ abbrev pub AllStored : Tables → Type 0
 AllStored t = every allBytes (t .entries) ≡ true
 
 next-bytes : (s : State) (c : Command) → OfBytes c → AllStored (s .tables) → AllStored (nextTables s c)
-unfolding nextTables
-next-bytes s cramped b h = h
+unfolding nextTables refusal
+next-bytes s tooShort b h = h
 next-bytes s malformed b h = h
-next-bytes s (OPEN n) b h = h
-next-bytes s (CLOSE n) b h = h
-next-bytes s (ARBITRATE n e) b h = h
-next-bytes s (CONFIGURE e rows) b h = go (accepted s (CONFIGURE e rows))
+next-bytes s (onStreams x) b h = h
+next-bytes s (onPipeline (CONFIGURE e rows)) b h = go (accepted s (onPipeline (CONFIGURE e rows)))
   where
     go : (a : Bool) → AllStored (if a then noEntries else s .tables)
     go true = refl
     go false = h
-next-bytes s (WRITE e atomicity us) b h = go (accepted s (WRITE e atomicity us))
+next-bytes s (onTables (WRITE e atomicity us)) b h = go (accepted s (onTables (WRITE e atomicity us)))
   where
     go : (a : Bool) → AllStored (if a then batchOf s e atomicity us .tables else s .tables)
     go true =
         left-either AllStored atomicity (s .control .rows) (e .role) (s .tables) us h
         (alone-every allBytes (s .control .rows) (e .role) (s .tables) us (entries-bytes us b) h)
     go false = h
-next-bytes s (READ q) b h = h
+next-bytes s (onTables (READ q)) b h = h
 
 pub run-bytes : (room : ℕ) (s : State) (calls : List Call) → every ofBytes calls ≡ true → AllStored (s .tables)
     → AllStored (run s (commandsOf room calls) .tables)

@@ -8,7 +8,7 @@ use native.Mathlib.Omega.{arith}
 use lib.Dec.{eqb}
 use borrow.Author.Tests.{eqb-true, eq-eqb, ne-eqb, not-false}
 use Rattle.rules.specs.Bytes.{if_then_else_, keep, some-of, distinct}
-use Rattle.rules.specs.Frame.{Query, READ}
+use Rattle.rules.specs.Frame.{Query, READ, onTables}
 use Rattle.rules.specs.Row.{Row, known, rowFor}
 use Rattle.rules.specs.Key.{tableOf, keyOf, hasKey, shortKey}
 use Rattle.rules.specs.Update.{inTable}
@@ -72,7 +72,7 @@ one-row table (r ∷ rows) d k =
     go false q k apart ih = ih k
 
 -- what a READ of one key shows
-pub one-key : (s : State) (q : Query) → Formed (READ q) → Sound s → accepted s (READ q) ≡ true → q .only ≡ 1
+pub one-key : (s : State) (q : Query) → Formed (onTables (READ q)) → Sound s → accepted s (onTables (READ q)) ≡ true → q .only ≡ 1
     → shown s q ≡ keep (hasKey (shortKey (q .key))) (s .tables .entries)
 unfolding shown refusal readReason
 one-key s q f ok a o = rw (o, rows, table, append-nil) (ap (λ (t : ℕ). keep (hasKey k) (keep (inTable t) (s .tables .entries))) (sym here) ∙ key-of-table k (s .tables .entries))

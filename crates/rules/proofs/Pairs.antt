@@ -12,7 +12,7 @@ use lib.Seq.{drop-at}
 use borrow.Author.Tests.{eqb-true, eqb-false, eq-eqb, not-false}
 use Rattle.rules.specs.Bytes.{if_then_else_, concat, bytesOf}
 use Rattle.rules.specs.Reason.{codeOf, pairs}
-use Rattle.rules.specs.Frame.{Head, Update, Command, WRITE}
+use Rattle.rules.specs.Frame.{Head, Update, Command, WRITE, onTables}
 use Rattle.rules.specs.Answer.{answerBytes, replyOf}
 use Rattle.rules.specs.Call.{accepted, pairOf}
 use Rattle.rules.specs.LookBack.{Effect, Past, shows, effectOf, reasonAt, succeeds, noteUpdate, noteUpdates, someFails, tookEffect, rollsBack, noteBatch, noted, note, pairsAlone, pairsRolledBack, pairsSeen, answerSeen, replySeen}
@@ -146,8 +146,8 @@ pair-zero r = (λ e. cc, λ e. rw e)
 
 -- the pair of an update in the bytes of an accepted WRITE
 pub update-pair : (p : Past) (h : Head) (atomicity : ℕ) (us : List Update) (n r : ℕ) → PairAt (pairsSeen p (h .role) atomicity us) n r
-    → accepted (shows p) (WRITE h atomicity us) ≡ true
-    → pairAt n (replySeen p (WRITE h atomicity us) .written) ≡ pairOf r
+    → accepted (shows p) (onTables (WRITE h atomicity us)) ≡ true
+    → pairAt n (replySeen p (onTables (WRITE h atomicity us)) .written) ≡ pairOf r
 unfolding replySeen replyOf answerSeen answerBytes bytesOf
 update-pair p h atomicity us n r s q = rw q (go (someFails p (h .role) us))
   where
@@ -242,7 +242,7 @@ pub counted : (p : Past) (h : Head) (us : List Update) → Counted p h us
 unfolding note noted
 counted p h us = record {
   effects = λ atomicity q. rw q (counts p (h .role) atomicity us);
-  rolled-back = λ f. either (none-counted p (h .role) us f) (accepted (shows p) (WRITE h 1 us));
+  rolled-back = λ f. either (none-counted p (h .role) us f) (accepted (shows p) (onTables (WRITE h 1 us)));
 }
   where
     either : {l : List Effect} → l ≡ p .effects → (b : Bool) → (if b then l else p .effects) ≡ p .effects

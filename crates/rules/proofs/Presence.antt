@@ -10,7 +10,7 @@ use lib.Dec.{eqb}
 use lib.ListN.{length}
 use borrow.Author.Tests.{eqb-true, not-true}
 use Rattle.rules.specs.Bytes.{if_then_else_, some-of, same}
-use Rattle.rules.specs.Frame.{Update, Command, cramped, malformed, OPEN, CLOSE, ARBITRATE, CONFIGURE, WRITE, READ}
+use Rattle.rules.specs.Frame.{Update, Command, tooShort, malformed, OPEN, CLOSE, ARBITRATE, CONFIGURE, WRITE, READ, onStreams, onPipeline, onTables}
 use Rattle.rules.specs.Key.{keyOf, hasKey, shortKey}
 use Rattle.rules.specs.Entry.{shortEntry}
 use Rattle.rules.specs.Update.{stored, judge, judgeBy}
@@ -314,14 +314,14 @@ noted-batch p role atomicity us k d = go (rollsBack p role atomicity us)
 
 noted-call : (p : Past) (c : Command) → Formed c → Described (p .effects) → Described (noted p c)
 unfolding noted
-noted-call p cramped k d = d
+noted-call p tooShort k d = d
 noted-call p malformed k d = d
-noted-call p (OPEN n) k d = d
-noted-call p (CLOSE n) k d = d
-noted-call p (ARBITRATE n h) k d = d
-noted-call p (CONFIGURE h rows) k d = described-more (p .effects) cleared d (λ e i. refl)
-noted-call p (WRITE h atomicity us) k d = noted-batch p (h .role) atomicity us (k .1) d
-noted-call p (READ q) k d = d
+noted-call p (onStreams (OPEN n)) k d = d
+noted-call p (onStreams (CLOSE n)) k d = d
+noted-call p (onStreams (ARBITRATE n h)) k d = d
+noted-call p (onPipeline (CONFIGURE h rows)) k d = described-more (p .effects) cleared d (λ e i. refl)
+noted-call p (onTables (WRITE h atomicity us)) k d = noted-batch p (h .role) atomicity us (k .1) d
+noted-call p (onTables (READ q)) k d = d
 
 noted-calls : (p : Past) (cs : List Command) → EveryFormed cs → Described (p .effects) → Described (lookBack p cs .effects)
 unfolding lookBack note

@@ -8,8 +8,8 @@ use native.Mathlib.Omega.{arith}
 use lib.Dec.{eqb}
 use borrow.Author.Tests.{eqb-true, not-false}
 use Rattle.rules.specs.Bytes.{if_then_else_}
-use Rattle.rules.specs.Frame.{Head, Query, Command, cramped, malformed, OPEN, CLOSE, ARBITRATE, CONFIGURE, WRITE, READ}
-use Rattle.rules.specs.Streams.{closed, bound, Streams, streamAt, markOf, byPrimary}
+use Rattle.rules.specs.Frame.{Head, Query, Command, tooShort, malformed, OPEN, CLOSE, ARBITRATE, CONFIGURE, WRITE, READ, onStreams, onPipeline, onTables}
+use Rattle.rules.specs.Streams.{closed, bound, Streams, streamAt, markOf, byPrimary, openStream, closeStream, arbitrate}
 use Rattle.rules.specs.Row.{rowOf}
 use Rattle.rules.specs.Update.{noEntries}
 use Rattle.rules.specs.Call.{Control, State, Call, fresh, configureReason, writeReason, readReason, refusal, accepted, withRows, nextControl, batchOf, nextTables, next, shown, answer, commandOf, reply, run}
@@ -24,25 +24,15 @@ use Rattle.rules.proofs.LookBack.{fresh-shows}
 
 -- ---- one call
 
--- CONFIGURE leaves the stream record as it is
-configure-streams : (b : Bool) (c d : Control) → d .streams ≡ c .streams → (if b then d else c) .streams ≡ c .streams
-configure-streams true c d h = h
-configure-streams false c d h = refl
-
-configured : (s : State) (h : Head) (rows : List (List ℕ)) → nextControl s (CONFIGURE h rows) .streams ≡ s .control .streams
-unfolding nextControl
-configured s h rows = configure-streams (accepted s (CONFIGURE h rows)) (s .control) _ refl
-
 pub next-streams : (s : State) (c : Command) → SoundStreams (s .control .streams) → SoundStreams (nextControl s c .streams)
 unfolding nextControl
-next-streams s cramped ok = ok
+next-streams s tooShort ok = ok
 next-streams s malformed ok = ok
-next-streams s (OPEN n) ok = open-sound (s .control .streams) n ok
-next-streams s (CLOSE n) ok = close-sound (s .control .streams) n ok
-next-streams s (ARBITRATE n h) ok = arbitrate-sound (s .control .device) (s .control .streams) n h ok
-next-streams s (CONFIGURE h rows) ok = subst SoundStreams (sym (configured s h rows)) ok
-next-streams s (WRITE h atomicity us) ok = ok
-next-streams s (READ q) ok = ok
+next-streams s (onStreams (OPEN n)) ok = open-sound (s .control .streams) n ok
+next-streams s (onStreams (CLOSE n)) ok = close-sound (s .control .streams) n ok
+next-streams s (onStreams (ARBITRATE n h)) ok = arbitrate-sound (s .control .device) (s .control .streams) n h ok
+next-streams s (onPipeline x) ok = ok
+next-streams s (onTables x) ok = ok
 
 none-offered : (m n : ℕ) (b : Bool) → m ≡ n → m ≡ max n (if b then 0 else 0)
 none-offered m n true e = omega arith
@@ -52,28 +42,26 @@ none-offered m n false e = omega arith
 pub next-mark : (s : State) (c : Command) (role : ℕ) → SoundStreams (s .control .streams)
     → markOf (nextControl s c .streams) role
     ≡ max (markOf (s .control .streams) role) (if eqb (refusal s c) 0 then idFor role c else 0)
-unfolding nextControl refusal
-next-mark s cramped role ok = omega arith
+unfolding nextControl refusal openStream closeStream arbitrate
+next-mark s tooShort role ok = omega arith
 next-mark s malformed role ok = omega arith
-next-mark s (OPEN n) role ok = none-offered _ _ (accepted s (OPEN n)) (open-mark (s .control .streams) n role)
-next-mark s (CLOSE n) role ok = none-offered _ _ (accepted s (CLOSE n)) (close-mark (s .control .streams) n role)
-next-mark s (ARBITRATE n h) role ok = arbitrate-mark (s .control .device) (s .control .streams) n h role ok
-next-mark s (CONFIGURE h rows) role ok = none-offered _ _ (accepted s (CONFIGURE h rows)) (ap (λ e. markOf e role) (configured s h rows))
-next-mark s (WRITE h atomicity us) role ok = none-offered _ _ (accepted s (WRITE h atomicity us)) refl
-next-mark s (READ q) role ok = none-offered _ _ (accepted s (READ q)) refl
+next-mark s (onStreams (OPEN n)) role ok = none-offered _ _ (accepted s (onStreams (OPEN n))) (open-mark (s .control .streams) n role)
+next-mark s (onStreams (CLOSE n)) role ok = none-offered _ _ (accepted s (onStreams (CLOSE n))) (close-mark (s .control .streams) n role)
+next-mark s (onStreams (ARBITRATE n h)) role ok = arbitrate-mark (s .control .device) (s .control .streams) n h role ok
+next-mark s (onPipeline x) role ok = none-offered _ _ (accepted s (onPipeline x)) refl
+next-mark s (onTables x) role ok = none-offered _ _ (accepted s (onTables x)) refl
 
 -- a stream is what looking back says that the call leaves of it
 next-stream : (s : State) (c : Command) (t : ℕ) → SoundStreams (s .control .streams) → Formed c
     → streamAt (nextControl s c .streams) t ≡ leaves t c (refusal s c) (streamAt (s .control .streams) t)
-unfolding nextControl refusal
-next-stream s cramped t ok f = refl
+unfolding nextControl refusal openStream closeStream arbitrate
+next-stream s tooShort t ok f = refl
 next-stream s malformed t ok f = refl
-next-stream s (OPEN n) t ok f = open-stream (s .control .streams) t n ok f
-next-stream s (CLOSE n) t ok f = close-stream (s .control .streams) t n ok f
-next-stream s (ARBITRATE n h) t ok f = arbitrate-stream (s .control .device) (s .control .streams) t n h ok f
-next-stream s (CONFIGURE h rows) t ok f = ap (λ e. streamAt e t) (configured s h rows)
-next-stream s (WRITE h atomicity us) t ok f = refl
-next-stream s (READ q) t ok f = refl
+next-stream s (onStreams (OPEN n)) t ok f = open-stream (s .control .streams) t n ok f
+next-stream s (onStreams (CLOSE n)) t ok f = close-stream (s .control .streams) t n ok f
+next-stream s (onStreams (ARBITRATE n h)) t ok f = arbitrate-stream (s .control .device) (s .control .streams) t n h ok f
+next-stream s (onPipeline x) t ok f = refl
+next-stream s (onTables x) t ok f = refl
 
 -- ---- lists of calls
 
@@ -128,14 +116,14 @@ live-held device cs f role id h = record {
 
 gave : (s : State) (c : Command) (role id : ℕ) → Gives role id c → accepted s c ≡ true → byPrimary (s .control .streams) role id ≡ true
 unfolding refusal configureReason writeReason
-gave s cramped role id g a = absurd g
+gave s tooShort role id g a = absurd g
 gave s malformed role id g a = absurd g
-gave s (OPEN n) role id g a = absurd g
-gave s (CLOSE n) role id g a = absurd g
-gave s (ARBITRATE n h) role id g a = absurd g
-gave s (CONFIGURE h rows) role id g a = rw (← g .0, ← g .1) (not-false _ (first-clear _ refl (eqb-true _ _ a) .1 .1 .1 .0))
-gave s (WRITE h atomicity us) role id g a = rw (← g .0, ← g .1) (not-false _ (first-clear _ refl (eqb-true _ _ a) .1 .1 .0))
-gave s (READ q) role id g a = absurd g
+gave s (onStreams (OPEN n)) role id g a = absurd g
+gave s (onStreams (CLOSE n)) role id g a = absurd g
+gave s (onStreams (ARBITRATE n h)) role id g a = absurd g
+gave s (onPipeline (CONFIGURE h rows)) role id g a = rw (← g .0, ← g .1) (not-false _ (first-clear _ refl (eqb-true _ _ a) .1 .1 .1 .0))
+gave s (onTables (WRITE h atomicity us)) role id g a = rw (← g .0, ← g .1) (not-false _ (first-clear _ refl (eqb-true _ _ a) .1 .1 .0))
+gave s (onTables (READ q)) role id g a = absurd g
 
 -- ---- a call that changes no entry
 
@@ -145,31 +133,29 @@ record Alike (s t : State) : Type 0 where
   rows : t .control .rows ≡ s .control .rows
   tables : t .tables ≡ s .tables
 
-read-alike : (s t : State) → Alike s t → (q : Query) → reply s (READ q) ≡ reply t (READ q)
+read-alike : (s t : State) → Alike s t → (q : Query) → reply s (onTables (READ q)) ≡ reply t (onTables (READ q))
 unfolding reply answer refusal readReason shown
 read-alike s t a q = rw (a .device, a .rows, a .tables)
 
 -- a call that is refused, or gives no id
 next-alike : (s : State) (c : Command) → ((role id : ℕ) → Gives role id c → accepted s c ≡ true → ⊥) → Alike s (next s c)
-unfolding next nextControl nextTables
-next-alike s cramped n = record { device = refl; rows = refl; tables = refl }
+unfolding next nextControl nextTables refusal
+next-alike s tooShort n = record { device = refl; rows = refl; tables = refl }
 next-alike s malformed n = record { device = refl; rows = refl; tables = refl }
-next-alike s (OPEN m) n = record { device = refl; rows = refl; tables = refl }
-next-alike s (CLOSE m) n = record { device = refl; rows = refl; tables = refl }
-next-alike s (ARBITRATE m h) n = record { device = refl; rows = refl; tables = refl }
-next-alike s (CONFIGURE h rows) n = go (accepted s (CONFIGURE h rows)) refl
+next-alike s (onStreams x) n = record { device = refl; rows = refl; tables = refl }
+next-alike s (onPipeline (CONFIGURE h rows)) n = go (accepted s (onPipeline (CONFIGURE h rows))) refl
   where
-    go : (b : Bool) → accepted s (CONFIGURE h rows) ≡ b
-        → Alike s (record { control = if b then withRows (s .control) (map rowOf rows) else s .control; tables = if b then noEntries else s .tables })
+    go : (b : Bool) → accepted s (onPipeline (CONFIGURE h rows)) ≡ b
+        → Alike s (record { control = withRows (s .control) (if b then map rowOf rows else s .control .rows); tables = if b then noEntries else s .tables })
     go true q = absurd (n (h .role) (h .id) (refl, refl) q)
     go false q = record { device = refl; rows = refl; tables = refl }
-next-alike s (WRITE h atomicity us) n = go (accepted s (WRITE h atomicity us)) refl
+next-alike s (onTables (WRITE h atomicity us)) n = go (accepted s (onTables (WRITE h atomicity us))) refl
   where
-    go : (b : Bool) → accepted s (WRITE h atomicity us) ≡ b
+    go : (b : Bool) → accepted s (onTables (WRITE h atomicity us)) ≡ b
         → Alike s (record { control = s .control; tables = if b then batchOf s h atomicity us .tables else s .tables })
     go true q = absurd (n (h .role) (h .id) (refl, refl) q)
     go false q = record { device = refl; rows = refl; tables = refl }
-next-alike s (READ q) n = record { device = refl; rows = refl; tables = refl }
+next-alike s (onTables (READ q)) n = record { device = refl; rows = refl; tables = refl }
 
 -- ---- the claim
 

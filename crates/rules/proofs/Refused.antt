@@ -4,24 +4,23 @@ use Prim.Native.Nat.{ℕ}
 use mathlib.Core.Path.{_≡_, refl, ap, _∙_}
 use mathlib.Core.Bool.{Bool, true, false}
 use Rattle.rules.specs.Bytes.{if_then_else_, between}
-use Rattle.rules.specs.Frame.{Command, cramped, malformed, OPEN, CLOSE, ARBITRATE, CONFIGURE, WRITE, READ}
+use Rattle.rules.specs.Frame.{Command, tooShort, malformed, OPEN, CLOSE, ARBITRATE, CONFIGURE, WRITE, READ, onStreams, onPipeline, onTables}
 use Rattle.rules.specs.Streams.{Streams, become, closed, openStream, closeStream, arbitrate}
-use Rattle.rules.specs.Call.{State, refusal, accepted, withStreams, nextControl, nextTables, next}
+use Rattle.rules.specs.Call.{State, refusal, accepted, withStreams, withRows, nextControl, nextTables, next}
 use Rattle.rules.specs.Refused.{streamsLeft, LeftAlone}
 
 marks-left : (e : Streams) (c : Command) (r : ℕ) → streamsLeft e c r .marks ≡ e .marks
-marks-left e cramped r = refl
+marks-left e tooShort r = refl
 marks-left e malformed r = refl
-marks-left e (OPEN n) r = refl
-marks-left e (CLOSE n) r = refl
-marks-left e (ARBITRATE n h) r = go (between 5 9 r)
+marks-left e (onStreams (OPEN n)) r = refl
+marks-left e (onStreams (CLOSE n)) r = refl
+marks-left e (onStreams (ARBITRATE n h)) r = go (between 5 9 r)
   where
     go : (b : Bool) → (if b then become e n closed else e) .marks ≡ e .marks
     go true = refl
     go false = refl
-marks-left e (CONFIGURE h rows) r = refl
-marks-left e (WRITE h atomicity us) r = refl
-marks-left e (READ q) r = refl
+marks-left e (onPipeline x) r = refl
+marks-left e (onTables x) r = refl
 
 left-alone : (s : State) (c : Command) → nextTables s c ≡ s .tables
     → nextControl s c ≡ withStreams (s .control) (streamsLeft (s .control .streams) c (refusal s c)) → LeftAlone s c
@@ -39,11 +38,13 @@ not-taken b x y h = rw h
 
 pub refused : (s : State) (c : Command) → accepted s c ≡ false → LeftAlone s c
 unfolding nextControl nextTables refusal openStream closeStream arbitrate
-refused s cramped q = left-alone s cramped refl refl
+refused s tooShort q = left-alone s tooShort refl refl
 refused s malformed q = left-alone s malformed refl refl
-refused s (OPEN n) q = left-alone s (OPEN n) refl (ap (withStreams (s .control)) (not-taken (accepted s (OPEN n)) _ _ q))
-refused s (CLOSE n) q = left-alone s (CLOSE n) refl (ap (withStreams (s .control)) (not-taken (accepted s (CLOSE n)) _ _ q))
-refused s (ARBITRATE n h) q = left-alone s (ARBITRATE n h) refl (ap (withStreams (s .control)) (not-taken (accepted s (ARBITRATE n h)) _ _ q))
-refused s (CONFIGURE h rows) q = left-alone s (CONFIGURE h rows) (not-taken (accepted s (CONFIGURE h rows)) _ _ q) (not-taken (accepted s (CONFIGURE h rows)) _ _ q)
-refused s (WRITE h atomicity us) q = left-alone s (WRITE h atomicity us) (not-taken (accepted s (WRITE h atomicity us)) _ _ q) refl
-refused s (READ x) q = left-alone s (READ x) refl refl
+refused s (onStreams (OPEN n)) q = left-alone s (onStreams (OPEN n)) refl (ap (withStreams (s .control)) (not-taken (accepted s (onStreams (OPEN n))) _ _ q))
+refused s (onStreams (CLOSE n)) q = left-alone s (onStreams (CLOSE n)) refl (ap (withStreams (s .control)) (not-taken (accepted s (onStreams (CLOSE n))) _ _ q))
+refused s (onStreams (ARBITRATE n h)) q = left-alone s (onStreams (ARBITRATE n h)) refl (ap (withStreams (s .control)) (not-taken (accepted s (onStreams (ARBITRATE n h))) _ _ q))
+refused s (onPipeline (CONFIGURE h rows)) q =
+    left-alone s (onPipeline (CONFIGURE h rows)) (not-taken (accepted s (onPipeline (CONFIGURE h rows))) _ _ q)
+    (ap (withRows (s .control)) (not-taken (accepted s (onPipeline (CONFIGURE h rows))) _ _ q))
+refused s (onTables (WRITE h atomicity us)) q = left-alone s (onTables (WRITE h atomicity us)) (not-taken (accepted s (onTables (WRITE h atomicity us))) _ _ q) refl
+refused s (onTables (READ x)) q = left-alone s (onTables (READ x)) refl refl

@@ -10,13 +10,13 @@ use native.Mathlib.Omega.{arith}
 use lib.Dec.{eqb}
 use lib.ListN.{length, replicate, length-append, length-map, length-set, length-replicate}
 use Rattle.rules.specs.Bytes.{if_then_else_, keep, concat, sum, between, numberFrom, int, bytesOf}
-use Rattle.rules.specs.Frame.{Head, Update, Query, Command, cramped, malformed, OPEN, CLOSE, ARBITRATE, CONFIGURE, WRITE, READ}
+use Rattle.rules.specs.Frame.{Head, Update, Query, Command, tooShort, malformed, OPEN, CLOSE, ARBITRATE, CONFIGURE, WRITE, READ, onStreams, onPipeline, onTables}
 use Rattle.rules.specs.Streams.{Stream, closed, unbound, bound, Streams, numbers, inRole, members, markOf, noticeOf, notification, notifyAll, is, primary, become, streamAt, leaving, closeReason, openStream, closeRecords, closeStream, arbitrateReason, binds, samePair, bindRecords, arbitrate}
 use Rattle.rules.specs.Row.{Row}
 use Rattle.rules.specs.Key.{hasKey, shortKey}
 use Rattle.rules.specs.Update.{Tables, inTable, held, judge, apply, eachAlone, failure, unlessFailed, allOrNone, batch}
 use Rattle.rules.specs.Answer.{Answer, answerBytes, replyOf}
-use Rattle.rules.specs.Call.{State, fresh, refusal, accepted, plain, pairOf, headOf, batchOf, asked, gathered, shown, answer, commandOf, reply, run}
+use Rattle.rules.specs.Call.{State, fresh, refusal, accepted, plain, pairOf, headReason, batchOf, asked, gathered, shown, answer, commandOf, reply, run}
 use Rattle.rules.specs.Agreement.{commandsOf, replyAfter}
 use Rattle.rules.specs.Sound.{EveryStored, Within, Sound}
 use Rattle.rules.specs.Sizes.{AnswerFits}
@@ -184,48 +184,44 @@ shown-sized s q ok = choose 220 (eqb (q .only) 1) _ _ (kept, fewer) (lengths, co
 
 -- the size of the records that a command is answered with: notifications, pairs, entries
 abbrev pub sizeOf : Command → ℕ
-sizeOf cramped = 0
+sizeOf tooShort = 0
 sizeOf malformed = 0
-sizeOf (OPEN n) = 20
-sizeOf (CLOSE n) = 20
-sizeOf (ARBITRATE n h) = 20
-sizeOf (CONFIGURE h rows) = 0
-sizeOf (WRITE h atomicity us) = 2
-sizeOf (READ q) = 220
+sizeOf (onStreams x) = 20
+sizeOf (onPipeline x) = 0
+sizeOf (onTables (WRITE h atomicity us)) = 2
+sizeOf (onTables (READ q)) = 220
 
 pub answer-sized : (s : State) (c : Command) → Formed c → Sound s → Sized (sizeOf c) (answer s c .records)
-unfolding answer openStream closeStream arbitrate
-answer-sized s cramped f ok = none-sized 0
+unfolding answer refusal openStream closeStream arbitrate
+answer-sized s tooShort f ok = none-sized 0
 answer-sized s malformed f ok = none-sized 0
-answer-sized s (OPEN n) f ok = none-sized 20
-answer-sized s (CLOSE n) f ok =
+answer-sized s (onStreams (OPEN n)) f ok = none-sized 20
+answer-sized s (onStreams (CLOSE n)) f ok =
     choose 20 (eqb (closeReason (s .control .streams) n) 0) _ _ (close-sized (s .control .streams) n (ok .streams .thirty-two)) (none-sized 20)
-answer-sized s (ARBITRATE n h) f ok =
+answer-sized s (onStreams (ARBITRATE n h)) f ok =
     let r = arbitrateReason (s .control .device) (s .control .streams) n h in
     choose 20 (eqb r 0) _ _ (bind-sized (s .control .streams) n h (ok .streams .thirty-two))
     (choose 20 (between 5 9 r) _ _ (close-sized (s .control .streams) n (ok .streams .thirty-two)) (none-sized 20))
-answer-sized s (CONFIGURE h rows) f ok = none-sized 0
-answer-sized s (WRITE h atomicity us) f ok = go (accepted s (WRITE h atomicity us))
+answer-sized s (onPipeline x) f ok = none-sized 0
+answer-sized s (onTables (WRITE h atomicity us)) f ok = go (accepted s (onTables (WRITE h atomicity us)))
   where
-    go : (b : Bool) → Sized 2 ((if b then record { reason = headOf (batchOf s h atomicity us .reasons); records = map pairOf (batchOf s h atomicity us .reasons) } else
-        plain (refusal s (WRITE h atomicity us))) .records)
+    go : (b : Bool) → Sized 2 ((if b then record { reason = headReason (batchOf s h atomicity us .reasons); records = map pairOf (batchOf s h atomicity us .reasons) } else
+        plain (refusal s (onTables (WRITE h atomicity us)))) .records)
     go true = pairs-sized s h atomicity us (f .0)
     go false = none-sized 2
-answer-sized s (READ q) f ok = go (accepted s (READ q))
+answer-sized s (onTables (READ q)) f ok = go (accepted s (onTables (READ q)))
   where
-    go : (b : Bool) → Sized 220 ((if b then record { reason = 0; records = shown s q } else plain (refusal s (READ q))) .records)
+    go : (b : Bool) → Sized 220 ((if b then record { reason = 0; records = shown s q } else plain (refusal s (onTables (READ q)))) .records)
     go true = shown-sized s q ok
     go false = none-sized 220
 
 pub size-small : (c : Command) → sizeOf c ≤ 220
-size-small cramped = omega arith
+size-small tooShort = omega arith
 size-small malformed = omega arith
-size-small (OPEN n) = omega arith
-size-small (CLOSE n) = omega arith
-size-small (ARBITRATE n h) = omega arith
-size-small (CONFIGURE h rows) = omega arith
-size-small (WRITE h atomicity us) = omega arith
-size-small (READ q) = omega arith
+size-small (onStreams x) = omega arith
+size-small (onPipeline x) = omega arith
+size-small (onTables (WRITE h atomicity us)) = omega arith
+size-small (onTables (READ q)) = omega arith
 
 answer-small : (s : State) (c : Command) → Formed c → Sound s → length (concat (answer s c .records)) ≤ 56_320
 answer-small s c f ok =
@@ -239,14 +235,14 @@ count-read a rest h = omega arith
 
 -- a WRITE has a pair for each update where it is accepted, and none where it is refused
 pub write-count : (s : State) (h : Head) (atomicity : ℕ) (us : List Update)
-    → length (answer s (WRITE h atomicity us) .records) ≡ (if accepted s (WRITE h atomicity us) then length us else 0)
-unfolding answer
-write-count s h atomicity us = go (accepted s (WRITE h atomicity us))
+    → length (answer s (onTables (WRITE h atomicity us)) .records) ≡ (if accepted s (onTables (WRITE h atomicity us)) then length us else 0)
+unfolding answer refusal
+write-count s h atomicity us = go (accepted s (onTables (WRITE h atomicity us)))
   where
     rs : List ℕ
     rs = batchOf s h atomicity us .reasons
 
-    go : (b : Bool) → length ((if b then record { reason = headOf rs; records = map pairOf rs } else plain (refusal s (WRITE h atomicity us))) .records)
+    go : (b : Bool) → length ((if b then record { reason = headReason rs; records = map pairOf rs } else plain (refusal s (onTables (WRITE h atomicity us)))) .records)
         ≡ (if b then length us else 0)
     go true = length-map rs pairOf ∙ reasons-count atomicity (s .control .rows) (h .role) (s .tables) us
     go false = refl

@@ -6,7 +6,7 @@ use mathlib.Core.List.{List, [], _∷_, map}
 use native.Mathlib.Omega.{arith}
 use borrow.Author.Tests.{eqb-true, leb-true, not-false}
 use Rattle.rules.specs.Bytes.{if_then_else_, every, sum, distinct}
-use Rattle.rules.specs.Frame.{Head, Update, Command, cramped, malformed, OPEN, CLOSE, ARBITRATE, CONFIGURE, WRITE, READ}
+use Rattle.rules.specs.Frame.{Head, Update, Command, tooShort, malformed, OPEN, CLOSE, ARBITRATE, CONFIGURE, WRITE, READ, onStreams, onPipeline, onTables}
 use Rattle.rules.specs.Streams.{markOf}
 use Rattle.rules.specs.Row.{Row, rowOf, rowAllowed, rowsAllowed, configurationAllowed, unusedZero}
 use Rattle.rules.specs.Update.{noEntries}
@@ -35,7 +35,7 @@ unfolding rowsAllowed
 sizes-fit rows h = leb-true _ 256 (and-true (every rowAllowed rows && distinct (ids rows)) _ h .1)
 
 -- an accepted CONFIGURE passed 14
-passed-14 : (s : State) (h : Head) (rows : List (List ℕ)) → accepted s (CONFIGURE h rows) ≡ true → rowsAllowed (map rowOf rows) ≡ true
+passed-14 : (s : State) (h : Head) (rows : List (List ℕ)) → accepted s (onPipeline (CONFIGURE h rows)) ≡ true → rowsAllowed (map rowOf rows) ≡ true
 unfolding refusal configureReason configurationAllowed
 passed-14 s h rows a =
     let c = first-clear _ refl (eqb-true _ _ a) in
@@ -44,21 +44,21 @@ passed-14 s h rows a =
 -- ---- a call
 
 configure-sound : (s : State) (h : Head) (rows : List (List ℕ)) → Sound s
-    → (rowsAllowed (nextControl s (CONFIGURE h rows) .rows) ≡ true)
-    × SoundTables (nextControl s (CONFIGURE h rows) .rows) (nextTables s (CONFIGURE h rows))
-unfolding nextControl nextTables
-configure-sound s h rows ok = go (accepted s (CONFIGURE h rows)) refl
+    → (rowsAllowed (nextControl s (onPipeline (CONFIGURE h rows)) .rows) ≡ true)
+    × SoundTables (nextControl s (onPipeline (CONFIGURE h rows)) .rows) (nextTables s (onPipeline (CONFIGURE h rows)))
+unfolding nextControl nextTables refusal
+configure-sound s h rows ok = go (accepted s (onPipeline (CONFIGURE h rows))) refl
   where
-    go : (b : Bool) → accepted s (CONFIGURE h rows) ≡ b
-        → (rowsAllowed ((if b then withRows (s .control) (map rowOf rows) else s .control) .rows) ≡ true)
-        × SoundTables ((if b then withRows (s .control) (map rowOf rows) else s .control) .rows) (if b then noEntries else s .tables)
+    go : (b : Bool) → accepted s (onPipeline (CONFIGURE h rows)) ≡ b
+        → (rowsAllowed (if b then map rowOf rows else s .control .rows) ≡ true)
+        × SoundTables (if b then map rowOf rows else s .control .rows) (if b then noEntries else s .tables)
     go true q = (passed-14 s h rows q, none-sound (map rowOf rows))
     go false q = (ok .rows, ok .tables)
 
 write-sound : (s : State) (h : Head) (atomicity : ℕ) (us : List Update) → Whole us → Sound s
-    → SoundTables (s .control .rows) (nextTables s (WRITE h atomicity us))
-unfolding nextTables
-write-sound s h atomicity us w ok = go (accepted s (WRITE h atomicity us))
+    → SoundTables (s .control .rows) (nextTables s (onTables (WRITE h atomicity us)))
+unfolding nextTables refusal
+write-sound s h atomicity us w ok = go (accepted s (onTables (WRITE h atomicity us)))
   where
     go : (b : Bool) → SoundTables (s .control .rows) (if b then batchOf s h atomicity us .tables else s .tables)
     go true =
@@ -68,16 +68,14 @@ write-sound s h atomicity us w ok = go (accepted s (WRITE h atomicity us))
 
 pub next-sound : (s : State) (c : Command) → Formed c → Sound s → Sound (next s c)
 unfolding next nextControl nextTables
-next-sound s cramped f ok = ok
+next-sound s tooShort f ok = ok
 next-sound s malformed f ok = ok
-next-sound s (OPEN n) f ok = record { streams = next-streams s (OPEN n) (ok .streams); rows = ok .rows; tables = ok .tables }
-next-sound s (CLOSE n) f ok = record { streams = next-streams s (CLOSE n) (ok .streams); rows = ok .rows; tables = ok .tables }
-next-sound s (ARBITRATE n h) f ok = record { streams = next-streams s (ARBITRATE n h) (ok .streams); rows = ok .rows; tables = ok .tables }
-next-sound s (CONFIGURE h rows) f ok =
+next-sound s (onStreams x) f ok = record { streams = next-streams s (onStreams x) (ok .streams); rows = ok .rows; tables = ok .tables }
+next-sound s (onPipeline (CONFIGURE h rows)) f ok =
     let w = configure-sound s h rows ok in
-    record { streams = next-streams s (CONFIGURE h rows) (ok .streams); rows = w .0; tables = w .1 }
-next-sound s (WRITE h atomicity us) f ok = record { streams = ok .streams; rows = ok .rows; tables = write-sound s h atomicity us (f .1) ok }
-next-sound s (READ q) f ok = ok
+    record { streams = ok .streams; rows = w .0; tables = w .1 }
+next-sound s (onTables (WRITE h atomicity us)) f ok = record { streams = ok .streams; rows = ok .rows; tables = write-sound s h atomicity us (f .1) ok }
+next-sound s (onTables (READ q)) f ok = ok
 
 -- ---- lists of calls
 

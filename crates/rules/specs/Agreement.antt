@@ -6,7 +6,7 @@ use mathlib.Core.Logic.{_⊎_, _↔_}
 use mathlib.Core.List.{List, [], _∷_, _++_, map}
 use Prim.Native.Nat.{ℕ, _+_, _*_}
 use lib.ListN.{length, take, drop}
-use Rattle.rules.specs.Frame.{Head, Update, Query, Command, WRITE, READ}
+use Rattle.rules.specs.Frame.{Head, Update, Query, Command, WRITE, READ, onTables}
 use Rattle.rules.specs.Answer.{Reply}
 use Rattle.rules.specs.Call.{Call, fresh, accepted, commandOf, next, reply, run}
 use Rattle.rules.specs.LookBack.{Past, nothing, shows, tookEffect, lookBack, replySeen}
@@ -36,12 +36,12 @@ pub record Agreement (room device : ℕ) (before : List Call) (c : Call) : Type 
       ↔ (accepted (shows (pastOf room device before)) (commandOf room c) ≡ true)
   -- an update of an accepted WRITE is answered (0, 0) exactly when it took effect by looking back
   pub updates : (h : Head) (atomicity : ℕ) (earlier : List Update) (u : Update) (later : List Update)
-      → commandOf room c ≡ WRITE h atomicity (earlier ++ u ∷ later)
+      → commandOf room c ≡ onTables (WRITE h atomicity (earlier ++ u ∷ later))
       → accepted (shows (pastOf room device before)) (commandOf room c) ≡ true
       → (pairAt (length earlier) (replyAfter room device before c .written) ≡ 0 ∷ 0 ∷ [])
       ↔ (tookEffect (pastOf room device before) (h .role) atomicity earlier u later ≡ true)
   -- after a WRITE with atomicity 1 that returned 23 every READ has the answer that it had before it
-  pub rolled-back : (h : Head) (us : List Update) → commandOf room c ≡ WRITE h 1 us → replyAfter room device before c .returned ≡ 23
+  pub rolled-back : (h : Head) (us : List Update) → commandOf room c ≡ onTables (WRITE h 1 us) → replyAfter room device before c .returned ≡ 23
       → (q : Query)
-      → reply (run (fresh device) (commandsOf room before)) (READ q)
-      ≡ reply (next (run (fresh device) (commandsOf room before)) (commandOf room c)) (READ q)
+      → reply (run (fresh device) (commandsOf room before)) (onTables (READ q))
+      ≡ reply (next (run (fresh device) (commandsOf room before)) (commandOf room c)) (onTables (READ q))

@@ -5,7 +5,7 @@ use mathlib.Core.Logic.{_⊎_}
 use mathlib.Core.List.{List}
 use Prim.Native.Nat.{ℕ}
 use Rattle.rules.specs.Bytes.{Pointwise}
-use Rattle.rules.specs.Frame.{Head, Update, Command, WRITE}
+use Rattle.rules.specs.Frame.{Head, Update, Command, WRITE, onTables}
 use Rattle.rules.specs.Row.{Row}
 use Rattle.rules.specs.Key.{keyOf}
 use Rattle.rules.specs.Update.{Tables, judge, apply, batch}
@@ -30,8 +30,8 @@ pub record SameWrite (c d : Command) : Type 0 where
   pub atomicity : ℕ
   pub us : List Update
   pub vs : List Update
-  pub one : c ≡ WRITE head atomicity us
-  pub other : d ≡ WRITE head atomicity vs
+  pub one : c ≡ onTables (WRITE head atomicity us)
+  pub other : d ≡ onTables (WRITE head atomicity vs)
   pub updates : Pointwise Alike us vs
 
 -- And so two commands.

@@ -8,7 +8,7 @@ use mathlib.Core.List.{List, _∷_, _++_}
 use Prim.Native.Nat.{ℕ}
 use lib.ListN.{length}
 use Rattle.rules.specs.Bytes.{between, every, allBytes}
-use Rattle.rules.specs.Frame.{Head, Update, Query, WRITE, READ}
+use Rattle.rules.specs.Frame.{Head, Update, Query, WRITE, READ, onTables}
 use Rattle.rules.specs.Row.{Row, rowFor}
 use Rattle.rules.specs.Value.{value, isValue, short}
 use Rattle.rules.specs.Key.{tableOf, keyFormed, shortKey, keyNumbers, hasKey}
@@ -64,15 +64,15 @@ pub record KeysCompared (room device : ℕ) (before : List Call) (c : Call) : Ty
   pub once : Ordered (λ (x y : List ℕ). keyNumbers x ≡ keyNumbers y → ⊥) (present (pastOf room device before .effects))
   -- every update of a WRITE is compared as numbers with what is present after the earlier ones,
   pub updates : (h : Head) (atomicity : ℕ) (earlier : List Update) (u : Update) (later : List Update)
-      → commandOf room c ≡ WRITE h atomicity (earlier ++ u ∷ later)
+      → commandOf room c ≡ onTables (WRITE h atomicity (earlier ++ u ∷ later))
       → Compared (noteUpdates (pastOf room device before) (h .role) earlier) (h .role) u
   -- which is what the rules have stored then (with atomicity 1 an update is judged where the earlier ones succeed, by the same),
   pub entries : (h : Head) (earlier : List Update)
       → batchOf (run (fresh device) (commandsOf room before)) h 0 earlier .tables
       ≡ shows (noteUpdates (pastOf room device before) (h .role) earlier) .tables
   -- and an accepted READ of one key shows exactly the entries that have the same numbers.
-  pub reads : (q : Query) → commandOf room c ≡ READ q → q .only ≡ 1
-      → accepted (shows (pastOf room device before)) (READ q) ≡ true
+  pub reads : (q : Query) → commandOf room c ≡ onTables (READ q) → q .only ≡ 1
+      → accepted (shows (pastOf room device before)) (onTables (READ q)) ≡ true
       → (e : List ℕ) →
       let p = pastOf room device before in
       In e (readSeen (p .control .rows) q (present (p .effects)))

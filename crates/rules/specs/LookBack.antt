@@ -7,14 +7,13 @@ use mathlib.Core.List.{List, [], _∷_, _++_, map}
 use Prim.Native.Nat.{ℕ}
 use lib.Dec.{eqb}
 use Rattle.rules.specs.Bytes.{if_then_else_, keep, same}
-use Rattle.rules.specs.Frame.{Update, Query, Command, cramped, malformed, OPEN, CLOSE, ARBITRATE, CONFIGURE, WRITE, READ}
-use Rattle.rules.specs.Streams.{openStream, closeStream, arbitrate}
+use Rattle.rules.specs.Frame.{Update, Query, CONFIGURE, WRITE, READ, Command, tooShort, malformed, onStreams, onPipeline, onTables}
 use Rattle.rules.specs.Row.{Row, mayWrite}
 use Rattle.rules.specs.Key.{tableOf, shortKey, keyOf}
 use Rattle.rules.specs.Entry.{shortEntry}
 use Rattle.rules.specs.Update.{judge}
 use Rattle.rules.specs.Answer.{Answer, Reply, replyOf}
-use Rattle.rules.specs.Call.{Control, State, fresh, refusal, accepted, nextControl, heard, plain, pairOf}
+use Rattle.rules.specs.Call.{Control, State, fresh, refusal, accepted, nextControl, streamEvent, eventAnswer, plain, pairOf}
 
 -- ---- effects
 
@@ -113,14 +112,12 @@ noteBatch p role atomicity us = if rollsBack p role atomicity us then p else not
 
 -- what an accepted call adds to the effects
 unfoldable pub noted : Past → Command → List Effect
-noted p cramped = p .effects
+noted p tooShort = p .effects
 noted p malformed = p .effects
-noted p (OPEN n) = p .effects
-noted p (CLOSE n) = p .effects
-noted p (ARBITRATE n h) = p .effects
-noted p (CONFIGURE h rows) = p .effects ++ (cleared ∷ [])
-noted p (WRITE h atomicity us) = noteBatch p (h .role) atomicity us .effects
-noted p (READ q) = p .effects
+noted p (onStreams x) = p .effects
+noted p (onPipeline (CONFIGURE h rows)) = p .effects ++ (cleared ∷ [])
+noted p (onTables (WRITE h atomicity us)) = noteBatch p (h .role) atomicity us .effects
+noted p (onTables (READ q)) = p .effects
 
 -- the past after one more call, and after a list of them, refused ones included
 unfoldable pub note : Past → Command → Past
@@ -169,20 +166,18 @@ readSeen (row ∷ rows) q es = keep (asksFor q row) es ++ readSeen rows q es
 
 -- what a call after the past p answers
 unfoldable pub answerSeen : Past → Command → Answer
-answerSeen p cramped = plain 2
+answerSeen p tooShort = plain 2
 answerSeen p malformed = plain 1
-answerSeen p (OPEN n) = heard (openStream (p .control .streams) n)
-answerSeen p (CLOSE n) = heard (closeStream (p .control .streams) n)
-answerSeen p (ARBITRATE n h) = heard (arbitrate (p .control .device) (p .control .streams) n h)
-answerSeen p (CONFIGURE h rows) = plain (refusal (shows p) (CONFIGURE h rows))
-answerSeen p (WRITE h atomicity us) =
-    if accepted (shows p) (WRITE h atomicity us)
+answerSeen p (onStreams x) = eventAnswer (streamEvent (shows p) x)
+answerSeen p (onPipeline x) = plain (refusal (shows p) (onPipeline x))
+answerSeen p (onTables (WRITE h atomicity us)) =
+    if accepted (shows p) (onTables (WRITE h atomicity us))
     then record { reason = if someFails p (h .role) us then 23 else 0; records = pairsSeen p (h .role) atomicity us }
-    else plain (refusal (shows p) (WRITE h atomicity us))
-answerSeen p (READ q) =
-    if accepted (shows p) (READ q)
+    else plain (refusal (shows p) (onTables (WRITE h atomicity us)))
+answerSeen p (onTables (READ q)) =
+    if accepted (shows p) (onTables (READ q))
     then record { reason = 0; records = readSeen (p .control .rows) q (present (p .effects)) }
-    else plain (refusal (shows p) (READ q))
+    else plain (refusal (shows p) (onTables (READ q)))
 
 unfoldable pub replySeen : Past → Command → Reply
 replySeen p c = replyOf (answerSeen p c)

@@ -7,10 +7,10 @@ use Prim.Native.Nat.{ℕ}
 use lib.Dec.{eqb}
 use lib.ListN.{length, replicate}
 use Rattle.rules.specs.Bytes.{if_then_else_, every}
-use Rattle.rules.specs.Frame.{Head, Update, WRITE}
+use Rattle.rules.specs.Frame.{Head, Update, WRITE, onTables}
 use Rattle.rules.specs.Row.{Row}
 use Rattle.rules.specs.Update.{Tables, judge, Batch, batch}
-use Rattle.rules.specs.Call.{accepted, headOf}
+use Rattle.rules.specs.Call.{accepted, headReason}
 use Rattle.rules.specs.LookBack.{Effect, Past, shows, effectOf, someFails, tookEffect, note}
 
 -- of batches by a role under these rows, the tables before them being t
@@ -35,8 +35,8 @@ module _ (rows : List Row) (role : ℕ) (t : Tables) where
         → (atomic (earlier ++ u ∷ later) .tables ≡ t)
         × (atomic (earlier ++ u ∷ later) .reasons ≡ replicate (length earlier) 25 ++ r ∷ replicate (length later) 25)
     -- the head is 23 exactly where it is with atomicity 0, and then the tables are those before the batch
-    pub head : (us : List Update) → headOf (atomic us .reasons) ≡ headOf (alone us .reasons)
-    pub left : (us : List Update) → headOf (atomic us .reasons) ≡ 23 → atomic us .tables ≡ t
+    pub head : (us : List Update) → headReason (atomic us .reasons) ≡ headReason (alone us .reasons)
+    pub left : (us : List Update) → headReason (atomic us .reasons) ≡ 23 → atomic us .tables ≡ t
 
 -- the effects of those updates `us` of a batch that took effect, in order; `earlier` are the updates before them
 unfoldable pub effectsOf : Past → ℕ → ℕ → List Update → List Update → List Effect
@@ -47,7 +47,7 @@ effectsOf p role atomicity earlier (u ∷ us) =
 
 pub record Counted (p : Past) (h : Head) (us : List Update) : Type 0 where
   -- looking back counts the updates of an accepted WRITE that took effect, and no other
-  pub effects : (atomicity : ℕ) → accepted (shows p) (WRITE h atomicity us) ≡ true
-      → note p (WRITE h atomicity us) .effects ≡ p .effects ++ effectsOf p (h .role) atomicity [] us
+  pub effects : (atomicity : ℕ) → accepted (shows p) (onTables (WRITE h atomicity us)) ≡ true
+      → note p (onTables (WRITE h atomicity us)) .effects ≡ p .effects ++ effectsOf p (h .role) atomicity [] us
   -- and of a batch that was rolled back none
-  pub rolled-back : someFails p (h .role) us ≡ true → note p (WRITE h 1 us) .effects ≡ p .effects
+  pub rolled-back : someFails p (h .role) us ≡ true → note p (onTables (WRITE h 1 us)) .effects ≡ p .effects
