@@ -1,3 +1,2 @@
 -- Laws of the frame reader.
 pub mod Readings
-pub mod Standing

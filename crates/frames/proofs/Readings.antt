@@ -1,6 +1,6 @@
 -- Right because each reader tests the conjuncts of its command's form in the rules: one law for each way out. Assumes nothing.
 use mathlib.Core.Path.{_≡_, refl, sym, ap, _∙_}
-use mathlib.Core.Bool.{Bool, true, false, _&&_, _||_, not, or-false as or-none, Bool·not-not as not-not}
+use mathlib.Core.Bool.{Bool, true, false, _&&_, _||_, not, or-false as or-none, Bool·not-not as not-not, false≢true}
 use mathlib.Core.List.{List, [], _∷_}
 use Prim.Native.Nat.{ℕ, _≤_, _<_, _+_, _*_}
 use native.Mathlib.Omega.{arith}
@@ -39,21 +39,20 @@ module _ (n : ℕ) (p q : Bool) where
   by-over : (n ≡ 0 → ⊥) → (n ≡ 1 → ⊥) → false ≡ ((eqb n 0 && p) || (eqb n 1 && q))
   by-over h k = rw (ne-eqb n 0 h, ne-eqb n 1 k)
 
--- ---- the id flag of the head at a place
+-- ---- an id flag
 
-module _ (a : ℕ) (f : List ℕ) where
-  -- the id is 0
+module _ (flag id : ℕ) where
   abbrev unset : Bool
-  unset = eqb (int (a + 10) 16 f) 0
+  unset = eqb id 0
 
-  pub flag-unset : (set : Bool) → set ≡ not unset → byte (a + 9) f ≡ 0 → not set ≡ rules.flagFits a f
-  flag-unset set e z = ap not e ∙ not-not unset ∙ by-zero (byte (a + 9) f) unset (not unset) z
+  pub flag-unset : (set : Bool) → set ≡ not unset → flag ≡ 0 → not set ≡ rules.flagFits flag id
+  flag-unset set e z = ap not e ∙ not-not unset ∙ by-zero flag unset (not unset) z
 
-  pub flag-set : (set : Bool) → set ≡ not unset → byte (a + 9) f ≡ 1 → set ≡ rules.flagFits a f
-  flag-set set e z = e ∙ by-one (byte (a + 9) f) unset (not unset) z
+  pub flag-set : (set : Bool) → set ≡ not unset → flag ≡ 1 → set ≡ rules.flagFits flag id
+  flag-set set e z = e ∙ by-one flag unset (not unset) z
 
-  pub flag-over : (byte (a + 9) f ≡ 0 → ⊥) → (byte (a + 9) f ≡ 1 → ⊥) → false ≡ rules.flagFits a f
-  flag-over h k = by-over (byte (a + 9) f) unset (not unset) h k
+  pub flag-over : (flag ≡ 0 → ⊥) → (flag ≡ 1 → ⊥) → false ≡ rules.flagFits flag id
+  flag-over h k = by-over flag unset (not unset) h k
 
 module _ (f : List ℕ) where
   -- ---- OPEN, CLOSE
@@ -76,17 +75,17 @@ module _ (f : List ℕ) where
   module _ (c : rules.Command) where
     pub arbitrate-length : (length f ≡ 28 → ⊥) → rules.malformed ≡ rules.formed (rules.arbitrateFormed f) c
     unfolding rules.arbitrateFormed
-    arbitrate-length h = refused c (first-false (rules.flagFits 2 f) (first-false (rules.streamFits f) (ne-eqb (length f) 28 h)))
+    arbitrate-length h = refused c (first-false (rules.headFits 2 f) (first-false (rules.streamFits f) (ne-eqb (length f) 28 h)))
 
     pub arbitrate-over : 31 < byte 1 f → rules.malformed ≡ rules.formed (rules.arbitrateFormed f) c
     unfolding rules.arbitrateFormed
-    arbitrate-over h = refused c (first-false (rules.flagFits 2 f) (second-false (eqb (length f) 28) (lt-leb (byte 1 f) 31 h)))
+    arbitrate-over h = refused c (first-false (rules.headFits 2 f) (second-false (eqb (length f) 28) (lt-leb (byte 1 f) 31 h)))
 
-    pub arbitrate-flag : rules.flagFits 2 f ≡ false → rules.malformed ≡ rules.formed (rules.arbitrateFormed f) c
+    pub arbitrate-flag : rules.headFits 2 f ≡ false → rules.malformed ≡ rules.formed (rules.arbitrateFormed f) c
     unfolding rules.arbitrateFormed
     arbitrate-flag e = refused c (second-false (eqb (length f) 28 && rules.streamFits f) e)
 
-  pub arbitrate-fits : {x c : rules.Command} → length f ≡ 28 → byte 1 f ≤ 31 → rules.flagFits 2 f ≡ true → x ≡ c
+  pub arbitrate-fits : {x c : rules.Command} → length f ≡ 28 → byte 1 f ≤ 31 → rules.headFits 2 f ≡ true → x ≡ c
       → x ≡ rules.formed (rules.arbitrateFormed f) c
   unfolding rules.arbitrateFormed
   arbitrate-fits {x} {c} h k e q = asked (both-true (both-true (eq-eqb (length f) 28 h) (le-leb (byte 1 f) 31 k)) e) q
@@ -97,11 +96,11 @@ module _ (f : List ℕ) where
     pub configure-length : (length f ≡ 28 + 53 * t → ⊥) → rules.malformed ≡ rules.formed (rules.configureFormed t f) c
     unfolding rules.configureFormed
     configure-length h =
-        refused c (first-false (rules.flagFits 1 f) (first-false (between 1 8 t) (ne-eqb (length f) (28 + 53 * t) h)))
+        refused c (first-false (rules.headFits 1 f) (first-false (between 1 8 t) (ne-eqb (length f) (28 + 53 * t) h)))
 
     configure-count : between 1 8 t ≡ false → rules.malformed ≡ rules.formed (rules.configureFormed t f) c
     unfolding rules.configureFormed
-    configure-count e = refused c (first-false (rules.flagFits 1 f) (second-false (eqb (length f) (28 + 53 * t)) e))
+    configure-count e = refused c (first-false (rules.headFits 1 f) (second-false (eqb (length f) (28 + 53 * t)) e))
 
     pub configure-none : t ≡ 0 → rules.malformed ≡ rules.formed (rules.configureFormed t f) c
     configure-none h = configure-count (first-false (leb t 8) (lt-leb 1 t (omega arith)))
@@ -109,11 +108,11 @@ module _ (f : List ℕ) where
     pub configure-many : 8 < t → rules.malformed ≡ rules.formed (rules.configureFormed t f) c
     configure-many h = configure-count (second-false (leb 1 t) (lt-leb t 8 h))
 
-    pub configure-flag : rules.flagFits 1 f ≡ false → rules.malformed ≡ rules.formed (rules.configureFormed t f) c
+    pub configure-flag : rules.headFits 1 f ≡ false → rules.malformed ≡ rules.formed (rules.configureFormed t f) c
     unfolding rules.configureFormed
     configure-flag e = refused c (second-false (eqb (length f) (28 + 53 * t) && between 1 8 t) e)
 
-  pub configure-fits : (t : ℕ) {x c : rules.Command} → length f ≡ 28 + 53 * t → 1 ≤ t → t ≤ 8 → rules.flagFits 1 f ≡ true
+  pub configure-fits : (t : ℕ) {x c : rules.Command} → length f ≡ 28 + 53 * t → 1 ≤ t → t ≤ 8 → rules.headFits 1 f ≡ true
       → x ≡ c → x ≡ rules.formed (rules.configureFormed t f) c
   unfolding rules.configureFormed
   configure-fits t {x} {c} h l k e q =
@@ -124,7 +123,7 @@ module _ (f : List ℕ) where
   module _ (n : ℕ) (c : rules.Command) where
     write-start : (eqb (length f) (29 + 221 * n) && leb n 64) ≡ false → rules.malformed ≡ rules.formed (rules.writeFormed n f) c
     unfolding rules.writeFormed
-    write-start e = refused c (first-false (leb (byte 27 f) 2) (first-false (rules.flagFits 1 f) e))
+    write-start e = refused c (first-false (leb (byte 27 f) 2) (first-false (rules.headFits 1 f) e))
 
     pub write-length : (length f ≡ 29 + 221 * n → ⊥) → rules.malformed ≡ rules.formed (rules.writeFormed n f) c
     write-length h = write-start (first-false (leb n 64) (ne-eqb (length f) (29 + 221 * n) h))
@@ -132,16 +131,16 @@ module _ (f : List ℕ) where
     pub write-many : 64 < n → rules.malformed ≡ rules.formed (rules.writeFormed n f) c
     write-many h = write-start (second-false (eqb (length f) (29 + 221 * n)) (lt-leb n 64 h))
 
-    pub write-flag : rules.flagFits 1 f ≡ false → rules.malformed ≡ rules.formed (rules.writeFormed n f) c
+    pub write-flag : rules.headFits 1 f ≡ false → rules.malformed ≡ rules.formed (rules.writeFormed n f) c
     unfolding rules.writeFormed
     write-flag e = refused c (first-false (leb (byte 27 f) 2) (second-false (eqb (length f) (29 + 221 * n) && leb n 64) e))
 
     pub write-atomicity : 2 < byte 27 f → rules.malformed ≡ rules.formed (rules.writeFormed n f) c
     unfolding rules.writeFormed
     write-atomicity h =
-        refused c (second-false (eqb (length f) (29 + 221 * n) && leb n 64 && rules.flagFits 1 f) (lt-leb (byte 27 f) 2 h))
+        refused c (second-false (eqb (length f) (29 + 221 * n) && leb n 64 && rules.headFits 1 f) (lt-leb (byte 27 f) 2 h))
 
-  pub write-fits : (n : ℕ) {x c : rules.Command} → length f ≡ 29 + 221 * n → n ≤ 64 → rules.flagFits 1 f ≡ true
+  pub write-fits : (n : ℕ) {x c : rules.Command} → length f ≡ 29 + 221 * n → n ≤ 64 → rules.headFits 1 f ≡ true
       → byte 27 f ≤ 2 → x ≡ c → x ≡ rules.formed (rules.writeFormed n f) c
   unfolding rules.writeFormed
   write-fits n {x} {c} h k e l q =
@@ -203,3 +202,9 @@ module _ (f : List ℕ) (n : 0 < length f) where
   frame-other h i j k l m =
       let b = byte 0 f in
       sym (by-byte f n ∙ rw (ne-eqb b 1 h, ne-eqb b 2 i, ne-eqb b 3 j, ne-eqb b 4 k, ne-eqb b 5 l, ne-eqb b 6 m) refl)
+
+-- ---- what is left in the frame
+
+-- a READ with only 1 that was read names its table
+pub key-named : (f : List ℕ) (table : ℕ) → keyFits f ≡ true → table ≡ int 10 4 f → byte 14 f ≡ 1 → table ≡ 0 → ⊥
+key-named f table k e o z = false≢true (rw (sym e, z) at (key-only f o ∙ k))

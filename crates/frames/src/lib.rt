@@ -1,17 +1,16 @@
 // The frame reader: a frame is a command with its operands, or malformed (document 01, "Frames" and reason 1).
 ghost use mathlib.Core.Path.{_≡_};
-ghost use mathlib.Core.Bool.{true};
 ghost use Prim.Native.Nat.{_+_, _≤_};
 ghost use lib.ListN.{length};
 ghost use Rattle.rules.specs.Bytes.{byte};
 ghost use Rattle.rules.specs.Frame as rules;
-ghost use Rattle.election.specs.Meaning.{headOf};
-ghost use Rattle.frames.specs.Meaning.{frameOf, frameStands, stands};
+ghost use Rattle.election.specs.Meaning.{idOf, headOf};
+ghost use Rattle.frames.specs.Meaning.{frameOf, FrameThere};
 use election::ElectionId;
 use election::Head;
 use numbers::integer;
 
-// What a READ asks for; its key stands in the frame: the table at 10, the rest from byte 15 on.
+// What a READ asks for. Its key is in the frame: the table at 10, the rest from byte 15 on.
 pub struct Query {
     pub device: u64,
     pub role: u8,
@@ -19,51 +18,36 @@ pub struct Query {
     pub only: u8,
 }
 
-// A command with its operands. Rows stand in the frame from byte 28 on, updates from byte 29 on; here is their number.
-pub enum Command {
+// Commands in three groups, by what they may change, with their operands.
+
+// Stream events: the stream record.
+pub enum StreamEvent {
     Open(u8),
     Close(u8),
     Arbitrate(u8, Head),
+}
+
+// Pipeline commands: the rows in force, and the tables. Rows are in the frame from byte 28 on; here is their number.
+pub enum PipelineCommand {
     Configure(Head, usize),
+}
+
+// Table commands: the tables. Updates are in the frame from byte 29 on; here are their atomicity and their number.
+pub enum TableCommand {
     Write(Head, u8, usize),
     Read(Query),
+}
+
+pub enum Command {
+    Stream(StreamEvent),
+    Pipeline(PipelineCommand),
+    Table(TableCommand),
 }
 
 // What a frame is.
 pub enum Frame {
     Asks(Command),
     Malformed,
-}
-
-impl Query {
-    // Whether its key stands in the frame: there is the table that it names, and with only 1 it names one.
-    fn stands(self, frame: &[u8]) -> bool
-        ensures { λ r. ⌜ r ≡ stands (Command.Read self) (now (frame .entry)) ⌝ }
-    {
-        if frame.len() != 159 {
-            return false;
-        }
-        if integer(frame, 10, 4) != self.table {
-            return false;
-        }
-        self.only != 1 || self.table != 0
-    }
-}
-
-impl Command {
-    // Whether what the command leaves in the frame stands in this one, so that it can be handed on beside any frame.
-    pub fn stands(self, frame: &[u8]) -> bool
-        ensures { λ r. ⌜ r ≡ stands self (now (frame .entry)) ⌝ }
-    {
-        match self {
-            Command::Open(_) => true,
-            Command::Close(_) => true,
-            Command::Arbitrate(_, _) => true,
-            Command::Configure(_, t) => t <= 8 && frame.len() == 28 + 53 * t,
-            Command::Write(_, _, n) => n <= 64 && frame.len() == 29 + 221 * n,
-            Command::Read(query) => query.stands(frame),
-        }
-    }
 }
 
 // The head at a place of a frame.
@@ -80,14 +64,10 @@ fn head_at(frame: &[u8], at: usize) -> Head
     }
 }
 
-// Of the head at a place: neither flag over 1, nor flag 0 with a nonzero id, nor flag 1 with id 0.
-fn flag_fits(frame: &[u8], at: usize) -> bool
-    requires { ⌜ at + 26 ≤ length (now frame) ⌝ }
-    ensures { λ r. ⌜ r ≡ rules.flagFits at (now (frame .entry)) ⌝ }
+// Of an id flag and an id: neither flag over 1, nor flag 0 with a nonzero id, nor flag 1 with id 0.
+fn flag_fits(flag: u8, id: ElectionId) -> bool
+    ensures { λ r. ⌜ r ≡ rules.flagFits flag (idOf id) ⌝ }
 {
-    let flag = frame[at + 9];
-    let head = head_at(frame, at);
-    let id = head.id;
     match flag {
         0 => !id.is_set(),
         1 => id.is_set(),
@@ -97,8 +77,8 @@ fn flag_fits(frame: &[u8], at: usize) -> bool
 
 // OPEN: length 2, stream 0 to 31.
 fn read_open(frame: &[u8]) -> Frame
-    ensures means { λ r. ⌜ frameOf r (now (frame .entry)) ≡ rules.formed (rules.streamFormed (now (frame .entry))) (rules.OPEN (byte 1 (now (frame .entry)))) ⌝ }
-    ensures stands { λ r. ⌜ frameStands r (now (frame .entry)) ≡ true ⌝ }
+    ensures means { λ r. ⌜ frameOf r (now (frame .entry)) ≡ rules.formed (rules.streamFormed (now (frame .entry))) (rules.onStreams (rules.OPEN (byte 1 (now (frame .entry))))) ⌝ }
+    ensures there { λ r. ⌜ FrameThere r (now (frame .entry)) ⌝ }
 {
     if frame.len() != 2 {
         return Frame::Malformed;
@@ -107,13 +87,13 @@ fn read_open(frame: &[u8]) -> Frame
     if 31 < stream {
         return Frame::Malformed;
     }
-    Frame::Asks(Command::Open(stream))
+    Frame::Asks(Command::Stream(StreamEvent::Open(stream)))
 }
 
 // CLOSE: likewise.
 fn read_close(frame: &[u8]) -> Frame
-    ensures means { λ r. ⌜ frameOf r (now (frame .entry)) ≡ rules.formed (rules.streamFormed (now (frame .entry))) (rules.CLOSE (byte 1 (now (frame .entry)))) ⌝ }
-    ensures stands { λ r. ⌜ frameStands r (now (frame .entry)) ≡ true ⌝ }
+    ensures means { λ r. ⌜ frameOf r (now (frame .entry)) ≡ rules.formed (rules.streamFormed (now (frame .entry))) (rules.onStreams (rules.CLOSE (byte 1 (now (frame .entry))))) ⌝ }
+    ensures there { λ r. ⌜ FrameThere r (now (frame .entry)) ⌝ }
 {
     if frame.len() != 2 {
         return Frame::Malformed;
@@ -122,13 +102,13 @@ fn read_close(frame: &[u8]) -> Frame
     if 31 < stream {
         return Frame::Malformed;
     }
-    Frame::Asks(Command::Close(stream))
+    Frame::Asks(Command::Stream(StreamEvent::Close(stream)))
 }
 
 // ARBITRATE: length 28, stream 0 to 31.
 fn read_arbitrate(frame: &[u8]) -> Frame
-    ensures means { λ r. ⌜ frameOf r (now (frame .entry)) ≡ rules.formed (rules.arbitrateFormed (now (frame .entry))) (rules.ARBITRATE (byte 1 (now (frame .entry))) (rules.headAt 2 (now (frame .entry)))) ⌝ }
-    ensures stands { λ r. ⌜ frameStands r (now (frame .entry)) ≡ true ⌝ }
+    ensures means { λ r. ⌜ frameOf r (now (frame .entry)) ≡ rules.formed (rules.arbitrateFormed (now (frame .entry))) (rules.onStreams (rules.ARBITRATE (byte 1 (now (frame .entry))) (rules.headAt 2 (now (frame .entry))))) ⌝ }
+    ensures there { λ r. ⌜ FrameThere r (now (frame .entry)) ⌝ }
 {
     if frame.len() != 28 {
         return Frame::Malformed;
@@ -137,16 +117,17 @@ fn read_arbitrate(frame: &[u8]) -> Frame
     if 31 < stream {
         return Frame::Malformed;
     }
-    if !flag_fits(frame, 2) {
+    let head = head_at(frame, 2);
+    if !flag_fits(frame[11], head.id) {
         return Frame::Malformed;
     }
-    Frame::Asks(Command::Arbitrate(stream, head_at(frame, 2)))
+    Frame::Asks(Command::Stream(StreamEvent::Arbitrate(stream, head)))
 }
 
 // CONFIGURE: t 1 to 8, length 28 + 53t.
 fn read_configure(frame: &[u8]) -> Frame
     ensures means { λ r. ⌜ frameOf r (now (frame .entry)) ≡ rules.formed (rules.configureFormed (byte 27 (now (frame .entry))) (now (frame .entry))) (rules.configureOf (byte 27 (now (frame .entry))) (now (frame .entry))) ⌝ }
-    ensures stands { λ r. ⌜ frameStands r (now (frame .entry)) ≡ true ⌝ }
+    ensures there { λ r. ⌜ FrameThere r (now (frame .entry)) ⌝ }
 {
     if frame.len() < 28 {
         return Frame::Malformed;
@@ -161,16 +142,17 @@ fn read_configure(frame: &[u8]) -> Frame
     if frame.len() != 28 + 53 * t {
         return Frame::Malformed;
     }
-    if !flag_fits(frame, 1) {
+    let head = head_at(frame, 1);
+    if !flag_fits(frame[10], head.id) {
         return Frame::Malformed;
     }
-    Frame::Asks(Command::Configure(head_at(frame, 1), t))
+    Frame::Asks(Command::Pipeline(PipelineCommand::Configure(head, t)))
 }
 
 // WRITE: n 0 to 64, length 29 + 221n, atomicity 0 to 2.
 fn read_write(frame: &[u8]) -> Frame
     ensures means { λ r. ⌜ frameOf r (now (frame .entry)) ≡ rules.formed (rules.writeFormed (byte 28 (now (frame .entry))) (now (frame .entry))) (rules.writeOf (byte 28 (now (frame .entry))) (now (frame .entry))) ⌝ }
-    ensures stands { λ r. ⌜ frameStands r (now (frame .entry)) ≡ true ⌝ }
+    ensures there { λ r. ⌜ FrameThere r (now (frame .entry)) ⌝ }
 {
     if frame.len() < 29 {
         return Frame::Malformed;
@@ -186,16 +168,17 @@ fn read_write(frame: &[u8]) -> Frame
     if 2 < atomicity {
         return Frame::Malformed;
     }
-    if !flag_fits(frame, 1) {
+    let head = head_at(frame, 1);
+    if !flag_fits(frame[10], head.id) {
         return Frame::Malformed;
     }
-    Frame::Asks(Command::Write(head_at(frame, 1), atomicity, n))
+    Frame::Asks(Command::Table(TableCommand::Write(head, atomicity, n)))
 }
 
 // READ: length 159; only 0 with a key of zeros, or only 1 with a table other than 0.
 fn read_read(frame: &[u8]) -> Frame
-    ensures means { λ r. ⌜ frameOf r (now (frame .entry)) ≡ rules.formed (rules.readFormed (now (frame .entry))) (rules.READ (rules.queryOf (now (frame .entry)))) ⌝ }
-    ensures stands { λ r. ⌜ frameStands r (now (frame .entry)) ≡ true ⌝ }
+    ensures means { λ r. ⌜ frameOf r (now (frame .entry)) ≡ rules.formed (rules.readFormed (now (frame .entry))) (rules.onTables (rules.READ (rules.queryOf (now (frame .entry))))) ⌝ }
+    ensures there { λ r. ⌜ FrameThere r (now (frame .entry)) ⌝ }
 {
     if frame.len() != 159 {
         return Frame::Malformed;
@@ -216,13 +199,13 @@ fn read_read(frame: &[u8]) -> Frame
         table,
         only,
     };
-    Frame::Asks(Command::Read(query))
+    Frame::Asks(Command::Table(TableCommand::Read(query)))
 }
 
 // What a frame asks for.
 pub fn read_frame(frame: &[u8]) -> Frame
     ensures means { λ r. ⌜ frameOf r (now (frame .entry)) ≡ rules.readFrame (now (frame .entry)) ⌝ }
-    ensures stands { λ r. ⌜ frameStands r (now (frame .entry)) ≡ true ⌝ }
+    ensures there { λ r. ⌜ FrameThere r (now (frame .entry)) ⌝ }
 {
     if frame.len() == 0 {
         return Frame::Malformed;

@@ -10,7 +10,7 @@ use lib.ListN.{length, drop, length-take, length-drop, length-append, length-map
 use lib.Seq.{take-at}
 use borrow.Author.Tests.{eqb-true, leb-true}
 use Rattle.rules.specs.Bytes.{if_then_else_, byte, part, parts, int, number, allZero}
-use Rattle.rules.specs.Frame.{Update, Command, tooShort, malformed, OPEN, CLOSE, ARBITRATE, CONFIGURE, WRITE, READ, headAt, updateOf, queryOf, flagFits, streamFits, streamFormed, arbitrateFormed, configureFormed, writeFormed, readFormed, configureOf, writeOf, readFrame, onStreams, onPipeline, onTables}
+use Rattle.rules.specs.Frame.{Update, Command, tooShort, malformed, OPEN, CLOSE, ARBITRATE, CONFIGURE, WRITE, READ, headAt, updateOf, queryOf, headFits, streamFits, streamFormed, arbitrateFormed, configureFormed, writeFormed, readFormed, configureOf, writeOf, readFrame, onStreams, onPipeline, onTables}
 use Rattle.rules.specs.Key.{tableOf}
 use Rattle.rules.specs.Call.{Call, longEnough, commandOf}
 use Rattle.rules.proofs.Tests.{and-true}
@@ -106,7 +106,7 @@ arbitrate-fits : (f : List ℕ) → arbitrateFormed f ≡ true → byte 1 f ≤ 
 unfolding arbitrateFormed
 arbitrate-fits f h =
     leb-true (byte 1 f) 31
-    (and-true (eqb (length f) 28) (streamFits f) (and-true (eqb (length f) 28 && streamFits f) (flagFits 2 f) h .0) .1)
+    (and-true (eqb (length f) 28) (streamFits f) (and-true (eqb (length f) 28 && streamFits f) (headFits 2 f) h .0) .1)
 
 rows-fit : (t : ℕ) (f : List ℕ) → configureFormed t f ≡ true → Formed (configureOf t f)
 unfolding configureFormed configureOf

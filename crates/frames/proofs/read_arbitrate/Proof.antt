@@ -12,31 +12,39 @@ use Rattle.frames.proofs.read_arbitrate.Statement.{statement}
 use Rattle.frames.proofs.read_arbitrate.Tie as tie
 
 returns : tie.Need-returns
-returns c = (arbitrate-length (c .before .before .args .frame .now) _ (c .if1 .taken), refl)
+returns c = (arbitrate-length (c .before .before .args .frame .now) _ (c .if1 .taken), tt)
 
 shared-slice-read-stream : tie.Need-shared-slice-read-stream
 shared-slice-read-stream c = search needs
 
 returns-2 : tie.Need-returns-2
-returns-2 c = (arbitrate-over (c .before .before .before .before .args .frame .now) _ (c .if2 .taken), refl)
-
-flag-fits-requires : tie.Need-flag-fits-requires
-flag-fits-requires c κs = search needs
-
-returns-3 : tie.Need-returns-3
-returns-3 c =
-    let f = c .before .before .before .before .before .before .args .frame .now in
-    (arbitrate-flag f _ (sym (c .before .flag-fits .ensures) ∙ not-true _ (c .if3 .taken)), refl)
+returns-2 c = (arbitrate-over (c .before .before .before .before .args .frame .now) _ (c .if2 .taken), tt)
 
 head-at-requires : tie.Need-head-at-requires
 head-at-requires c κs = search needs
 
+shared-slice-read-flag-fits : tie.Need-shared-slice-read-flag-fits
+shared-slice-read-flag-fits c = search needs
+
+flag-fits-requires : tie.Need-flag-fits-requires
+flag-fits-requires c κs = search needs
+
+-- what was tested of the flag
+flag : (c : tie.After-flag-fits) → let f = c .before .before .before .before .before .before .before .args .frame .now in rules.headFits 2 f ≡ c .flag-fits .result
+flag c =
+    let f = c .before .before .before .before .before .before .before .args .frame .now in
+    sym (c .flag-fits .ensures ∙ ap (λ (h : rules.Head). rules.flagFits (byte 11 f) (h .id)) (c .before .before .head-at .ensures))
+
+returns-3 : tie.Need-returns-3
+returns-3 c = (arbitrate-flag (c .before .before .before .before .before .before .before .before .args .frame .now) _ (flag (c .before) ∙ not-true _ (c .if3 .taken)), tt)
+
 returns-4 : tie.Need-returns-4
 returns-4 c =
-    let f = c .before .before .before .before .before .before .before .args .frame .now in
+    let f = c .before .before .before .before .before .before .before .before .args .frame .now in
     let k : byte 1 f ≤ 31 = omega arith in
-    let e : rules.flagFits 2 f ≡ true = sym (c .before .before .flag-fits .ensures) ∙ not-false _ (c .before .if3 .left) in
-    (arbitrate-fits f (omega arith) k e (ap (rules.ARBITRATE (byte 1 f)) (c .head-at .ensures)), refl)
+    let e : rules.headFits 2 f ≡ true = flag (c .before) ∙ not-false _ (c .if3 .left) in
+    let q = ap (λ (x : rules.Head). rules.onStreams (rules.ARBITRATE (byte 1 f) x)) (c .before .before .before .head-at .ensures) in
+    (arbitrate-fits f (omega arith) k e q, tt)
 
 pub read-arbitrate-spec : {M : Type 1} → statement M
 read-arbitrate-spec =
@@ -45,7 +53,8 @@ read-arbitrate-spec =
     returns
     shared-slice-read-stream
     returns-2
+    head-at-requires
+    shared-slice-read-flag-fits
     flag-fits-requires
     returns-3
-    head-at-requires
     returns-4)

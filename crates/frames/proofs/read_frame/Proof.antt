@@ -7,7 +7,7 @@ use Rattle.frames.proofs.read_frame.Statement.{statement}
 use Rattle.frames.proofs.read_frame.Tie as tie
 
 returns : tie.Need-returns
-returns c = (frame-empty (c .before .before .args .frame .now) (c .if1 .taken), refl)
+returns c = (frame-empty (c .before .before .args .frame .now) (c .if1 .taken), tt)
 
 shared-slice-read-command : tie.Need-shared-slice-read-command
 shared-slice-read-command c = search needs
@@ -33,7 +33,7 @@ read-read-requires c κs = search needs
 returns-2 : tie.Need-returns-2
 returns-2 c =
     let f = c .before .before .before .before .args .frame .now in
-    (frame-by f (omega arith) 0 (c .match .keys1) refl, refl)
+    (frame-by f (omega arith) 0 (c .match .keys1) refl, tt)
 
 returns-3 : tie.Need-returns-3
 returns-3 c =
@@ -70,7 +70,7 @@ returns-9 c =
     let o = c .match .rest in (
       frame-other (c .before .before .before .before .args .frame .now) (omega arith) (o .0 .0 .0 .0 .0 .1) (o .0 .0 .0 .0 .1)
           (o .0 .0 .0 .1) (o .0 .0 .1) (o .0 .1) (o .1),
-      refl,
+      tt,
     )
 
 pub read-frame-spec : {M : Type 1} → statement M

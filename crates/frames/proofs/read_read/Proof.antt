@@ -8,14 +8,13 @@ use mathlib.Core.Bool.{true, not}
 use borrow.Author.Tests.{not-true, not-false}
 use mathlib.Core.Logic.{⊎-elim}
 use lib.Dec.{eqb}
-use Rattle.frames.proofs.Readings.{keyFits, key-all, key-only, key-over, read-length, read-key, read-fits}
-use Rattle.frames.proofs.Standing.{key-stands}
+use Rattle.frames.proofs.Readings.{keyFits, key-all, key-only, key-over, read-length, read-key, read-fits, key-named}
 use borrow.Author.Needs.{needs}
 use Rattle.frames.proofs.read_read.Statement.{statement}
 use Rattle.frames.proofs.read_read.Tie as tie
 
 returns : tie.Need-returns
-returns c = (read-length (c .before .before .args .frame .now) _ (c .if1 .taken), refl)
+returns c = (read-length (c .before .before .args .frame .now) _ (c .if1 .taken), tt)
 
 shared-slice-read-only : tie.Need-shared-slice-read-only
 shared-slice-read-only c = search needs
@@ -51,7 +50,7 @@ key-fits c =
 returns-2 : tie.Need-returns-2
 returns-2 c =
     let f = c .before .before .before .before .before .before .args .frame .now in
-    (read-key f _ (sym (key-fits (c .before)) ∙ not-true _ (c .if2 .taken)), refl)
+    (read-key f _ (sym (key-fits (c .before)) ∙ not-true _ (c .if2 .taken)), tt)
 
 integer-requires-2 : tie.Need-integer-requires-2
 integer-requires-2 c κs = search needs
@@ -67,7 +66,7 @@ returns-3 c =
     let device : c .before .integer2 .result ≡ int 1 8 f = c .before .integer2 .ensures in
     let i = c .before .before .before .before .integer in
     let table : i .result ≡ int 10 4 f = i .ensures in
-    (read-fits f h e (cc), key-stands f (i .result) h e table)
+    (read-fits f h e (cc), (h, sym table, key-named f (i .result) e table))
 
 pub read-read-spec : {M : Type 1} → statement M
 read-read-spec =
