@@ -7,7 +7,7 @@ use lib.ListN.{length, take, drop, length-append, length-drop}
 use borrow.Rule.Slice.PartMut.{putMid}
 use Rattle.rules.specs.Bytes.{concat, bytesOf}
 use Rattle.rules.specs.Reason.{codeOf}
-use Rattle.rules.specs.Frame.{Command, cramped}
+use Rattle.rules.specs.Frame.{Command, tooShort}
 use Rattle.rules.specs.Answer.{Answer, answerBytes, replyOf}
 use Rattle.rules.specs.Call.{State, answer, reply}
 use Rattle.rules.proofs.Replies.{written-whole}
@@ -52,7 +52,7 @@ module _ (s : State) (c : Command) (x : Answer) (told : answer s c ≡ x) where
   unfolding reply replyOf
   replies e = e ∙ ap (λ (a : Answer). a .reason) (sym told)
 
-  pub fills : (d : List ℕ) {out : List ℕ} → (c ≡ cramped → ⊥) → out ≡ splice d 0 (answerBytes x)
+  pub fills : (d : List ℕ) {out : List ℕ} → (c ≡ tooShort → ⊥) → out ≡ splice d 0 (answerBytes x)
       → out ≡ reply s c .written ++ drop (length (reply s c .written)) d
   fills d n e =
       e ∙ splice-front d (answerBytes x)

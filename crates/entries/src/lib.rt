@@ -9,6 +9,12 @@ ghost use Rattle.buffers.specs.Splice.{splice};
 ghost use Rattle.entries.specs.Store.{entriesIn, tablesIn, place, placeOf, without, insertedAt, Left};
 use numbers::integer;
 
+// What the agent's record knows of the store: the number of entries.
+#[repr(C)]
+pub struct Tables {
+    pub count: usize,
+}
+
 // Where the entry of a key is.
 pub enum Found {
     At(usize),

@@ -10,7 +10,6 @@ use Rattle.frames.specs.declared.Query.{Query}
 use Rattle.frames.specs.declared.StreamEvent.{StreamEvent}
 use Rattle.frames.specs.declared.StreamEvent.the-variants.{Open, Close, Arbitrate}
 use Rattle.frames.specs.declared.PipelineCommand.{PipelineCommand}
-use Rattle.frames.specs.declared.PipelineCommand.the-variants.{Configure}
 use Rattle.frames.specs.declared.TableCommand.{TableCommand}
 use Rattle.frames.specs.declared.TableCommand.the-variants.{Write, Read}
 use Rattle.frames.specs.declared.Command.{Command}
@@ -26,7 +25,7 @@ eventOf (Close s) = rules.CLOSE s
 eventOf (Arbitrate s h) = rules.ARBITRATE s (headOf h)
 
 abbrev pub pipelineOf : PipelineCommand → List ℕ → rules.PipelineCommand
-pipelineOf (Configure h t) f = rules.CONFIGURE (headOf h) (parts t 53 (drop 28 f))
+pipelineOf c f = rules.CONFIGURE (headOf (c .head)) (parts (c .count) 53 (drop 28 f))
 
 -- what a READ asks for; its key is in the frame
 abbrev pub queryOf : Query → List ℕ → rules.Query
@@ -49,7 +48,7 @@ frameOf Malformed f = rules.malformed
 -- ---- what a command leaves in the frame f is there: the count is in range, and f is as long as it says
 
 abbrev pub RowsThere : PipelineCommand → List ℕ → Type 0
-RowsThere (Configure h t) f = (t ≤ 8) × (length f ≡ 28 + 53 * t)
+RowsThere c f = (c .count ≤ 8) × (length f ≡ 28 + 53 * c .count)
 
 -- the updates of a WRITE, the key of a READ: it is of the table that the READ names, and with only 1 it names one
 abbrev pub OperandsThere : TableCommand → List ℕ → Type 0

@@ -27,9 +27,11 @@ pub enum StreamEvent {
     Arbitrate(u8, Head),
 }
 
-// Pipeline commands: the rows in force, and the tables. Rows are in the frame from byte 28 on; here is their number.
-pub enum PipelineCommand {
-    Configure(Head, usize),
+// Pipeline commands: the rows in force, and the tables. CONFIGURE is the only one. Its rows are in the frame from byte 28 on; here is
+// their number.
+pub struct PipelineCommand {
+    pub head: Head,
+    pub count: usize,
 }
 
 // Table commands: the tables. Updates are in the frame from byte 29 on; here are their atomicity and their number.
@@ -146,7 +148,7 @@ fn read_configure(frame: &[u8]) -> Frame
     if !flag_fits(frame[10], head.id) {
         return Frame::Malformed;
     }
-    Frame::Asks(Command::Pipeline(PipelineCommand::Configure(head, t)))
+    Frame::Asks(Command::Pipeline(PipelineCommand { head, count: t }))
 }
 
 // WRITE: n 0 to 64, length 29 + 221n, atomicity 0 to 2.

@@ -1,2 +1,0 @@
--- What every answer has.
-pub mod Answered

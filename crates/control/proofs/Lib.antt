@@ -1,2 +1,0 @@
--- Laws of the commands that look at no entry.
-pub mod Configuring

@@ -1,0 +1,2 @@
+-- Laws of pipeline commands.
+pub mod Configuring

@@ -1,0 +1,37 @@
+-- Right because the rows that 14 allows are read as they are. Assumes nothing.
+use Prim.Native.Nat.{ℕ}
+use native.Mathlib.Omega.{arith}
+use mathlib.Core.Path.{ap, _∙_}
+use mathlib.Core.List.{List}
+use lib.ListN.{drop, length-take, length-drop}
+use denote.Ref.{now}
+use Rattle.rules.specs.Bytes.{parts}
+use Rattle.rules.proofs.Lists.{rest-all}
+use Rattle.rows.specs.Meaning.{rowsIn}
+use Rattle.election.specs.Meaning.{headOf}
+use Rattle.pipeline.proofs.Configuring.{rows-configured}
+use borrow.Author.Needs.{needs}
+use Rattle.pipeline.proofs.carry_out.Statement.{statement}
+use Rattle.pipeline.proofs.carry_out.Tie as tie
+
+sub-read : tie.Need-sub-read
+sub-read c = omega (arith, c .before .pre .1)
+
+part-read-start : tie.Need-part-read-start
+part-read-start c = omega (arith, c .before .pre .1)
+
+part-read-end : tie.Need-part-read-end
+part-read-end c = search needs
+
+read-requires : tie.Need-read-requires
+read-requires c κs = let s = c .before .before .pre in (s .0, simp (length-take, length-drop) (omega (arith, s .1)))
+
+returns : tie.Need-returns
+returns c =
+    let a = c .before .before .before .args in
+    let rows = parts (a .command .count) 53 (drop 28 (now (a .frame))) in
+    let read = c .read .ensures ∙ ap (λ (l : List ℕ). rowsIn (parts (a .command .count) 53 l)) (rest-all 28 (now (a .frame))) in
+    rows-configured (headOf (a .command .head)) rows read
+
+pub carry-out-spec : {M : Type 1} → statement M
+carry-out-spec = tie.close (tie.spec sub-read part-read-start part-read-end read-requires returns)

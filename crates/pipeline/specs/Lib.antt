@@ -1,0 +1,2 @@
+-- What is promised of pipeline commands.
+pub mod Pipeline
