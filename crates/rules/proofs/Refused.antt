@@ -1,12 +1,14 @@
 -- A refused call leaves the agent alone: every change but the closing of a stream is made only where the reason is 0.
 -- Assumes nothing.
 use Prim.Native.Nat.{ℕ}
-use mathlib.Core.Path.{_≡_, refl, ap, _∙_}
+use mathlib.Core.Path.{_≡_, refl, sym, ap, _∙_}
 use mathlib.Core.Bool.{Bool, true, false}
+use lib.Dec.{eqb}
+use borrow.Author.Tests.{ne-eqb}
 use Rattle.rules.specs.Bytes.{if_then_else_, between}
-use Rattle.rules.specs.Frame.{Command, tooShort, malformed, OPEN, CLOSE, ARBITRATE, CONFIGURE, WRITE, READ, onStreams, onPipeline, onTables}
+use Rattle.rules.specs.Frame.{OPEN, CLOSE, ARBITRATE, PipelineCommand, CONFIGURE, TableCommand, WRITE, READ, Command, tooShort, malformed, onStreams, onPipeline, onTables}
 use Rattle.rules.specs.Streams.{Streams, become, closed, openStream, closeStream, arbitrate}
-use Rattle.rules.specs.Call.{State, refusal, accepted, withStreams, withRows, nextControl, nextTables, next}
+use Rattle.rules.specs.Call.{State, pipelineCommand, tableCommand, plain, refusal, accepted, withStreams, withRows, nextControl, nextTables, next, answer}
 use Rattle.rules.specs.Refused.{streamsLeft, LeftAlone}
 
 marks-left : (e : Streams) (c : Command) (r : ℕ) → streamsLeft e c r .marks ≡ e .marks
@@ -48,3 +50,19 @@ refused s (onPipeline (CONFIGURE h rows)) q =
     (ap (withRows (s .control)) (not-taken (accepted s (onPipeline (CONFIGURE h rows))) _ _ q))
 refused s (onTables (WRITE h atomicity us)) q = left-alone s (onTables (WRITE h atomicity us)) (not-taken (accepted s (onTables (WRITE h atomicity us))) _ _ q) refl
 refused s (onTables (READ x)) q = left-alone s (onTables (READ x)) refl refl
+
+-- ---- a refused pipeline or table command leaves everything as it was, and answers with a head alone
+
+refuses : {m r : ℕ} → m ≡ r → (r ≡ 0 → ⊥) → eqb m 0 ≡ false
+refuses {m} e n = ne-eqb m 0 (λ z. n (sym e ∙ z))
+
+pub pipeline-refused : (s : State) (x : PipelineCommand) {r : ℕ} → pipelineCommand s x .reason ≡ r → (r ≡ 0 → ⊥)
+    → (next s (onPipeline x) ≡ s) × (answer s (onPipeline x) ≡ plain r)
+unfolding next nextControl nextTables answer
+pipeline-refused s (CONFIGURE h rows) e n = (rw (refuses e n), ap plain e)
+
+pub table-refused : (s : State) (x : TableCommand) {r : ℕ} → tableCommand s x .reason ≡ r → (r ≡ 0 → ⊥)
+    → (next s (onTables x) ≡ s) × (answer s (onTables x) ≡ plain r)
+unfolding next nextControl nextTables answer
+table-refused s (WRITE h atomicity us) e n = (rw (refuses e n), rw (refuses e n) (ap plain e))
+table-refused s (READ q) e n = (refl, rw (refuses e n) (ap plain e))

@@ -1,8 +1,8 @@
 -- Right because the tests are made in the order of document 01. Assumes nothing.
 use borrow.Author.Tests.{lt-ltb, le-ltb}
 use Rattle.rules.specs.Reason.{first}
-use Rattle.agent.proofs.write_reason.Statement.{statement}
-use Rattle.agent.proofs.write_reason.Tie as tie
+use Rattle.table_commands.proofs.write_reason.Statement.{statement}
+use Rattle.table_commands.proofs.write_reason.Tie as tie
 
 returns : tie.Need-returns
 unfolding first

@@ -1,0 +1,3 @@
+-- Laws of table commands: WRITE, and READ.
+pub mod Writing
+pub mod Reading

@@ -1,0 +1,103 @@
+-- A READ: its order, its query in the frame, and the entries shown. Assumes nothing.
+use Prim.Native.Nat.{ℕ, _*_, _≤_}
+use native.Mathlib.Omega.{arith}
+use mathlib.Core.Path.{_≡_, refl, sym, ap, ap₂, _∙_}
+use mathlib.Core.Bool.{Bool, true, false, not, _&&_}
+use mathlib.Core.List.{List, [], _∷_, _++_}
+use lib.Dec.{eqb, ltb}
+use lib.ListN.{length, length-take, length-drop, length-append}
+use lib.Seq.{take-all, take-at}
+use borrow.Author.Tests.{eqb-true, eq-eqb}
+use Rattle.rules.specs.Bytes.{if_then_else_, concat, number, part, int}
+use Rattle.rules.specs.Reason.{first}
+use Rattle.rules.specs.Frame as rules
+use Rattle.rules.specs.Frame.{READ, Command, onTables}
+use Rattle.rules.specs.Streams.{addressOrder}
+use Rattle.rules.specs.Row as row
+use Rattle.rules.specs.Key.{tableOf, keyFormed, keyFits, keyRules}
+use Rattle.rules.specs.Answer.{answerBytes}
+use Rattle.rules.specs.Call.{unconfigured, readReason, refusal, nextControl, nextTables, next, shown, answer}
+use Rattle.rules.specs.Sound.{Sound}
+use Rattle.rules.proofs.Formed.{Formed}
+use Rattle.rules.proofs.Lists.{part-part}
+use Rattle.rules.proofs.Orders.{first-more}
+use Rattle.rules.proofs.OneKey.{one-key}
+use Rattle.buffers.specs.Splice.{splice}
+use Rattle.frames.specs.declared.Query.{Query}
+use Rattle.frames.specs.declared.TableCommand.the-variants.{Read}
+use Rattle.frames.specs.Meaning.{queryOf, OperandsThere}
+use Rattle.entries.specs.Store.{tablesIn}
+use Rattle.entry_store.specs.Read.{keyIn, keyReason, queryReason, readIn, Reads}
+use Rattle.calls.specs.Contract.{Correct}
+use Rattle.memory.specs.declared.Agent.{Agent}
+use Rattle.memory.specs.Layout.{controlOf, Flat, memory, result}
+use Rattle.memory.proofs.Handled.{flat, store-stays}
+
+-- ---- the query in the frame
+
+-- the key, in the bytes from its table on
+pub key-there : (q : Query) (f : List ℕ) {b : List ℕ} → b ≡ part 10 149 f → keyIn b ≡ queryOf q f .key
+key-there q f e =
+    ap₂ (λ (x y : List ℕ). x ++ y) (ap (part 0 4) e ∙ part-part 10 149 0 4 f (omega arith)) (ap (part 5 144) e ∙ part-part 10 149 5 144 f (omega arith))
+
+-- what the reader has tested of it
+pub query-formed : (q : Query) (f : List ℕ) → OperandsThere (Read q) f → Formed (onTables (READ (queryOf q f)))
+query-formed q f h =
+    let n : length f ≡ 159 = h .0 in
+    let l : length (part 10 4 f) ≡ 4 = simp (length-take, length-drop) (omega arith) in
+    (simp (length-append, length-take, length-drop) (omega arith), ap number (take-at (part 10 4 f) (part 15 144 f) 4 l) ∙ h .1, h .2)
+
+-- ---- the order
+
+only-one : (one x y z : Bool) → first ((one && x, 17) ∷ (one && y, 18) ∷ (one && z, 19) ∷ [])
+    ≡ (if one then first ((x, 17) ∷ (y, 18) ∷ (z, 19) ∷ []) else 0)
+unfolding first
+only-one true x y z = refl
+only-one false x y z = refl
+
+module _ (a : Agent) (q : rules.Query) where
+  pub read-order : {here empty : Bool} {r : ℕ} → here ≡ eqb (q .device) (a .device .id) → empty ≡ unconfigured (controlOf a .rows)
+      → r ≡ first (addressOrder (not here) (q .role) ++ (empty, 12) ∷ [])
+      → readReason (controlOf a) q
+      ≡ (if eqb r 0 then queryReason (controlOf a .rows) (q .role) (q .table) (q .only) (q .key) else r)
+  unfolding readReason queryReason keyReason
+  read-order e u p =
+      let named : Bool = not (eqb (q .table) 0) in
+      let one : Bool = eqb (q .only) 1 in
+      let own : row.Row = row.rowFor (q .table) (controlOf a .rows) in
+      let x : Bool = not (keyFormed own (q .key)) in
+      let y : Bool = not (keyFits own (q .key)) in
+      let z : Bool = not (keyRules own (q .key)) in
+      let tables : List (Bool × ℕ) = (named && not (row.known (q .table) (controlOf a .rows)), 15) ∷ (named && not (row.mayWrite (q .role) own), 16) ∷ [] in
+      let keys : List (Bool × ℕ) = (one && x, 17) ∷ (one && y, 18) ∷ (one && z, 19) ∷ [] in
+      rw (p, e, u) (first-more
+      ((not (eqb (q .device) (a .device .id)), 5) ∷ (ltb 7 (q .role), 6) ∷ (unconfigured (controlOf a .rows), 12) ∷ []) (tables ++ keys) refl
+      ∙ (rw (first-more tables keys refl, only-one one x y z)))
+
+  -- ---- the entries
+
+  pub was-read : (store d out : List ℕ) → readReason (controlOf a) q ≡ 0
+      → out ≡ splice d 0 (answerBytes (record { reason = 0; records = shown (flat a store) q }))
+      → Correct Flat (flat a store) (onTables (READ q)) (memory a store) d (result a 0 store out)
+  unfolding next nextControl nextTables answer refusal
+  was-read store d out e o =
+      store-stays a (onTables (READ q)) store d out (λ z. let w : _≡_ {A = ℕ} 0 1 = cc in omega arith) (tablesIn (a .tables .count) store)
+      (record { reason = 0; records = shown (flat a store) q }) (rw e) (record { control = refl; tables = refl }) refl o
+
+  -- the entries that the store's reader takes are those shown
+  pub taken : (store : List ℕ) → Formed (onTables (READ q)) → Sound (flat a store) → readReason (controlOf a) q ≡ 0
+      → readIn (controlOf a .rows) (q .role) (q .table) (q .only) (q .key) (tablesIn (a .tables .count) store) ≡ shown (flat a store) q
+  unfolding readIn shown refusal
+  taken store f k e = go (eqb (q .only) 1) refl
+    where
+      go : (b : Bool) → eqb (q .only) 1 ≡ b
+          → readIn (controlOf a .rows) (q .role) (q .table) (q .only) (q .key) (tablesIn (a .tables .count) store) ≡ shown (flat a store) q
+      go true o = rw o (sym (one-key (flat a store) q f k (eq-eqb (readReason (controlOf a) q) 0 e) (eqb-true (q .only) 1 o)) ∙ (rw o))
+      go false o = rw o
+
+-- where the records have room, all are written
+pub reads-all : (es : List (List ℕ)) (before : List ℕ) {after : List ℕ} {n : ℕ} → 220 * length es ≤ length before
+    → Reads es before after n → (n ≡ length es) × (after ≡ splice before 0 (concat es))
+reads-all es before {after} {n} h r =
+    let c : n ≡ length es = omega (arith, r .0) in
+    (c, r .1 ∙ ap (λ (l : List (List ℕ)). splice before 0 (concat l)) (take-all n es (omega arith)))

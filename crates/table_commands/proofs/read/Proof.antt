@@ -1,0 +1,179 @@
+-- Right because each way out is one way through the order, and the entries written are those shown. Assumes nothing.
+use Prim.Native.Nat.{ℕ, _-_}
+use native.Mathlib.Omega.{arith}
+use mathlib.Core.Path.{_≡_, refl, sym, ap, _∙_, subst}
+use mathlib.Core.List.{List}
+use lib.Dec.{eqb}
+use lib.ListN.{length, take, drop, length-take, length-drop}
+use denote.Ref.{now}
+use borrow.Author.Tests.{eq-eqb, ne-eqb}
+use Rattle.rules.specs.Bytes.{if_then_else_, part}
+use Rattle.rules.specs.Frame.{READ, onTables}
+use Rattle.rules.specs.Call.{readReason, shown}
+use Rattle.rules.proofs.Formed.{Formed}
+use Rattle.rules.proofs.Refused.{table-refused}
+use Rattle.rules.proofs.Sizes.{shown-sized}
+use Rattle.buffers.proofs.Splice.{length-window}
+use Rattle.frames.specs.Meaning.{queryOf}
+use Rattle.entries.specs.Store.{tablesIn}
+use Rattle.entry_store.specs.Read.{queryReason, readIn, Reads}
+use Rattle.memory.specs.Layout.{controlOf}
+use Rattle.memory.specs.Handles.{atTables}
+use Rattle.memory.proofs.Handled.{flat, flat-handles, refused}
+use Rattle.answers.proofs.Answers.{records-then-head, head-alone}
+use Rattle.table_commands.proofs.Writing.{tidy}
+use Rattle.table_commands.proofs.Reading.{key-there, query-formed, read-order, was-read, taken, reads-all}
+use borrow.Author.Needs.{needs}
+use Rattle.table_commands.proofs.read.Statement.{statement}
+use Rattle.table_commands.proofs.read.Tie as tie
+
+is-empty-requires : tie.Need-is-empty-requires
+is-empty-requires c κs = search needs
+
+read-reason-requires : tie.Need-read-reason-requires
+read-reason-requires c κs = search needs
+
+write-head-requires : tie.Need-write-head-requires
+write-head-requires c κs = search needs
+
+same-length : tie.Need-same-length
+same-length c = search needs
+
+-- the order, once its first part is known
+order : (e : tie.After-read-reason) →
+    let a = e .before .before .before .before .before .before .before .before .args in
+    let q = queryOf (a .query) (now (a .frame)) in
+    readReason (controlOf (a .agent)) q
+    ≡ (if eqb (e .read-reason .result) 0 then queryReason (controlOf (a .agent) .rows) (q .role) (q .table) (q .only) (q .key) else e .read-reason .result)
+order e =
+    let a = e .before .before .before .before .before .before .before .before .args in
+    read-order (a .agent) (queryOf (a .query) (now (a .frame))) refl (e .before .is-empty .ensures) (e .read-reason .ensures)
+
+returns : tie.Need-returns
+returns c =
+    let a = c .before .before .before .before .before .before .before .before .before .before .before .before .before .args in
+    let h = c .before .before .write-head in
+    refused (a .agent) _ (now (a .store)) (now (a .answer)) (h .last .1 .1 .0) (λ z. let w : _≡_ {A = ℕ} 0 1 = cc in omega arith) (c .before .before .before .before .before .read-reason .result)
+    (λ t. table-refused (atTables (a .agent) t) (READ (queryOf (a .query) (now (a .frame)))) (order (c .before .before .before .before .before) ∙ (rw (ne-eqb _ 0 (c .before .before .before .before .if1 .taken)))) (c .before .before .before .before .if1 .taken))
+    (head-alone _ (now (a .answer)) _ (h .ensures))
+
+sub-query-reason : tie.Need-sub-query-reason
+sub-query-reason c = omega (arith, c .before .before .before .before .before .before .before .before .before .pre .0 .0)
+
+part-query-reason-start : tie.Need-part-query-reason-start
+part-query-reason-start c = omega (arith, c .before .before .before .before .before .before .before .before .before .pre .0 .0)
+
+part-query-reason-end : tie.Need-part-query-reason-end
+part-query-reason-end c = search needs
+
+query-reason-requires : tie.Need-query-reason-requires
+query-reason-requires c κs = simp (length-take, length-drop) (omega (arith, c .before .before .before .before .before .before .before .before .before .before .pre .0 .0))
+
+write-head-requires-2 : tie.Need-write-head-requires-2
+write-head-requires-2 c κs = search needs
+
+same-length-2 : tie.Need-same-length-2
+same-length-2 c = search needs
+
+-- the query's bytes are those of the frame from 10 on
+whole : (f : List ℕ) → length f ≡ 159 → take (length f - 10) (drop 10 f) ≡ part 10 149 f
+whole f n = let e : length f - 10 ≡ 149 = omega arith in ap (λ (m : ℕ). take m (drop 10 f)) e
+
+-- and then its query's
+by-query : (e : tie.After-query-reason) →
+    let a = e .before .before .before .before .before .before .before .before .before .before .before .args in
+    let q = queryOf (a .query) (now (a .frame)) in
+    e .query-reason .result ≡ queryReason (controlOf (a .agent) .rows) (q .role) (q .table) (q .only) (q .key)
+by-query e =
+    let a = e .before .before .before .before .before .before .before .before .before .before .before .args in
+    let q = queryOf (a .query) (now (a .frame)) in
+    e .query-reason .ensures
+    ∙ ap (queryReason (controlOf (a .agent) .rows) (q .role) (q .table) (q .only)) (key-there (a .query) (now (a .frame)) (whole (now (a .frame)) (e .before .before .before .before .before .before .before .before .before .before .before .pre .0 .0)))
+
+returns-2 : tie.Need-returns-2
+returns-2 c =
+    let a = c .before .before .before .before .before .before .before .before .before .before .before .before .before .before .before .before .args in
+    let h = c .before .before .write-head2 in
+    refused (a .agent) _ (now (a .store)) (now (a .answer)) (h .last .1 .1 .0) (λ z. let w : _≡_ {A = ℕ} 0 1 = cc in omega arith) (c .before .before .before .before .before .query-reason .result)
+    (λ t. table-refused (atTables (a .agent) t) (READ (queryOf (a .query) (now (a .frame))))
+    (order (c .before .before .before .before .before .before .before .before) ∙ (rw (eq-eqb _ 0 (c .before .before .before .before .before .before .before .if1 .left))) ∙ sym (by-query (c .before .before .before .before .before))) (c .before .before .before .before .if2 .taken))
+    (head-alone _ (now (a .answer)) _ (h .ensures))
+
+sub-read : tie.Need-sub-read
+sub-read c = omega (arith, c .before .before .before .before .before .before .before .before .before .before .before .before .before .pre .0 .0)
+
+part-read-start : tie.Need-part-read-start
+part-read-start c = omega (arith, c .before .before .before .before .before .before .before .before .before .before .before .before .before .pre .0 .0)
+
+part-read-end : tie.Need-part-read-end
+part-read-end c = search needs
+
+sub-read-2 : tie.Need-sub-read-2
+sub-read-2 c = search needs
+
+part-read-start-2 : tie.Need-part-read-start-2
+part-read-start-2 c = search needs
+
+part-read-end-2 : tie.Need-part-read-end-2
+part-read-end-2 c = search needs
+
+read-requires : tie.Need-read-requires
+read-requires c κs = let p = c .before .before .before .before .before .before .before .before .before .before .before .before .before .before .before .pre in (simp (length-take, length-drop) (omega (arith, p .0 .0)), omega (arith, p .1, p .2), simp (length-take, length-drop) (omega (arith, p .3)))
+
+write-head-requires-3 : tie.Need-write-head-requires-3
+write-head-requires-3 c κs = search needs
+
+same-length-3 : tie.Need-same-length-3
+same-length-3 c = search needs
+
+returns-3 : tie.Need-returns-3
+returns-3 c =
+    let a = c .before .before .before .before .before .before .before .before .before .before .before .before .before .before .before .before .before .before .before .before .before .before .args in
+    let p = c .before .before .before .before .before .before .before .before .before .before .before .before .before .before .before .before .before .before .before .before .before .before .pre in
+    let f = now (a .frame) in
+    let q = queryOf (a .query) f in
+    let s = now (a .store) in
+    let d = now (a .answer) in
+    let r = c .before .before .before .before .before .before .read in
+    let h = c .before .before .write-head3 in
+    let formed : Formed (onTables (READ q)) = query-formed (a .query) f (p .0) in
+    let e : readReason (controlOf (a .agent)) q ≡ 0 =
+    order (c .before .before .before .before .before .before .before .before .before .before .before .before .before .before) ∙ (rw (eq-eqb _ 0 (c .before .before .before .before .before .before .before .before .before .before .before .before .before .if1 .left))) ∙ sym (by-query (c .before .before .before .before .before .before .before .before .before .before .before)) ∙ c .before .before .before .before .before .before .before .before .before .before .if2 .left in
+    let es = shown (flat (a .agent) s) q in
+    flat-handles (a .agent) _ s d (λ k.
+    let z = shown-sized (flat (a .agent) s) q k in
+    let w : length (take (length d - 4) (drop 4 d)) ≡ length d - 4 = length-window 4 (length d - 4) d (omega (arith, p .3)) in
+    let t : Reads es (take (length d - 4) (drop 4 d)) (r .last .1 .1 .1 .1 .1 .1 .1 .0) (r .result) =
+    subst (λ (x : List (List ℕ)). Reads x (take (length d - 4) (drop 4 d)) (r .last .1 .1 .1 .1 .1 .1 .1 .0) (r .result))
+    (ap (λ (key : List ℕ). readIn (controlOf (a .agent) .rows) (q .role) (q .table) (q .only) key (tablesIn (a .agent .tables .count) s)) (key-there (a .query) f (whole f (p .0 .0)))
+    ∙ taken (a .agent) q s formed k e) (r .ensures (tidy (a .agent) s k)) in
+    let n = reads-all es (take (length d - 4) (drop 4 d)) (omega (arith, z .1, p .3)) t in
+    was-read (a .agent) q s d (h .last .1 .1 .0) e
+    (records-then-head 0 (r .result) es d (r .last .1 .1 .1 .1 .1 .1 .1 .0) (h .last .1 .1 .0) (omega (arith, p .3)) (n .0) (r .kept .1 .1 .1 .1 .1 .1 .1 .0) (n .1) (h .ensures)))
+
+pub read-spec : {M : Type 1} → statement M
+read-spec =
+    tie.close
+    (tie.spec
+    is-empty-requires
+    read-reason-requires
+    write-head-requires
+    same-length
+    returns
+    sub-query-reason
+    part-query-reason-start
+    part-query-reason-end
+    query-reason-requires
+    write-head-requires-2
+    same-length-2
+    returns-2
+    sub-read
+    part-read-start
+    part-read-end
+    sub-read-2
+    part-read-start-2
+    part-read-end-2
+    read-requires
+    write-head-requires-3
+    same-length-3
+    returns-3)

@@ -1,0 +1,136 @@
+-- Right because each way out is one way through the order, and the batch is the rules'. Assumes nothing.
+use Prim.Native.Nat.{ℕ, _-_}
+use native.Mathlib.Omega.{arith}
+use mathlib.Core.Path.{_≡_, refl, sym, ap, _∙_, subst}
+use mathlib.Core.List.{List, map}
+use lib.ListN.{length, take, drop, length-map, length-take, length-drop}
+use denote.Ref.{now}
+use Rattle.rules.specs.Bytes.{parts, concat}
+use Rattle.rules.specs.Frame.{WRITE, updateOf}
+use Rattle.rules.specs.Call.{writeReason, batchOf, pairOf}
+use Rattle.rules.proofs.Formed.{parts-count}
+use Rattle.rules.proofs.Lists.{rest-all}
+use Rattle.rules.proofs.Refused.{table-refused}
+use Rattle.rules.proofs.Sizes.{reasons-count}
+use Rattle.buffers.specs.Splice.{splice}
+use Rattle.election.specs.Meaning.{headOf}
+use Rattle.rows.specs.Meaning.{rowsOf}
+use Rattle.entries.specs.Store.{tablesIn}
+use Rattle.entry_store.specs.Batch.{updatesIn, BatchApplied}
+use Rattle.memory.specs.Layout.{controlOf}
+use Rattle.memory.specs.Handles.{atTables}
+use Rattle.memory.proofs.Handled.{flat, flat-handles, refused}
+use Rattle.answers.proofs.Answers.{records-then-head, head-alone}
+use Rattle.table_commands.proofs.Writing.{tidy, write-order, was-written}
+use borrow.Author.Needs.{needs}
+use Rattle.table_commands.proofs.write.Statement.{statement}
+use Rattle.table_commands.proofs.write.Tie as tie
+
+by-primary-requires : tie.Need-by-primary-requires
+by-primary-requires c κs = search needs
+
+is-empty-requires : tie.Need-is-empty-requires
+is-empty-requires c κs = search needs
+
+write-reason-requires : tie.Need-write-reason-requires
+write-reason-requires c κs = search needs
+
+write-head-requires : tie.Need-write-head-requires
+write-head-requires c κs = search needs
+
+same-length : tie.Need-same-length
+same-length c = search needs
+
+order : (e : tie.After-write-reason) →
+    let a = e .before .before .before .before .before .before .before .before .before .before .before .args in
+    writeReason (controlOf (a .agent)) (headOf (a .head)) (a .atomicity) ≡ e .write-reason .result
+order e =
+    let a = e .before .before .before .before .before .before .before .before .before .before .before .args in
+    write-order (a .agent) (headOf (a .head)) (a .atomicity) refl (e .before .before .before .before .by-primary .ensures) (e .before .is-empty .ensures) (e .write-reason .ensures)
+
+returns : tie.Need-returns
+returns c =
+    let a = c .before .before .before .before .before .before .before .before .before .before .before .before .before .before .before .before .args in
+    let h = c .before .before .write-head in
+    let f = now (a .frame) in
+    refused (a .agent) _ (now (a .store)) (now (a .answer)) (h .last .1 .1 .0) (λ z. let w : _≡_ {A = ℕ} 0 1 = cc in omega arith) (c .before .before .before .before .before .write-reason .result)
+    (λ t. table-refused (atTables (a .agent) t) (WRITE (headOf (a .head)) (a .atomicity) (updatesIn (a .n) (drop 29 f))) (order (c .before .before .before .before .before)) (c .before .before .before .before .if1 .taken))
+    (head-alone _ (now (a .answer)) _ (h .ensures))
+
+sub-batch : tie.Need-sub-batch
+sub-batch c = omega (arith, c .before .before .before .before .before .before .before .before .before .before .before .before .before .pre .0 .1)
+
+part-batch-start : tie.Need-part-batch-start
+part-batch-start c = omega (arith, c .before .before .before .before .before .before .before .before .before .before .before .before .before .pre .0 .1)
+
+part-batch-end : tie.Need-part-batch-end
+part-batch-end c = search needs
+
+sub-batch-2 : tie.Need-sub-batch-2
+sub-batch-2 c = search needs
+
+part-batch-start-2 : tie.Need-part-batch-start-2
+part-batch-start-2 c = search needs
+
+part-batch-end-2 : tie.Need-part-batch-end-2
+part-batch-end-2 c = search needs
+
+batch-requires : tie.Need-batch-requires
+batch-requires c κs = let p = c .before .before .before .before .before .before .before .before .before .before .before .before .before .before .before .pre in (p .2, simp (length-take, length-drop) (omega (arith, p .0 .1)), p .0 .0, simp (length-take, length-drop) (omega (arith, p .3, p .0 .0)))
+
+head-reason-requires : tie.Need-head-reason-requires
+head-reason-requires c κs = search needs
+
+write-head-requires-2 : tie.Need-write-head-requires-2
+write-head-requires-2 c κs = search needs
+
+same-length-2 : tie.Need-same-length-2
+same-length-2 c = search needs
+
+same-length-3 : tie.Need-same-length-3
+same-length-3 c = search needs
+
+returns-2 : tie.Need-returns-2
+returns-2 c =
+    let a = c .before .before .before .before .before .before .before .before .before .before .before .before .before .before .before .before .before .before .before .before .before .before .before .before .before .args in
+    let p = c .before .before .before .before .before .before .before .before .before .before .before .before .before .before .before .before .before .before .before .before .before .before .before .before .before .pre in
+    let b = c .before .before .before .before .before .before .before .before .before .batch in
+    let g = c .before .before .before .before .head-reason in
+    let h = c .before .before .write-head2 in
+    let s = now (a .store) in
+    let f = now (a .frame) in
+    let us = updatesIn (a .n) (drop 29 f) in
+    let rs = batchOf (flat (a .agent) s) (headOf (a .head)) (a .atomicity) us .reasons in
+    let lent = rest-all 29 f in
+    let n : a .n ≡ length (map pairOf rs) =
+    sym (length-map rs pairOf ∙ reasons-count (a .atomicity) (rowsOf (a .agent .configuration .rows)) (a .head .role) (tablesIn (a .agent .tables .count) s) us
+    ∙ length-map (parts (a .n) 221 (drop 29 f)) updateOf ∙ parts-count (a .n) 221 (drop 29 f)) in
+    flat-handles (a .agent) _ s (now (a .answer)) (λ k.
+    let t = tidy (a .agent) s k in
+    was-written (a .agent) (headOf (a .head)) (a .atomicity) us s (b .last .1 .1 .1 .0) (now (a .answer)) (h .last .1 .1 .0) (g .result) (b .result)
+    (order (c .before .before .before .before .before .before .before .before .before .before .before .before .before .before) ∙ c .before .before .before .before .before .before .before .before .before .before .before .before .before .if1 .left) (subst (λ (l : List ℕ). BatchApplied (batchOf (flat (a .agent) s) (headOf (a .head)) (a .atomicity) (updatesIn (a .n) l)) s (b .last .1 .1 .1 .0) (b .result)) lent (b .ensures .0 t)) (g .ensures)
+    (records-then-head (g .result) (a .n) (map pairOf rs) (now (a .answer)) (b .last .1 .1 .1 .1 .1 .1 .1 .0) (h .last .1 .1 .0) (omega (arith, p .3)) n (b .kept .1 .1 .1 .1 .1 .1 .1 .0)
+    (b .ensures .1 t ∙ ap (λ (l : List ℕ). splice (take (length (now (a .answer)) - 4) (drop 4 (now (a .answer)))) 0 (concat (map pairOf (batchOf (flat (a .agent) s) (headOf (a .head)) (a .atomicity) (updatesIn (a .n) l) .reasons)))) lent) (h .ensures)))
+
+pub write-spec : {M : Type 1} → statement M
+write-spec =
+    tie.close
+    (tie.spec
+    by-primary-requires
+    is-empty-requires
+    write-reason-requires
+    write-head-requires
+    same-length
+    returns
+    sub-batch
+    part-batch-start
+    part-batch-end
+    sub-batch-2
+    part-batch-start-2
+    part-batch-end-2
+    batch-requires
+    head-reason-requires
+    write-head-requires-2
+    same-length-2
+    same-length-3
+    returns-2)
