@@ -8,16 +8,16 @@ use Rattle.rules.proofs.Lists.{parts-lent}
 use Rattle.calls.specs.Contract.{FreeBytes}
 use Rattle.calls.specs.Claim.{Demand3}
 use Rattle.calls.proofs.Demand3.{demand-3-of}
-use Rattle.agent.specs.declared.Agent.{Agent}
-use Rattle.agent.specs.Meaning.{Flat}
+use Rattle.memory.specs.declared.Agent.{Agent}
+use Rattle.memory.specs.Layout.{Flat}
 
 -- the bytes after the last entry are not looked at
 flat-free : FreeBytes Flat
 flat-free m n t e u h =
-    let bytes : take (m .agent .count * 220) (m .store) ≡ take (n .agent .count * 220) (n .store) = cc in
-    let count : m .agent .count ≡ n .agent .count = ap (λ (a : Agent). a .count) e in
-    let same : parts (m .agent .count) 220 (m .store) ≡ parts (n .agent .count) 220 (n .store) =
-    sym (parts-lent (m .agent .count) 220 (m .store)) ∙ ap₂ (λ (k : ℕ) (l : List ℕ). parts k 220 l) count bytes ∙ parts-lent (n .agent .count) 220 (n .store) in
+    let bytes : take (m .agent .tables .count * 220) (m .store) ≡ take (n .agent .tables .count * 220) (n .store) = cc in
+    let count : m .agent .tables .count ≡ n .agent .tables .count = ap (λ (a : Agent). a .tables .count) e in
+    let same : parts (m .agent .tables .count) 220 (m .store) ≡ parts (n .agent .tables .count) 220 (n .store) =
+    sym (parts-lent (m .agent .tables .count) 220 (m .store)) ∙ ap₂ (λ (k : ℕ) (l : List ℕ). parts k 220 l) count bytes ∙ parts-lent (n .agent .tables .count) 220 (n .store) in
     ap (λ (es : List (List ℕ)). record { entries = es }) (sym same) ∙ h
 
 pub demand-3 : Demand3 Flat

@@ -1,5 +1,3 @@
--- Laws of the agent: what each command leaves, the parts of a call, and demand 3 of the layout in use.
-pub mod Commands
-pub mod Calls
-pub mod Parts
+-- Demand 3 of the agent, and the ways of a call.
 pub mod Demand3
+pub mod Ways
