@@ -7,9 +7,9 @@ ghost use lib.ListN.{length, take, drop};
 ghost use Rattle.rules.specs.Bytes.{part};
 ghost use Rattle.transcript.specs.Input.{firstFrame, CutAt};
 ghost use Rattle.session.specs.Session.{Session};
-use agent::Agent;
 use libc::STDIN_FILENO;
 use libc::STDOUT_FILENO;
+use memory::Agent;
 
 // What a run ends with: the agent, and the ordinal that the next call would have.
 struct Ended {

@@ -20,10 +20,10 @@ use Rattle.transcript.specs.declared.Next.{Next}
 use Rattle.transcript.specs.declared.Next.the-variants.{Frame}
 use Rattle.transcript.proofs.Begins.{begins-append}
 use Rattle.transcript.proofs.Fitting.{lineIn-length}
-use Rattle.agent.specs.declared.Agent.{Agent}
+use Rattle.memory.specs.declared.Agent.{Agent}
 use Rattle.agent.specs.declared.Called.{Called}
-use Rattle.agent.specs.Meaning as meaning
-use Rattle.agent.specs.Meaning.{Flat, memory, result}
+use Rattle.memory.specs.Layout as meaning
+use Rattle.memory.specs.Layout.{Flat, memory, result}
 use Rattle.session.specs.Session.{framesOf, OneBuffer, memoryAfter, bufferAfter, lines, lineOfStep, Session, Made}
 
 -- ---- calls after calls
@@ -94,11 +94,11 @@ unfolding Trace OneBuffer memoryAfter bufferAfter
 session-none agent first store answer = record { steps = []; trace = tt; buffers = tt; ordinals = sym (add-zero first); left = refl; buffer = refl }
 
 pub session-one : (agent : Agent) (ordinal : ℕ) (store answer f : List ℕ) (r : Called) (store′ answer′ : List ℕ)
-    → Contract Flat (memory agent store) (meaning.input f answer) (result r store′ answer′)
+    → Contract Flat (memory agent store) (meaning.input f answer) (result (r .agent) (r .reason) store′ answer′)
     → Session agent ordinal store answer (r .agent) (ordinal + 1) store′ answer′
 unfolding Trace OneBuffer memoryAfter bufferAfter
 session-one agent ordinal store answer f r store′ answer′ k = record {
-  steps = record { input = meaning.input f answer; result = result r store′ answer′ } ∷ [];
+  steps = record { input = meaning.input f answer; result = result (r .agent) (r .reason) store′ answer′ } ∷ [];
   trace = (k, tt);
   buffers = (refl, tt);
   ordinals = refl;
@@ -137,7 +137,7 @@ module _ {agent : Agent} {first : ℕ} {input store answer out : List ℕ} {agen
   pub made-next : {n end′ : ℕ} {r : Called} {store′ answer′ out′ : List ℕ} → Ahead input at n →
       let f = take (at + n - (at + 2)) (drop (at + 2) input) in
       let line = lineIn 112_980 ordinal (recordSize f) answer′ in
-      Contract Flat (memory agent₁ store₁) (meaning.input f answer₁) (result r store′ answer′)
+      Contract Flat (memory agent₁ store₁) (meaning.input f answer₁) (result (r .agent) (r .reason) store′ answer′)
       → (end′ ≡ end + length line) × (out′ ≡ splice out₁ end line) → end + 112_980 ≤ length out
       → Made agent first input store answer out (r .agent) (ordinal + 1) (at + n) end′ store′ answer′ out′
   unfolding Begins lines session-one session-append

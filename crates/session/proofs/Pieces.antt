@@ -10,8 +10,8 @@ use Rattle.calls.specs.Contract.{Fresh}
 use Rattle.calls.specs.Claim.{Step}
 use Rattle.transcript.specs.Input.{firstFrame, Begins}
 use Rattle.transcript.proofs.Begins.{in-pieces}
-use Rattle.agent.specs.declared.Agent.{Agent}
-use Rattle.agent.specs.Meaning.{Flat, memory}
+use Rattle.memory.specs.declared.Agent.{Agent}
+use Rattle.memory.specs.Layout.{Flat, memory}
 use Rattle.session.specs.Session.{framesOf, lines, linesFrom, Played, InAnyPieces}
 use Rattle.session.proofs.Made.{lines-append, session-append, made-lines}
 use Rattle.session.proofs.Printed.{prints-answers}

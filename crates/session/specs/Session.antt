@@ -14,8 +14,8 @@ use Rattle.calls.specs.Contract.{Memory, Layout, Fresh}
 use Rattle.calls.specs.Claim.{Step, Trace}
 use Rattle.transcript.specs.Input.{firstFrame, Begins}
 use Rattle.transcript.specs.Line.{lineOf, recordSize, lineIn}
-use Rattle.agent.specs.declared.Agent.{Agent}
-use Rattle.agent.specs.Meaning.{Flat, memory}
+use Rattle.memory.specs.declared.Agent.{Agent}
+use Rattle.memory.specs.Layout.{Flat, memory}
 use Rattle.session.specs.declared.Advanced.{Advanced}
 
 -- ---- calls that are made one after the other

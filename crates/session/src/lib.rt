@@ -6,7 +6,7 @@ ghost use Rattle.rules.specs.Bytes.{part};
 ghost use Rattle.buffers.specs.Splice.{splice};
 ghost use Rattle.transcript.specs.Line.{recordSize, lineIn};
 ghost use Rattle.session.specs.Session.{Plays};
-use agent::Agent;
+use memory::Agent;
 use transcript::Next;
 
 // After some calls: the agent, the next ordinal, how many bytes of the input the calls took, where their lines end, and whether

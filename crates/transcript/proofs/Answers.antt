@@ -11,7 +11,7 @@ use lib.ListN.{length, drop, length-append}
 use lib.Seq.{take-at, drop-at}
 use borrow.Author.Tests.{le-leb}
 use Rattle.rules.specs.Bytes.{if_then_else_, concat, byte, int, parts, bytesOf}
-use Rattle.rules.specs.Frame.{Head, Command, malformed, OPEN, CLOSE, ARBITRATE, CONFIGURE, WRITE, READ, headAt, queryOf, updateOf, streamFormed, arbitrateFormed, configureFormed, writeFormed, readFormed, formed, configureOf, writeOf, readFrame}
+use Rattle.rules.specs.Frame.{PipelineCommand, Command, malformed, OPEN, CLOSE, ARBITRATE, CONFIGURE, WRITE, READ, headAt, queryOf, updateOf, streamFormed, arbitrateFormed, configureFormed, writeFormed, readFormed, formed, configureOf, writeOf, readFrame, onStreams, onPipeline, onTables}
 use Rattle.rules.specs.Reason.{codeOf}
 use Rattle.rules.specs.Answer.{Answer, answerBytes}
 use Rattle.rules.specs.Call.{State, answer}
@@ -71,9 +71,9 @@ module _ (s : State) (ok : Sound s) where
   unfolding answer
   malformed-answers n f = (tt, omega arith)
 
-  configure-answers : (n : ℕ) (h : Head) (rows : List (List ℕ)) → Answers n (CONFIGURE h rows)
+  pipeline-answers : (n : ℕ) (x : PipelineCommand) → Answers n (onPipeline x)
   unfolding answer
-  configure-answers n h rows f = (tt, omega arith)
+  pipeline-answers n x f = (tt, omega arith)
 
   -- a command with the test of its form
   formed-answers : (n : ℕ) (b : Bool) (c : Command) → Answers n c → Answers n (formed b c)
@@ -94,12 +94,12 @@ module _ (s : State) (ok : Sound s) where
   by-command [] = malformed-answers 0
   by-command (c ∷ operands) =
       let f : List ℕ = c ∷ operands in
-      either (eqb c 0x01) 20 _ _ _ (formed-answers 20 (streamFormed f) _ (answers (OPEN (byte 1 f))))
-      (either (eqb c 0x02) 20 _ _ _ (formed-answers 20 (streamFormed f) _ (answers (CLOSE (byte 1 f))))
-      (either (eqb c 0x03) 20 _ _ _ (formed-answers 20 (arbitrateFormed f) _ (answers (ARBITRATE (byte 1 f) (headAt 2 f))))
-      (unless (eqb c 0x04) _ _ _ (formed-answers _ (configureFormed (byte 27 f) f) _ (configure-answers _ (headAt 1 f) (parts (byte 27 f) 53 (drop 28 f))))
-      (either (eqb c 0x05) 2 _ _ _ (formed-answers 2 (writeFormed (byte 28 f) f) _ (answers (WRITE (headAt 1 f) (byte 27 f) (map updateOf (parts (byte 28 f) 221 (drop 29 f))))))
-      (either (eqb c 0x06) 220 0 _ _ (formed-answers 220 (readFormed f) _ (answers (READ (queryOf f)))) (malformed-answers 0))))))
+      either (eqb c 0x01) 20 _ _ _ (formed-answers 20 (streamFormed f) _ (answers (onStreams (OPEN (byte 1 f)))))
+      (either (eqb c 0x02) 20 _ _ _ (formed-answers 20 (streamFormed f) _ (answers (onStreams (CLOSE (byte 1 f)))))
+      (either (eqb c 0x03) 20 _ _ _ (formed-answers 20 (arbitrateFormed f) _ (answers (onStreams (ARBITRATE (byte 1 f) (headAt 2 f)))))
+      (unless (eqb c 0x04) _ _ _ (formed-answers _ (configureFormed (byte 27 f) f) _ (pipeline-answers _ (CONFIGURE (headAt 1 f) (parts (byte 27 f) 53 (drop 28 f)))))
+      (either (eqb c 0x05) 2 _ _ _ (formed-answers 2 (writeFormed (byte 28 f) f) _ (answers (onTables (WRITE (headAt 1 f) (byte 27 f) (map updateOf (parts (byte 28 f) 221 (drop 29 f)))))))
+      (either (eqb c 0x06) 220 0 _ _ (formed-answers 220 (readFormed f) _ (answers (onTables (READ (queryOf f))))) (malformed-answers 0))))))
 
   sized : (f : List ℕ) → Sized (recordSize f) (answer s (readFrame f) .records)
   sized f = by-command f (frame-formed f)
