@@ -482,7 +482,7 @@ mod tests {
 
     #[test]
     fn types_are_the_header_s() {
-        let header = include_str!("../../../../include/savorylatch.h");
+        let header = include_str!("../../../../c/include/savorylatch.h");
         for (name, kind) in [
             ("INSERT", UpdateKind::Insert),
             ("MODIFY", UpdateKind::Modify),
