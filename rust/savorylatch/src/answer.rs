@@ -241,6 +241,27 @@ impl<'a> View<'a> {
         self.only(Form::Entries).filter_map(Entry::read)
     }
 
+    /// The answer as the program `play` prints it: the call's ordinal, the reason, its code, the
+    /// number of records, and each record in hex.
+    ///
+    /// ```
+    /// use savorylatch::answer::View;
+    /// use savorylatch::Command;
+    ///
+    /// let view = View::new(&[23, 2, 0, 2, 0, 0, 20, 6], Command::Write)?;
+    /// assert_eq!(view.printed(4), "4 23 2 2 0000 1406");
+    /// # Ok::<(), savorylatch::answer::Unreadable>(())
+    /// ```
+    pub fn printed(&self, ordinal: usize) -> String {
+        let (reason, code, count) = (self.reason.number(), self.code().number(), self.count);
+        let mut line = format!("{ordinal} {reason} {code} {count}");
+        for record in self.records() {
+            line.push(' ');
+            line.extend(record.iter().map(|byte| format!("{byte:02x}")));
+        }
+        line
+    }
+
     /// The records, if they are of this form.
     fn only(&self, form: Form) -> impl Iterator<Item = &'a [u8]> + 'a {
         let is = self.form == Some(form);
