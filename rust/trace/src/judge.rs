@@ -1,11 +1,11 @@
 //! Whether what a script expects of a call is so.
 
 use savorylatch::answer::Notification;
+use savorylatch::wire::Entry;
 use savorylatch::{Agent, Reason, StreamState};
 
 use crate::play::Outcome;
 use crate::script::{Expected, ExpectedState};
-use crate::wire::Entry;
 use crate::words::{some, Words};
 
 /// What is so instead, if the expectation does not hold.
@@ -214,10 +214,7 @@ mod tests {
                 "the frame's byte at offset 1 is 01",
             ),
             (">", "the frame has 28 bytes, and not 0"),
-            (
-                "> 03 01 00*7.01 00 01 00*15.05 00",
-                "28 bytes, and not 29",
-            ),
+            ("> 03 01 00*7.01 00 01 00*15.05 00", "28 bytes, and not 29"),
             (
                 "< 3 0 0 1 01.00.00.01.00*15.05",
                 "`play` prints 2 0 0 1 0100000100000000000000000000000000000005\n",

@@ -12,14 +12,15 @@ use std::collections::HashMap;
 use std::rc::Rc;
 
 use savorylatch::frame::Head;
+use savorylatch::wire::{ROWS, UPDATES};
 
+use crate::call::{Call, Wanted};
 use crate::input;
 use crate::lex::{self, Line, Sign, Token};
 use crate::mistake::{quoted, Mistake};
 use crate::names::Names;
 use crate::notation::Notations;
 use crate::script::{self, Expectation, Expected, Script};
-use crate::wire::{Call, Wanted, ROWS, UPDATES};
 use cursor::Cursor;
 use values::Literal;
 

@@ -2,9 +2,10 @@
 
 use savorylatch::answer::{Notification, Unreadable};
 use savorylatch::frame::{self, Query, Wanted};
+use savorylatch::wire::Entry;
 use savorylatch::{Agent, Answer, Command, Reason, Store};
 
-use crate::wire::{Call, Entry};
+use crate::call::Call;
 
 /// An agent with its store and an answer buffer.
 pub struct Player {
@@ -76,7 +77,7 @@ impl Player {
             printed: view.printed(self.calls),
             told: view.notifications().collect(),
             pairs: view.pairs().map(|(reason, _)| reason).collect(),
-            entries: entries.filter_map(|mut r| Entry::read(&mut r)).collect(),
+            entries: entries.filter_map(Entry::decode).collect(),
             before,
             after: self.agent.clone(),
             store,

@@ -2,11 +2,11 @@
 
 use std::rc::Rc;
 
+use savorylatch::wire::Entry;
 use savorylatch::Reason;
 
 use crate::names::Names;
 use crate::notation::Notations;
-use crate::wire::Entry;
 
 /// A script that was read whole.
 #[derive(Clone, Debug)]
