@@ -11,6 +11,9 @@
 use std::hint::black_box;
 use std::time::{Duration, Instant};
 
+use savorylatch::answer::View;
+use savorylatch::Command;
+
 use crate::cases::{Case, Frame, DEVICE};
 use crate::sides::{Buffer, Proved, Second, Side, ANSWER};
 
@@ -384,13 +387,16 @@ impl Pair<'_> {
         let expect = self.case.expect;
         let reason = self.call(frame)?;
         let answer = &self.answers[0];
-        let records = usize::from(u16::from_be_bytes([answer[2], answer[3]]));
-        let mut pairs = answer[4..].chunks(2).take(records).enumerate();
+        let view = View::new(answer, Command::of(frame)).ok();
+        let records = view.map_or(0, |view| view.count());
+        let mut pairs = view.iter().flat_map(View::pairs).enumerate();
         let kept = reason == expect.reason
-            && reason == answer[0]
+            && view.is_some_and(|view| view.reason().number() == reason)
             && records == expect.records
             && match expect.pairs {
-                Some(expected) => pairs.all(|(at, given)| given[0] == expected.reason(at)),
+                Some(expected) => {
+                    pairs.all(|(at, (given, _))| given.number() == expected.reason(at))
+                }
                 None => true,
             };
         let found = format!("reason {reason} and {records} records are not what the case names");

@@ -6,11 +6,8 @@
 
 use std::collections::HashMap;
 
-const CONFIGURE: u8 = 4;
-const WRITE: u8 = 5;
-const READ: u8 = 6;
-/// Where the atomicity of a WRITE is.
-const ATOMICITY_AT: usize = 27;
+use savorylatch::wire::Frame;
+use savorylatch::Command;
 
 /// What READs were answered since anything last may have changed an entry.
 #[derive(Default)]
@@ -25,13 +22,13 @@ impl Reads {
     /// before a batch that was rolled back, and now after it; the error is that
     /// it is not answered as it was.
     pub fn note(&mut self, frame: &[u8], answer: &[u8]) -> Result<bool, String> {
-        let (Some(&command), Some(&reason)) = (frame.first(), answer.first()) else {
+        let (Some(command), Some(&reason)) = (Command::of(frame), answer.first()) else {
             return Ok(false);
         };
         match (command, reason) {
-            (READ, _) => return self.read(frame, answer),
-            (WRITE, 23) if frame[ATOMICITY_AT] == 1 => self.rolled_back += 1,
-            (CONFIGURE | WRITE, 0 | 23) => self.answered.clear(),
+            (Command::Read, _) => return self.read(frame, answer),
+            (Command::Write, 23) if is_atomic(frame) => self.rolled_back += 1,
+            (Command::Configure | Command::Write, 0 | 23) => self.answered.clear(),
             _ => {}
         }
         Ok(false)
@@ -47,4 +44,8 @@ impl Reads {
             None => Ok(false),
         }
     }
+}
+
+fn is_atomic(frame: &[u8]) -> bool {
+    matches!(Frame::decode(frame), Ok(Frame::Write { atomicity: 1, .. }))
 }

@@ -2,10 +2,9 @@
 
 use std::fmt::Write;
 
-use reference::bytes::{Action, Entry, Head, Key, Row, Slot, Update, Value};
+use savorylatch::wire::{Action, Entry, Frame, Head, Key, Row, Slot, Update, Value};
 
 use crate::bench::{Call, List, Poison};
-use crate::parse::Frame;
 
 /// Lowercase hexadecimal.
 pub fn hex(bytes: &[u8]) -> String {
@@ -53,7 +52,7 @@ fn circumstances(call: &Call) -> String {
 
 /// One frame in words.
 pub fn frame(bytes: &[u8]) -> String {
-    let Some(frame) = Frame::parse(bytes) else {
+    let Ok(frame) = Frame::decode(bytes) else {
         return match bytes {
             [] => "an empty frame".to_owned(),
             [command @ 1..=6, ..] => format!(
@@ -121,7 +120,7 @@ fn who(head: &Head) -> String {
 
 fn row(row: &Row) -> String {
     let fields: Vec<String> = counted(&row.fields, row.field_count)
-        .map(|&(number, width)| format!("{} {width}", kind(number)))
+        .map(|field| format!("{} {}", kind(field.kind), field.width))
         .collect();
     let actions: Vec<String> = counted(&row.actions, row.action_count)
         .map(|action: &Action| {
@@ -158,7 +157,7 @@ fn update(update: &Update) -> String {
 
 fn entry(entry: &Entry) -> String {
     let params: Vec<String> = entry
-        .params
+        .parameters
         .iter()
         .filter(|p| is_used(p))
         .map(value)
@@ -173,7 +172,7 @@ fn entry(entry: &Entry) -> String {
 }
 
 fn key(key: &Key) -> String {
-    let used = key.slots.iter().rposition(|slot| *slot != Slot::OMITTED);
+    let used = key.slots.iter().rposition(|slot| *slot != Slot::default());
     let slots: Vec<String> = key.slots[..used.map_or(0, |at| at + 1)]
         .iter()
         .map(slot)
@@ -202,7 +201,7 @@ fn kind(number: u8) -> String {
 }
 
 fn is_used(value: &Value) -> bool {
-    *value != Value::NONE
+    !value.is_none()
 }
 
 /// The bytes within the length; what is wrong with it stands behind.

@@ -25,7 +25,7 @@ mod dice;
 mod faults;
 mod lists;
 mod options;
-mod parse;
+mod parts;
 mod play;
 mod report;
 mod shrink;

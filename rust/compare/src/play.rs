@@ -10,6 +10,8 @@ use std::path::Path;
 use std::process::{Command, Stdio};
 use std::thread;
 
+use savorylatch::answer::View;
+
 use crate::cases::{Case, DEVICE};
 use crate::describe::{self, hex};
 
@@ -40,7 +42,9 @@ pub fn run(program: &Path, exchanges: &[Exchange]) -> Result<(), String> {
     let mut expected = String::new();
     for (at, (frame, answer)) in exchanges.iter().enumerate() {
         input.extend(framed(frame));
-        let _ = writeln!(expected, "{}", line(at + 1, frame, answer));
+        let view = View::new(answer, savorylatch::Command::of(frame));
+        let view = view.map_err(|wrong| format!("call {}: {wrong}", at + 1))?;
+        let _ = writeln!(expected, "{}", view.printed(at + 1));
     }
     agree(program, input, &expected).map_err(|wrong| match exchanges.get(wrong.line - 1) {
         Some((frame, _)) => format!("{}\n  for {}", wrong.text, describe::frame(frame)),
@@ -85,21 +89,6 @@ fn framed(frame: &[u8]) -> Vec<u8> {
 /// answer; it changes nothing, so it can be left out.
 pub fn can_take(device: u64, frame: &[u8], answer: &[u8]) -> bool {
     device == DEVICE && u16::try_from(frame.len()).is_ok() && !answer.is_empty()
-}
-
-/// What the program must print for a call.
-fn line(ordinal: usize, frame: &[u8], answer: &[u8]) -> String {
-    let count = u16::from_be_bytes([answer[2], answer[3]]);
-    let mut line = format!("{ordinal} {} {} {count}", answer[0], answer[1]);
-    let record = match frame.first() {
-        Some(5) => 2,
-        Some(6) => 220,
-        _ => 20,
-    };
-    for record in answer[4..].chunks(record) {
-        let _ = write!(line, " {}", hex(record));
-    }
-    line
 }
 
 /// A line that is not as expected.

@@ -8,9 +8,10 @@
 use std::marker::PhantomData;
 use std::time::{Duration, Instant};
 
+use savorylatch::wire::Frame;
+
 use crate::bench::{Bench, Call, List, LookBack, Second};
 use crate::lists::Found;
-use crate::parse::Frame;
 
 /// The shortest list found within the time, with its difference.
 pub fn shrink<S: Second, L: LookBack>(found: Found, time: Duration) -> Found {
@@ -151,13 +152,13 @@ impl<S: Second, L: LookBack> Search<S, L> {
 
 /// The frame without some of its updates or rows; `None` where there are none.
 fn without(frame: &[u8], start: usize, count: usize) -> Option<Vec<u8>> {
-    let mut frame = Frame::parse(frame)?;
+    let mut frame = Frame::decode(frame).ok()?;
     let dropped = match &mut frame {
         Frame::Write { updates, .. } => drop_some(updates, start, count),
         Frame::Configure { rows, .. } => drop_some(rows, start, count),
         _ => false,
     };
-    dropped.then(|| frame.bytes())
+    dropped.then(|| frame.encode())
 }
 
 fn drop_some<T>(items: &mut Vec<T>, start: usize, count: usize) -> bool {

@@ -6,12 +6,17 @@ mod atomic;
 use std::collections::BTreeMap;
 use std::fmt;
 
+use reference::bytes::Update;
+use savorylatch::answer::{self, Status};
+use savorylatch::wire::Frame;
+use savorylatch::Command;
+
 use crate::bench::Seen;
 use crate::describe::COMMANDS;
 use crate::lists::maker::{Aim, Draft};
 use crate::lists::view::View;
 use crate::lists::ways;
-use crate::parse::Frame;
+use crate::parts;
 
 const REASONS: usize = 26;
 
@@ -89,15 +94,19 @@ impl Tally {
     pub fn count(&mut self, view: &View, draft: &Draft, seen: &Seen<'_>) {
         self.calls += 1;
         let frame = &draft.call.frame;
-        let command = match frame.first() {
-            Some(&command @ 1..=6) => usize::from(command),
-            _ => 0,
-        };
-        add(&mut self.of_calls[command], seen.reason);
+        let command = Command::of(frame);
+        add(
+            &mut self.of_calls[command.map_or(0, |c| c as usize)],
+            seen.reason,
+        );
+        // None under reason 2, which has no answer.
+        let answer = answer::View::new(seen.answer, command).ok();
+        let pairs = answer.iter().flat_map(answer::View::pairs);
+        let reasons: Vec<u8> = pairs.map(|(reason, _)| reason.number()).collect();
         for aim in &draft.aims {
             let met = match aim.update {
                 None => Some(seen.reason),
-                Some(at) => pair(seen, at),
+                Some(at) => reasons.get(at).copied(),
             };
             if met == Some(aim.reason) && (aim.update.is_none() || is_done(seen.reason)) {
                 *self.ways.entry((aim.reason, aim.name)).or_default() += 1;
@@ -106,14 +115,23 @@ impl Tally {
         if draft.call.poison.is_some() {
             self.see("free bytes overwritten");
         }
-        if let Some(frame) = Frame::parse(frame) {
-            self.look(view, &frame, seen);
-            self.look_at_batch(view, &frame, seen, &draft.aims);
+        if let Ok(frame) = Frame::decode(frame) {
+            if let Some(answer) = answer {
+                self.look(view, &frame, seen, &answer);
+            }
+            self.look_at_batch(view, &frame, seen, &reasons, &draft.aims);
         }
     }
 
     /// A batch that was accepted.
-    fn look_at_batch(&mut self, view: &View, frame: &Frame, seen: &Seen<'_>, aims: &[Aim]) {
+    fn look_at_batch(
+        &mut self,
+        view: &View,
+        frame: &Frame,
+        seen: &Seen<'_>,
+        reasons: &[u8],
+        aims: &[Aim],
+    ) {
         let Frame::Write {
             atomicity, updates, ..
         } = frame
@@ -123,8 +141,8 @@ impl Tally {
         if !is_done(seen.reason) {
             return;
         }
-        let reasons: Vec<u8> = seen.answer[4..].iter().step_by(2).copied().collect();
-        for (update, &reason) in updates.iter().zip(&reasons) {
+        let updates: Vec<Update> = updates.iter().map(parts::update).collect();
+        for (update, &reason) in updates.iter().zip(reasons) {
             let kind = usize::from(update.kind);
             let kind = if kind < TYPES.len() { kind } else { 0 };
             add(&mut self.of_updates[kind], reason);
@@ -132,22 +150,19 @@ impl Tally {
                 self.see(played_twice(reason));
             }
         }
-        self.after_keys.count(view, *atomicity, updates, &reasons);
+        self.after_keys.count(view, *atomicity, &updates, reasons);
         if *atomicity == 1 {
-            if let Some(reason) = atomic::ended_by(&reasons) {
+            if let Some(reason) = atomic::ended_by(reasons) {
                 add(&mut self.of_batches, reason);
             }
-            for sight in atomic::sights(view, updates, &reasons, aims) {
+            for sight in atomic::sights(view, &updates, reasons, aims) {
                 self.see(sight);
             }
         }
     }
 
-    fn look(&mut self, view: &View, frame: &Frame, seen: &Seen<'_>) {
-        let count = match seen.answer {
-            [_, _, high, low, ..] => usize::from(u16::from_be_bytes([*high, *low])),
-            _ => return,
-        };
+    fn look(&mut self, view: &View, frame: &Frame, seen: &Seen<'_>, answer: &answer::View<'_>) {
+        let count = answer.count();
         match frame {
             Frame::Open { .. } => {}
             Frame::Close { stream } if seen.reason == 0 => {
@@ -157,7 +172,7 @@ impl Tally {
                     0 => {}
                     _ => self.see("a closing primary that tells"),
                 }
-                self.notices(seen);
+                self.notices(answer);
             }
             Frame::Arbitrate { .. } => {
                 match (seen.reason, count) {
@@ -167,7 +182,7 @@ impl Tally {
                     (0, 8) => self.see("eight streams told"),
                     _ => {}
                 }
-                self.notices(seen);
+                self.notices(answer);
             }
             Frame::Configure { rows, .. } if seen.reason == 0 => {
                 if rows.len() == 8 {
@@ -205,18 +220,18 @@ impl Tally {
         }
     }
 
-    fn notices(&mut self, seen: &Seen<'_>) {
-        for notice in seen.answer[4..].chunks(20) {
-            match (notice[2], notice[3]) {
-                (0, _) => self.see("status 0"),
-                (5, 0) => self.see("status 5 without a mark"),
-                (5, _) => self.see("status 5"),
-                _ => self.see("status 6"),
-            }
-            if notice[4..] == [0xff; 16] {
-                self.see("the mark 2^128 - 1");
-            } else if notice[4..12] != [0; 8] {
-                self.see("a mark above 2^64");
+    fn notices(&mut self, answer: &answer::View<'_>) {
+        for notice in answer.notifications() {
+            self.see(match (notice.status, notice.mark) {
+                (Status::Primary, _) => "status 0",
+                (Status::NoPrimary, None) => "status 5 without a mark",
+                (Status::NoPrimary, Some(_)) => "status 5",
+                (Status::OtherPrimary, _) => "status 6",
+            });
+            match notice.mark.unwrap_or(0) {
+                u128::MAX => self.see("the mark 2^128 - 1"),
+                mark if mark >> 64 > 0 => self.see("a mark above 2^64"),
+                _ => {}
             }
         }
     }
@@ -285,11 +300,6 @@ fn add(counts: &mut [u64; REASONS], reason: u8) {
 /// Is there an effect, or an update that failed alone?
 fn is_done(reason: u8) -> bool {
     reason == 0 || reason == 23
-}
-
-/// The reason of one update.
-fn pair(seen: &Seen<'_>, at: usize) -> Option<u8> {
-    seen.answer.get(4 + 2 * at).copied()
 }
 
 impl fmt::Display for Tally {

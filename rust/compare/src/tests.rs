@@ -6,11 +6,11 @@ use std::time::Duration;
 
 use reference::bytes::{configure, open, read_all, write, Entry, Head, Update};
 use reference::{Agent, Past};
+use savorylatch::wire::Frame;
 
 use crate::again::Reads;
 use crate::bench::{Bench, Call, List, STORE_ROOM};
 use crate::options::Order;
-use crate::parse::Frame;
 use crate::twice::with_other_bytes;
 use crate::{cases, faults, lists, shrink};
 
@@ -71,8 +71,8 @@ fn cases_notice_a_wrong_answer() {
 fn frames_parse_to_themselves() {
     let mut parsed = 0;
     let played = lists::play::<Agent, Past>(5, 300, |_, draft, _| {
-        if let Some(frame) = Frame::parse(&draft.call.frame) {
-            assert_eq!(frame.bytes(), draft.call.frame);
+        if let Ok(frame) = Frame::decode(&draft.call.frame) {
+            assert_eq!(frame.encode(), draft.call.frame);
             parsed += 1;
         }
     });

@@ -5,9 +5,10 @@
 //! there; it must answer each call as the first one did and keep the same
 //! entries. This is held against the library alone, by its own answers.
 
+use savorylatch::wire::Frame;
+
 use crate::bench::{Call, Second, STORE_ROOM};
 use crate::dice::noise;
-use crate::parse::Frame;
 
 const DELETE: u8 = 3;
 /// Where the updates are in a WRITE.
@@ -57,7 +58,7 @@ impl<S: Second> Twin<S> {
 /// The frame with other bytes after the key of each of its DELETEs; none where
 /// there is no DELETE.
 pub fn with_other_bytes(frame: &[u8], seed: u64) -> Option<Vec<u8>> {
-    let Some(Frame::Write { updates, .. }) = Frame::parse(frame) else {
+    let Ok(Frame::Write { updates, .. }) = Frame::decode(frame) else {
         return None;
     };
     let mut other = frame.to_vec();
@@ -68,11 +69,11 @@ pub fn with_other_bytes(frame: &[u8], seed: u64) -> Option<Vec<u8>> {
         match seed % 4 {
             0 => rest.fill(0),
             1 => rest.fill(0xff),
-            2 => rest.copy_from_slice(&updates[next].bytes()[ACTION_AT..]),
+            2 => rest.copy_from_slice(&updates[next].encode()[ACTION_AT..]),
             _ => rest.copy_from_slice(noise(seed, rest.len())),
         }
         // What is the same by chance is turned round.
-        if *rest == updates[at].bytes()[ACTION_AT..] {
+        if *rest == updates[at].encode()[ACTION_AT..] {
             rest.iter_mut().for_each(|byte| *byte = !*byte);
         }
     }

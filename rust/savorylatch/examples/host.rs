@@ -25,17 +25,9 @@ pub fn play(out: &mut impl Write) -> io::Result<()> {
     ];
     let (mut agent, mut store, mut answer) = (Agent::new(1), Store::new(), Answer::new());
     for (ordinal, frame) in (1..).zip(&frames) {
-        let reason = agent.call(frame, &mut store, &mut answer);
+        agent.call(frame, &mut store, &mut answer);
         let view = answer.view(Command::of(frame)).map_err(io::Error::other)?;
-        let (reason, code) = (reason.number(), view.code().number());
-        write!(out, "{ordinal} {reason} {code} {}", view.count())?;
-        for record in view.records() {
-            write!(out, " ")?;
-            record
-                .iter()
-                .try_for_each(|byte| write!(out, "{byte:02x}"))?;
-        }
-        writeln!(out)?;
+        writeln!(out, "{}", view.printed(ordinal))?;
     }
     Ok(())
 }

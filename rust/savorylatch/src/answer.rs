@@ -10,6 +10,7 @@ use crate::bytes::{take, zeros};
 use crate::ffi;
 use crate::frame::{Command, Entry};
 use crate::reason::{Code, Reason};
+use crate::wire;
 
 /// The buffer that a call writes its answer to: [`Answer::LENGTH`] bytes, on the heap.
 ///
@@ -105,7 +106,7 @@ impl Form {
         match self {
             Form::Notifications => Notification::read(record).is_some(),
             Form::Pairs => read_pair(record).is_some(),
-            Form::Entries => Entry::read(record).is_some(),
+            Form::Entries => read_entry(record).is_some(),
         }
     }
 }
@@ -238,7 +239,28 @@ impl<'a> View<'a> {
 
     /// The entries that a READ asked for: by row of the configuration, then in order of insertion.
     pub fn entries(&self) -> impl Iterator<Item = Entry> + 'a {
-        self.only(Form::Entries).filter_map(Entry::read)
+        self.only(Form::Entries).filter_map(read_entry)
+    }
+
+    /// The answer as the program `play` prints it: the call's ordinal, the reason, its code, the
+    /// number of records, and each record in hex.
+    ///
+    /// ```
+    /// use savorylatch::answer::View;
+    /// use savorylatch::Command;
+    ///
+    /// let view = View::new(&[23, 2, 0, 2, 0, 0, 20, 6], Command::Write)?;
+    /// assert_eq!(view.printed(4), "4 23 2 2 0000 1406");
+    /// # Ok::<(), savorylatch::answer::Unreadable>(())
+    /// ```
+    pub fn printed(&self, ordinal: usize) -> String {
+        let (reason, code, count) = (self.reason.number(), self.code().number(), self.count);
+        let mut line = format!("{ordinal} {reason} {code} {count}");
+        for record in self.records() {
+            line.push(' ');
+            line.extend(record.iter().map(|byte| format!("{byte:02x}")));
+        }
+        line
     }
 
     /// The records, if they are of this form.
@@ -343,6 +365,10 @@ fn read_pair(record: &[u8]) -> Option<(Reason, Code)> {
     let &[reason, code] = record else { return None };
     let reason = Reason::try_from(reason).ok()?;
     (reason.code().number() == code).then_some((reason, reason.code()))
+}
+
+fn read_entry(record: &[u8]) -> Option<Entry> {
+    wire::Entry::decode(record)?.typed()
 }
 
 /// Why bytes are not an answer to the command.

@@ -1,4 +1,4 @@
-//! The C interface: the record as `include/savorylatch.h` lays it out, and its two functions.
+//! The C interface: the record as `c/include/savorylatch.h` lays it out, and its two functions.
 //!
 //! All unsafe code of the crate is here, behind [`fresh`] and [`call`], which are safe.
 

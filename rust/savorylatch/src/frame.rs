@@ -1,4 +1,4 @@
-//! Frames: what is handed to the agent, put together from typed parts.
+//! Frames: what is handed to the agent, put together from typed parts. [`wire`] takes them apart.
 //!
 //! A builder takes whatever its types can express, and never panics. Some of that the agent
 //! refuses: a stream over 31, say, or 65 updates. Each builder says under which reason; nothing
@@ -10,7 +10,7 @@ mod row;
 pub use entry::{Entry, Key, Slot, Update, UpdateKind, Value};
 pub use row::{Action, Field, Kind, Row};
 
-use crate::bytes::count;
+use crate::wire::{self, Frame};
 
 /// The commands; the discriminant is the first byte of the frame.
 #[derive(Clone, Copy, Debug, PartialEq, Eq, Hash)]
@@ -72,15 +72,6 @@ pub struct Head {
     pub id: Option<u128>,
 }
 
-impl Head {
-    fn put(&self, frame: &mut Vec<u8>) {
-        frame.extend(self.device.to_be_bytes());
-        frame.push(self.role);
-        frame.push(u8::from(self.id.is_some()));
-        frame.extend(self.id.unwrap_or(0).to_be_bytes());
-    }
-}
-
 /// How a WRITE treats its updates as a whole, by the names of P4Runtime; the discriminant is the
 /// byte in the frame.
 #[derive(Clone, Copy, Debug, Default, PartialEq, Eq)]
@@ -124,12 +115,12 @@ pub enum Wanted {
 /// OPEN: a stream, 0 to 31, is opened. A number over 31 is refused under
 /// [`BadFrame`](crate::Reason::BadFrame).
 pub fn open(stream: u8) -> Vec<u8> {
-    vec![Command::Open as u8, stream]
+    Frame::Open { stream }.encode()
 }
 
 /// CLOSE: a stream is closed, by its controller or because the connection broke off.
 pub fn close(stream: u8) -> Vec<u8> {
-    vec![Command::Close as u8, stream]
+    Frame::Close { stream }.encode()
 }
 
 /// ARBITRATE: the stream is bound to the role with the election id, or with none.
@@ -143,9 +134,8 @@ pub fn close(stream: u8) -> Vec<u8> {
 /// assert_eq!(frame.len(), 28);
 /// ```
 pub fn arbitrate(stream: u8, head: &Head) -> Vec<u8> {
-    let mut frame = vec![Command::Arbitrate as u8, stream];
-    head.put(&mut frame);
-    frame
+    let head = (*head).into();
+    Frame::Arbitrate { stream, head }.encode()
 }
 
 /// CONFIGURE: the rows, 1 to 8, replace those in force, and the store is emptied.
@@ -155,13 +145,11 @@ pub fn arbitrate(stream: u8, head: &Head) -> Vec<u8> {
 /// [`RowsNotAllowed`](crate::Reason::RowsNotAllowed): the frame has room for four, and says how many
 /// were given.
 pub fn configure(head: &Head, rows: &[Row]) -> Vec<u8> {
-    let mut frame = vec![Command::Configure as u8];
-    head.put(&mut frame);
-    frame.push(count(rows.len()));
-    for row in rows {
-        row.put(&mut frame);
-    }
-    frame
+    let frame = Frame::Configure {
+        head: (*head).into(),
+        rows: rows.iter().map(wire::Row::from).collect(),
+    };
+    frame.encode()
 }
 
 /// WRITE: the updates, up to 64, are taken in order. More are refused under
@@ -232,14 +220,12 @@ pub fn configure(head: &Head, rows: &[Row]) -> Vec<u8> {
 /// # Ok::<(), savorylatch::answer::Unreadable>(())
 /// ```
 pub fn write(head: &Head, atomicity: Atomicity, updates: &[Update]) -> Vec<u8> {
-    let mut frame = vec![Command::Write as u8];
-    head.put(&mut frame);
-    frame.push(atomicity as u8);
-    frame.push(count(updates.len()));
-    for update in updates {
-        update.put(&mut frame);
-    }
-    frame
+    let frame = Frame::Write {
+        head: (*head).into(),
+        atomicity: atomicity as u8,
+        updates: updates.iter().copied().map(wire::Update::from).collect(),
+    };
+    frame.encode()
 }
 
 /// READ: entries are asked for.
@@ -256,13 +242,14 @@ pub fn read(query: &Query) -> Vec<u8> {
         Wanted::Table(table) => (table, None),
         Wanted::Key(key) => (key.table, Some(key)),
     };
-    let mut frame = vec![Command::Read as u8];
-    frame.extend(query.device.to_be_bytes());
-    frame.push(query.role);
-    frame.extend(table.to_be_bytes());
-    frame.push(u8::from(key.is_some()));
-    key.unwrap_or_default().put(&mut frame);
-    frame
+    let frame = Frame::Read {
+        device: query.device,
+        role: query.role,
+        table,
+        only: u8::from(key.is_some()),
+        key: key.unwrap_or_default().into(),
+    };
+    frame.encode()
 }
 
 #[cfg(test)]

@@ -7,7 +7,8 @@
 //!
 //! A host holds an [`Agent`], a [`Store`] and an [`Answer`], and lends all three to each call. A
 //! call takes a frame, which a controller sent or [`frame`] builds, and returns a [`Reason`]; the
-//! records that go with it are read by [`Answer::view`].
+//! records that go with it are read by [`Answer::view`]. What a frame asks for is read by
+//! [`wire::Frame::decode`].
 //!
 //! ```
 //! use savorylatch::answer::{Notification, Status};
@@ -126,6 +127,7 @@ mod ffi;
 pub mod frame;
 mod reason;
 mod store;
+pub mod wire;
 
 pub use agent::{Agent, StreamState};
 pub use answer::Answer;

@@ -345,7 +345,7 @@ mod tests {
 
     #[test]
     fn names_are_the_header_s() {
-        let header = include_str!("../../../include/savorylatch.h");
+        let header = include_str!("../../../c/include/savorylatch.h");
         for reason in Reason::ALL {
             let constant = reason.name().replace('-', "_").to_uppercase();
             let line = format!("SAVORYLATCH_REASON_{constant} = {}", reason.number());

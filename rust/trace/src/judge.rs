@@ -1,17 +1,22 @@
 //! Whether what a script expects of a call is so.
 
 use savorylatch::answer::Notification;
+use savorylatch::wire::Entry;
 use savorylatch::{Agent, Reason, StreamState};
 
 use crate::play::Outcome;
 use crate::script::{Expected, ExpectedState};
-use crate::wire::Entry;
 use crate::words::{some, Words};
 
 /// What is so instead, if the expectation does not hold.
 pub fn instead(expected: &Expected, outcome: &Outcome, words: &Words) -> Option<String> {
     let after = &outcome.after;
     let (holds, is) = match expected {
+        Expected::Frame(frame) => (outcome.frame == *frame, other(&outcome.frame, frame)),
+        Expected::Printed(line) => {
+            let is = format!("`play` prints {}", outcome.printed);
+            (outcome.printed == *line, is)
+        }
         Expected::Reason(reason) => {
             let is = format!("the reason is {}", named(outcome.reason));
             (outcome.reason == *reason, is)
@@ -48,6 +53,23 @@ pub fn instead(expected: &Expected, outcome: &Outcome, words: &Words) -> Option<
         Expected::Stream { stream, state } => stream_state(*stream, *state, after, words),
     };
     (!holds).then_some(is)
+}
+
+/// Where a call's frame is another than expected.
+fn other(is: &[u8], expected: &[u8]) -> String {
+    let pairs = is.iter().zip(expected).enumerate();
+    let first = pairs.into_iter().find(|(_, (is, expected))| is != expected);
+    match first {
+        _ if is.len() != expected.len() => {
+            format!(
+                "the frame has {} bytes, and not {}",
+                is.len(),
+                expected.len()
+            )
+        }
+        Some((offset, (byte, _))) => format!("the frame's byte at offset {offset} is {byte:02x}"),
+        None => "the frame is the same".to_owned(),
+    }
 }
 
 /// Is an entry among those that a call shows? The action need not be compared.
@@ -167,6 +189,45 @@ mod tests {
             &["4", "not-open"],
             &[("0", is), ("already-open", is)],
         );
+    }
+
+    #[test]
+    fn bytes() {
+        // A judged line begins with `expect`; here it is a line of its own.
+        let judged = |lines: &str| {
+            let text = format!("open 1\narbitrate 1 role 0 id 5\n{lines}\n");
+            let report = session::quiet(&parse::script(&text).unwrap(), "f").unwrap();
+            (report.held, report.text)
+        };
+        for lines in [
+            "> 03 01 00*7.01 00 01 00*15.05",
+            "> 0301.0000000000000001 00 01 00*15 05",
+            "< 2 0 0 1 01.00.00.01.00*15.05",
+            "< 2 0 0 1 0100000100000000000000000000000000000005",
+        ] {
+            assert!(judged(lines).0, "{lines}");
+        }
+        for (lines, instead) in [
+            ("> 03 01 00*7.01 00 01 00*15.06", "at offset 27 is 05"),
+            (
+                "> 03 02 00*7.01 00 01 00*15.06",
+                "the frame's byte at offset 1 is 01",
+            ),
+            (">", "the frame has 28 bytes, and not 0"),
+            ("> 03 01 00*7.01 00 01 00*15.05 00", "28 bytes, and not 29"),
+            (
+                "< 3 0 0 1 01.00.00.01.00*15.05",
+                "`play` prints 2 0 0 1 0100000100000000000000000000000000000005\n",
+            ),
+            ("< 2 0 0 1 01.00.00.01.00*15.06", "`play` prints 2 0 0 1 "),
+            ("< 2 0 0 1", "`play` prints 2 0 0 1 01"),
+            ("< 2 1 0 1 01.00.00.01.00*15.05", "`play` prints 2 0 0 1 "),
+            ("< 2 0 1 1 01.00.00.01.00*15.05", "`play` prints 2 0 0 1 "),
+            ("< 2 0 0 2 01.00.00.01.00*15.05", "`play` prints 2 0 0 1 "),
+        ] {
+            let (held, text) = judged(lines);
+            assert!(!held && text.contains(instead), "{lines}: {text}");
+        }
     }
 
     #[test]

@@ -3,7 +3,7 @@
 //! A script is read whole ([`lex`], [`parse`]) into frames and expectations ([`script`]). Its frames
 //! go to the proved agent ([`play`]), and what comes back is said in the script's language
 //! ([`words`], [`render`]) with the reasons explained ([`explain`]) and the expectations judged
-//! ([`judge`]). A trace is always made of the frame that was sent, taken apart again ([`wire`]): so
+//! ([`judge`]). A trace is always made of the frame that was sent, taken apart again ([`call`]): so
 //! scripts, `raw` frames and captures are shown alike. [`timeline`] draws it.
 
 #![forbid(unsafe_code)]
@@ -19,6 +19,7 @@
     )
 )]
 
+pub mod call;
 #[cfg(test)]
 mod dice;
 pub mod explain;
@@ -38,5 +39,4 @@ pub mod render;
 pub mod script;
 pub mod session;
 pub mod timeline;
-pub mod wire;
 pub mod words;

@@ -3,7 +3,7 @@
 use std::collections::HashMap;
 use std::fmt::Write;
 
-use crate::wire::Value;
+use savorylatch::wire::Value;
 
 /// A way to write a value.
 #[derive(Clone, Copy, Debug, PartialEq, Eq)]

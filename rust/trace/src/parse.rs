@@ -12,14 +12,15 @@ use std::collections::HashMap;
 use std::rc::Rc;
 
 use savorylatch::frame::Head;
+use savorylatch::wire::{ROWS, UPDATES};
 
+use crate::call::{Call, Wanted};
 use crate::input;
 use crate::lex::{self, Line, Sign, Token};
 use crate::mistake::{quoted, Mistake};
 use crate::names::Names;
 use crate::notation::Notations;
-use crate::script::{self, Expectation, Script};
-use crate::wire::{Call, Wanted, ROWS, UPDATES};
+use crate::script::{self, Expectation, Expected, Script};
 use cursor::Cursor;
 use values::Literal;
 
@@ -40,7 +41,7 @@ pub fn script(text: &str) -> Result<Script, Mistake> {
 pub const DEVICE: u64 = 1;
 
 const STATEMENTS: &str = "a statement (device, value, open, close, arbitrate, configure, write, \
-                          read, raw or expect)";
+                          read, raw, expect, > or <)";
 
 /// A statement and the lines indented under it.
 struct Statement<'a> {
@@ -114,7 +115,14 @@ impl<'a> Parser<'a> {
         Ok(Some(match verb.text {
             "device" => return self.device(cursor, verb).map(|()| None),
             "value" => return self.named_value(cursor).map(|()| None),
-            "expect" => return self.expect(cursor, line).map(|()| None),
+            "expect" | ">" | "<" => {
+                let what = match verb.text {
+                    "expect" => self.expected(cursor)?,
+                    ">" => expect::frame(cursor)?,
+                    _ => expect::printed(cursor)?,
+                };
+                return self.expect(what, verb, line).map(|()| None);
+            }
             "open" => Call::Open {
                 stream: last_stream(cursor)?,
             },
@@ -154,16 +162,14 @@ impl<'a> Parser<'a> {
         Ok(())
     }
 
-    /// `expect ..`, about the latest call.
-    fn expect(&mut self, cursor: &mut Cursor, line: &Line) -> Result<(), Mistake> {
-        let what = self.expected(cursor)?;
-        let first = line.tokens.first();
-        let Some((call, first)) = self.calls.last_mut().zip(first) else {
-            let place = Cursor::new(&line.tokens).place();
-            return Err(Mistake::new(place, "a call before 'expect'", "none"));
+    /// `expect ..`, `> ..` or `< ..`, about the latest call.
+    fn expect(&mut self, what: Expected, verb: Token, line: &Line) -> Result<(), Mistake> {
+        let Some(call) = self.calls.last_mut() else {
+            let expected = format!("a call before {}", quoted(verb.text));
+            return Err(Mistake::new(verb.place, expected, "none"));
         };
         call.expectations.push(Expectation {
-            line: first.place.line,
+            line: verb.place.line,
             text: words(line),
             what,
         });
@@ -346,7 +352,7 @@ fn items<'a>(
                 items.push(line.tokens.clone());
             }
             Some(item) if line.indent > indent => item.extend(&line.tokens),
-            _ if first == "expect" => {
+            _ if ["expect", ">", "<"].contains(&first) => {
                 let cursor = Cursor::new(&line.tokens);
                 return Err(cursor.mistake("no blanks before an expectation"));
             }

@@ -2,15 +2,18 @@
 
 use savorylatch::answer::{Notification, Unreadable};
 use savorylatch::frame::{self, Query, Wanted};
+use savorylatch::wire::Entry;
 use savorylatch::{Agent, Answer, Command, Reason, Store};
 
-use crate::wire::{Call, Entry};
+use crate::call::Call;
 
 /// An agent with its store and an answer buffer.
 pub struct Player {
     agent: Agent,
     store: Store,
     answer: Answer,
+    /// How many calls it has made.
+    calls: usize,
 }
 
 /// A call and all that is known of it.
@@ -20,6 +23,8 @@ pub struct Outcome {
     /// The frame taken apart, or what is wrong with its form.
     pub call: Result<Call, String>,
     pub reason: Reason,
+    /// The line that the program `play` prints of the call.
+    pub printed: String,
     pub told: Vec<Notification>,
     /// The updates' reasons.
     pub pairs: Vec<Reason>,
@@ -37,6 +42,7 @@ impl Player {
             agent: Agent::new(device),
             store: Store::new(),
             answer: Answer::new(),
+            calls: 0,
         }
     }
 
@@ -46,6 +52,7 @@ impl Player {
             agent: agent.clone(),
             store: store.clone(),
             answer: Answer::new(),
+            calls: 0,
         }
     }
 
@@ -59,6 +66,7 @@ impl Player {
         let before = self.agent.clone();
         let store = self.store.clone();
         let reason = self.agent.call(frame, &mut self.store, &mut self.answer);
+        self.calls += 1;
         let view = self.answer.view(Command::of(frame))?;
         let is_read = Command::of(frame) == Some(Command::Read);
         let entries = view.records().filter(|_| is_read);
@@ -66,9 +74,10 @@ impl Player {
             frame: frame.to_vec(),
             call: Call::decode(frame),
             reason,
+            printed: view.printed(self.calls),
             told: view.notifications().collect(),
             pairs: view.pairs().map(|(reason, _)| reason).collect(),
-            entries: entries.filter_map(|mut r| Entry::read(&mut r)).collect(),
+            entries: entries.filter_map(Entry::decode).collect(),
             before,
             after: self.agent.clone(),
             store,

@@ -1,12 +1,13 @@
 //! The trace: each call flush left, and under it what came of it.
 
 use savorylatch::answer::{Notification, Status};
+use savorylatch::wire::{Row, Update};
 use savorylatch::Reason;
 
+use crate::call::Call;
 use crate::explain;
 use crate::notation::hex;
 use crate::play::Outcome;
-use crate::wire::{Call, Row, Update};
 use crate::words::Words;
 
 /// The width of `update 64`, the longest label.

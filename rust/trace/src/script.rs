@@ -2,11 +2,11 @@
 
 use std::rc::Rc;
 
+use savorylatch::wire::Entry;
 use savorylatch::Reason;
 
 use crate::names::Names;
 use crate::notation::Notations;
-use crate::wire::Entry;
 
 /// A script that was read whole.
 #[derive(Clone, Debug)]
@@ -28,7 +28,7 @@ pub struct Call {
     pub expectations: Vec<Expectation>,
 }
 
-/// An `expect` line.
+/// An `expect` line, or a line `>` or `<`.
 #[derive(Clone, Debug)]
 pub struct Expectation {
     pub line: usize,
@@ -37,9 +37,13 @@ pub struct Expectation {
     pub what: Expected,
 }
 
-/// What an `expect` line asks for.
+/// What such a line asks for.
 #[derive(Clone, Debug, PartialEq, Eq)]
 pub enum Expected {
+    /// `>`: the call's frame.
+    Frame(Vec<u8>),
+    /// `<`: the line that `play` prints of the call.
+    Printed(String),
     Reason(Reason),
     Told {
         stream: u8,

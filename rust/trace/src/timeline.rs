@@ -7,9 +7,9 @@ mod text;
 use savorylatch::frame::Head;
 use savorylatch::{Agent, Reason, StreamState};
 
+use crate::call::Call;
 use crate::explain;
 use crate::play::Outcome;
-use crate::wire::Call;
 use crate::words::Words;
 
 pub use draw::svg;

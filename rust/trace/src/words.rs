@@ -1,10 +1,11 @@
 //! Calls, rows, updates and entries in the script's language, with the script's names and notations.
 
 use savorylatch::frame::Head;
+use savorylatch::wire::{Action, Entry, Key, Row, Slot, Update, Value};
 
+use crate::call::{Call, Wanted, KINDS, TYPES};
 use crate::names::{self, Names};
 use crate::notation::{show, Notation, Notations, Spot};
-use crate::wire::{Action, Call, Entry, Key, Row, Slot, Update, Value, Wanted, KINDS, TYPES};
 
 /// What is needed to say something as the script does.
 #[derive(Clone, Copy)]

@@ -1,5 +1,5 @@
 //! The picture of the five events, read as a person reads it: which bar stands over which calls, and what is told where. What it has to
-//! show is written here by hand, from document 01; that it is the picture which `--timeline` makes is for `scripts/check` to see.
+//! show is written here by hand, from document 01; that it is the picture which `--timeline` makes is for `.ci/parts/scripts` to see.
 
 use std::fs;
 

@@ -42,7 +42,7 @@ fn sample(what: &str, name: &str) -> Vec<u8> {
     output.stdout
 }
 
-const SCRIPTS: [&str; 13] = [
+const ALL: [&str; 13] = [
     "atomic-move",
     "clean-up",
     "document-01",
@@ -58,8 +58,8 @@ const SCRIPTS: [&str; 13] = [
     "values-and-widths",
 ];
 
-/// The scripts that are samples too.
-const SAMPLES: [&str; 7] = [
+/// The samples that have their bytes too.
+const IN_BYTES: [&str; 7] = [
     "atomic-move",
     "clean-up",
     "document-01",
@@ -80,26 +80,26 @@ fn reasons(trace: &str) -> Vec<&str> {
 }
 
 #[test]
-fn scripts_have_their_traces() {
-    for name in SCRIPTS {
-        let output = run(&[&format!("scripts/{name}.txt")], &[]);
+fn samples_have_their_traces() {
+    for name in ALL {
+        let output = run(&[&format!("samples/{name}.txt")], &[]);
         assert_eq!(output.status.code(), Some(0), "{name}");
-        let expected = std::fs::read_to_string(root().join(format!("scripts/{name}.trace")));
+        let expected = std::fs::read_to_string(root().join(format!("samples/{name}.trace")));
         assert_eq!(out(&output), expected.unwrap(), "{name}");
     }
 }
 
 #[test]
-fn frames_are_the_samples() {
-    for name in SAMPLES {
-        let output = run(&["--frames", &format!("scripts/{name}.txt")], &[]);
+fn frames_are_the_samples_bytes() {
+    for name in IN_BYTES {
+        let output = run(&["--frames", &format!("samples/{name}.txt")], &[]);
         assert_eq!(output.stdout, sample("in", name), "{name}");
     }
 }
 
 #[test]
 fn traces_have_the_samples_reasons() {
-    for name in SAMPLES {
+    for name in IN_BYTES {
         let output = run(&["--explain", "-"], &sample("in", name));
         let lines = String::from_utf8(sample("out", name)).unwrap();
         let expected: Vec<&str> = lines.lines().filter_map(|l| l.split(' ').nth(1)).collect();
@@ -109,8 +109,8 @@ fn traces_have_the_samples_reasons() {
 
 #[test]
 fn frames_are_explained_with_the_same_reasons() {
-    for name in SCRIPTS {
-        let file = format!("scripts/{name}.txt");
+    for name in ALL {
+        let file = format!("samples/{name}.txt");
         let frames = run(&["--frames", &file], &[]).stdout;
         let explained = run(&["--explain", "-"], &frames);
         assert_eq!(explained.status.code(), Some(0));
@@ -121,7 +121,7 @@ fn frames_are_explained_with_the_same_reasons() {
 
 #[test]
 fn the_resent_batch_is_explained() {
-    let output = run(&["scripts/five-events.txt"], &[]);
+    let output = run(&["samples/five-events.txt"], &[]);
     let why =
         "not-primary (10), PERMISSION_DENIED (7): id 5 is not the mark of role 0, which is 6; \
                nobody holds the mark, so role 0 has no primary";
@@ -191,6 +191,8 @@ fn help_has_every_reason() {
         "[atomic | atomicity 0|1|2]",
         "--timeline",
         "expect told count",
+        "> HEX ..",
+        "< ORDINAL REASON CODE COUNT RECORD ..",
         "Exit status",
     ] {
         assert!(out(&output).contains(word), "{word}");
@@ -232,7 +234,7 @@ fn an_input_that_breaks_off_is_said_to() {
 
 #[test]
 fn the_picture_shows_what_it_should() {
-    let output = run(&["--timeline", "scripts/five-events.txt"], &[]);
+    let output = run(&["--timeline", "samples/five-events.txt"], &[]);
     assert_eq!(output.status.code(), Some(0));
     let picture = out(&output);
     for text in [

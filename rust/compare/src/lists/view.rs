@@ -4,8 +4,11 @@
 //! aims by it.
 
 use reference::bytes::{Entry, Head, Row, Slot, Value};
+use savorylatch::answer;
+use savorylatch::wire::Frame;
+use savorylatch::{Command, Reason};
 
-use crate::parse::Frame;
+use crate::parts;
 
 /// How many bygone entries and batches are remembered.
 const REMEMBERED: usize = 64;
@@ -50,26 +53,29 @@ impl View {
 
     /// Takes note of a call and its answer.
     pub fn note(&mut self, frame: &[u8], answer: &[u8]) {
-        let (Some(&reason), Some(parsed)) = (answer.first(), Frame::parse(frame)) else {
+        let (Some(&reason), Ok(asked)) = (answer.first(), Frame::decode(frame)) else {
             return;
         };
-        match (parsed, reason) {
+        match (asked, reason) {
             (Frame::Open { stream }, 0) => self.set(stream, Stream::Open),
             (Frame::Close { stream }, 0) => self.set(stream, Stream::Closed),
-            (Frame::Arbitrate { stream, head }, 0) => self.bind(stream, &head),
+            (Frame::Arbitrate { stream, head }, 0) => self.bind(stream, &parts::head(head)),
             (Frame::Arbitrate { stream, .. }, 5..=9) => self.set(stream, Stream::Closed),
             (Frame::Configure { head, rows }, 0) => {
-                remember(&mut self.spoke, head);
-                self.rows = rows;
+                remember(&mut self.spoke, parts::head(head));
+                self.rows = rows.iter().map(parts::row).collect();
                 for entry in std::mem::take(&mut self.entries) {
                     remember(&mut self.gone, entry);
                 }
             }
             (Frame::Write { head, updates, .. }, 0 | 23) => {
-                remember(&mut self.spoke, head);
+                remember(&mut self.spoke, parts::head(head));
                 remember(&mut self.batches, frame.to_vec());
-                for (update, pair) in updates.iter().zip(answer[4..].chunks(2)) {
-                    if pair == [0, 0] {
+                let answer = answer::View::new(answer, Command::Write);
+                let pairs = answer.iter().flat_map(answer::View::pairs);
+                for (update, (reason, _)) in updates.iter().zip(pairs) {
+                    if reason == Reason::Done {
+                        let update = parts::update(update);
                         self.take_effect(update.kind, short_entry(update.entry));
                     }
                 }

@@ -2,8 +2,6 @@
 
 use std::fmt;
 
-use crate::bytes::take;
-
 /// An entry of a table.
 ///
 /// ```
@@ -63,38 +61,6 @@ impl Entry {
             slots: self.slots,
         }
     }
-
-    fn put(&self, frame: &mut Vec<u8>) {
-        frame.extend(self.table.to_be_bytes());
-        self.key().put(frame);
-        frame.extend(self.action.to_be_bytes());
-        for parameter in self.parameters {
-            put_value(parameter, frame);
-        }
-    }
-
-    /// Reads the 220 bytes of a record; `None` if they are not such.
-    pub(crate) fn read(mut record: &[u8]) -> Option<Entry> {
-        let from = &mut record;
-        let entry = Entry {
-            table: u32::from_be_bytes(take(from)?),
-            priority: u32::from_be_bytes(take(from)?),
-            slots: [
-                Slot::read(from)?,
-                Slot::read(from)?,
-                Slot::read(from)?,
-                Slot::read(from)?,
-            ],
-            action: u32::from_be_bytes(take(from)?),
-            parameters: [
-                read_value(from)?,
-                read_value(from)?,
-                read_value(from)?,
-                read_value(from)?,
-            ],
-        };
-        from.is_empty().then_some(entry)
-    }
 }
 
 /// The key of an entry. No two entries have the same, so it is all that a DELETE, or a READ of one
@@ -125,14 +91,6 @@ impl Key {
     /// ```
     pub fn new<const S: usize>(table: u32, priority: u32, slots: [Slot; S]) -> Key {
         Entry::new(table, priority, slots, 0, []).key()
-    }
-
-    /// Writes it without its table.
-    pub(super) fn put(&self, frame: &mut Vec<u8>) {
-        frame.extend(self.priority.to_be_bytes());
-        for slot in &self.slots {
-            slot.put(frame);
-        }
     }
 }
 
@@ -225,11 +183,6 @@ impl Update {
         let entry = Entry::new(key.table, key.priority, key.slots, 0, []);
         Update { kind, entry }
     }
-
-    pub(super) fn put(&self, frame: &mut Vec<u8>) {
-        frame.push(self.kind as u8);
-        self.entry.put(frame);
-    }
 }
 
 /// What an entry asks of one field. The kind is the field's, or the slot is omitted.
@@ -282,36 +235,6 @@ impl Slot {
     /// The value of an optional field.
     pub fn optional(value: impl Into<Value>) -> Slot {
         Slot::Optional(value.into())
-    }
-
-    fn put(&self, frame: &mut Vec<u8>) {
-        let (kind, first, second) = match *self {
-            Slot::Omitted => (0, None, None),
-            Slot::Exact(value) => (1, Some(value), None),
-            Slot::Lpm(value, prefix) => (2, Some(value), Some(Value::new(prefix.into()))),
-            Slot::Ternary(value, mask) => (3, Some(value), Some(mask)),
-            Slot::Range(low, high) => (4, Some(low), Some(high)),
-            Slot::Optional(value) => (5, Some(value), None),
-        };
-        frame.push(kind);
-        put_value(first, frame);
-        put_value(second, frame);
-    }
-
-    fn read(from: &mut &[u8]) -> Option<Slot> {
-        let [kind] = take(from)?;
-        match (kind, read_value(from)?, read_value(from)?) {
-            (0, None, None) => Some(Slot::Omitted),
-            (1, Some(value), None) => Some(Slot::Exact(value)),
-            (2, Some(value), Some(prefix)) => {
-                let prefix = prefix.number().try_into().ok()?;
-                Some(Slot::Lpm(value, prefix))
-            }
-            (3, Some(value), Some(mask)) => Some(Slot::Ternary(value, mask)),
-            (4, Some(low), Some(high)) => Some(Slot::Range(low, high)),
-            (5, Some(value), None) => Some(Slot::Optional(value)),
-            _ => None,
-        }
     }
 }
 
@@ -397,30 +320,17 @@ impl fmt::Debug for Value {
     }
 }
 
-/// Writes a value, or 17 zero bytes where none is due.
-fn put_value(value: Option<Value>, frame: &mut Vec<u8>) {
-    let (length, bytes) = value.map_or((0, [0; 16]), |value| (value.length, value.bytes));
-    frame.push(length);
-    frame.extend(bytes);
-}
-
-/// Reads a value; the outer `None` is for bytes that are none, the inner one for 17 zero bytes.
-fn read_value(from: &mut &[u8]) -> Option<Option<Value>> {
-    let [length] = take(from)?;
-    let bytes: [u8; 16] = take(from)?;
-    let (number, padding) = bytes.split_at_checked(usize::from(length))?;
-    let clean = padding.iter().all(|&byte| byte == 0);
-    clean.then(|| Value::from_bytes(number))
-}
-
 #[cfg(test)]
 mod tests {
     use super::*;
+    use crate::wire;
 
     fn bytes_of(entry: &Entry) -> Vec<u8> {
-        let mut bytes = Vec::new();
-        entry.put(&mut bytes);
-        bytes
+        wire::Entry::from(*entry).encode()
+    }
+
+    fn read(bytes: &[u8]) -> Option<Entry> {
+        wire::Entry::decode(bytes)?.typed()
     }
 
     /// One entry with a slot of each of four kinds, and one with the other two.
@@ -450,9 +360,9 @@ mod tests {
         for entry in entries() {
             let bytes = bytes_of(&entry);
             assert_eq!(bytes.len(), 220);
-            assert_eq!(Entry::read(&bytes), Some(entry));
-            assert_eq!(Entry::read(&bytes[..219]), None);
-            assert_eq!(Entry::read(&[&bytes[..], &[0]].concat()), None);
+            assert_eq!(read(&bytes), Some(entry));
+            assert_eq!(read(&bytes[..219]), None);
+            assert_eq!(read(&[&bytes[..], &[0]].concat()), None);
         }
     }
 
@@ -473,16 +383,16 @@ mod tests {
         ] {
             let mut bytes = bytes_of(&entries()[0]);
             bytes[at] = byte;
-            assert_eq!(Entry::read(&bytes), None, "{at}: {byte}");
+            assert_eq!(read(&bytes), None, "{at}: {byte}");
         }
         let mut missing = bytes_of(&entries()[0]);
         missing[slot(3) + 18..slot(3) + 35].fill(0);
-        assert_eq!(Entry::read(&missing), None, "a range without its highest");
+        assert_eq!(read(&missing), None, "a range without its highest");
     }
 
     #[test]
     fn types_are_the_header_s() {
-        let header = include_str!("../../../../include/savorylatch.h");
+        let header = include_str!("../../../../c/include/savorylatch.h");
         for (name, kind) in [
             ("INSERT", UpdateKind::Insert),
             ("MODIFY", UpdateKind::Modify),

@@ -1,10 +1,6 @@
 //! The rows of a configuration.
 
-use crate::bytes::count;
 use crate::ffi;
-
-/// The fields, the actions and the widths that a frame has room for.
-const PLACES: usize = 4;
 
 /// A row of the configuration: a table, who owns it, and what its entries look like.
 ///
@@ -69,24 +65,6 @@ pub struct Action {
 }
 
 impl Row {
-    pub(super) fn put(&self, frame: &mut Vec<u8>) {
-        frame.extend(self.table.to_be_bytes());
-        frame.push(self.owner);
-        frame.extend(self.size.to_be_bytes());
-        frame.push(count(self.fields.len()));
-        for place in 0..PLACES {
-            let field = self.fields.get(place);
-            frame.extend(field.map_or([0; 2], |field| [field.kind as u8, field.width]));
-        }
-        frame.push(count(self.actions.len()));
-        for place in 0..PLACES {
-            match self.actions.get(place) {
-                Some(action) => action.put(frame),
-                None => frame.extend([0; 9]),
-            }
-        }
-    }
-
     /// A row of the record, as far as it can be read; one in force can be read as a whole.
     pub(crate) fn of_record(row: &ffi::Row) -> Row {
         let fields = row.fields.iter().take(usize::from(row.field_count));
@@ -119,14 +97,6 @@ impl Field {
 }
 
 impl Action {
-    fn put(&self, frame: &mut Vec<u8>) {
-        frame.extend(self.id.to_be_bytes());
-        frame.push(count(self.widths.len()));
-        for place in 0..PLACES {
-            frame.push(self.widths.get(place).copied().unwrap_or(0));
-        }
-    }
-
     fn of_record(action: &ffi::Action) -> Action {
         let widths = action.widths.iter().take(usize::from(action.count));
         Action {

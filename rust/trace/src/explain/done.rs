@@ -3,9 +3,9 @@
 use savorylatch::frame::Head;
 use savorylatch::{Agent, Reason, StreamState};
 
+use crate::call::Call;
 use crate::explain::updates;
 use crate::play::Outcome;
-use crate::wire::Call;
 use crate::words::{some, Words};
 
 pub fn sentence(outcome: &Outcome, words: &Words) -> Option<String> {

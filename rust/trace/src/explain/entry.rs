@@ -4,10 +4,11 @@
 //! document 02, only table and key are looked at.
 
 use savorylatch::frame::{Action, Field, Kind, Row};
+use savorylatch::wire::{Entry, Key, Slot, Update, Value};
 use savorylatch::Reason;
 
+use crate::call::DELETE;
 use crate::explain::Finding;
-use crate::wire::{Entry, Key, Slot, Update, Value, DELETE};
 use crate::words::{self, some, Words};
 
 /// The highest priority.

@@ -6,9 +6,9 @@
 use savorylatch::frame::Head;
 use savorylatch::{Agent, Reason, StreamState};
 
+use crate::call::{Call, Wanted};
 use crate::explain::{entry, rows, Finding};
 use crate::play::Outcome;
-use crate::wire::{Call, Wanted};
 use crate::words::Words;
 
 pub fn sentence(outcome: &Outcome, words: &Words) -> Option<Finding> {

@@ -1,9 +1,9 @@
 //! What is not allowed about the rows of a CONFIGURE: the first part that breaks reason 14's list.
 
+use savorylatch::wire::{Action, Field, Row, PLACES};
 use savorylatch::Reason;
 
 use crate::explain::Finding;
-use crate::wire::{Action, Field, Row, PLACES};
 use crate::words::Words;
 
 /// The most entries that all tables together may be given.

@@ -3,12 +3,12 @@
 use savorylatch::Reason;
 
 use super::{refused, updates};
+use crate::call::Call;
 use crate::dice::{Dice, SCRIPTS};
 use crate::names::Names;
 use crate::notation::Notations;
 use crate::parse;
 use crate::play::{Outcome, Player};
-use crate::wire::Call;
 use crate::words::Words;
 
 /// The reasons that were met, by their numbers.

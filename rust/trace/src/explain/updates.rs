@@ -1,11 +1,12 @@
 //! Why each update of a WRITE ended as it did.
 
 use savorylatch::frame::{Head, Row};
+use savorylatch::wire::{Entry, Update};
 use savorylatch::Reason;
 
+use crate::call::Call;
 use crate::explain::{entry, general, Finding};
 use crate::play::{Outcome, Player};
-use crate::wire::{Call, Entry, Update};
 use crate::words::{some, Words};
 
 /// For each update of a WRITE that was not refused, a sentence if it did not take effect.

@@ -2,13 +2,15 @@
 
 use std::rc::Rc;
 
+use savorylatch::wire::{Entry, Key, Slot, Update, Value, PLACES};
+
+use crate::call::TYPES;
 use crate::lex::Sign;
 use crate::mistake::{quoted, Mistake};
 use crate::names::{Action, Names, Table};
 use crate::notation::Spot;
 use crate::parse::cursor::Cursor;
 use crate::parse::{values, Parser, AN_UPDATE};
-use crate::wire::{Entry, Key, Slot, Update, Value, PLACES, TYPES};
 
 /// The kinds of slots.
 const EXACT: u8 = 1;

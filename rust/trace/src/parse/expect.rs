@@ -1,8 +1,10 @@
-//! `expect` lines.
+//! What is expected of a call: `expect` lines, and its bytes, as lines `>` and `<`.
 
 use savorylatch::Reason;
 
+use crate::input;
 use crate::mistake::Mistake;
+use crate::notation::hex;
 use crate::parse::cursor::Cursor;
 use crate::parse::{values, Parser, A_ROLE, A_STREAM};
 use crate::script::{Expected, ExpectedState};
@@ -90,6 +92,35 @@ impl Parser<'_> {
             false => self.id(cursor).map(Some),
         }
     }
+}
+
+/// `> HEX ..`: the call's frame.
+pub fn frame(cursor: &mut Cursor) -> Result<Expected, Mistake> {
+    let mut words = Vec::new();
+    while let Some(word) = cursor.peek() {
+        words.push(word);
+        cursor.advance();
+    }
+    input::frame(&words).map(Expected::Frame)
+}
+
+/// `< ORDINAL REASON CODE COUNT RECORD ..`: the line that `play` prints of the call, kept as it is
+/// printed: each record in hex, without dots and repetitions.
+pub fn printed(cursor: &mut Cursor) -> Result<Expected, Mistake> {
+    let mut line = Vec::new();
+    for expected in [
+        "the call's ordinal",
+        "a reason by number",
+        "a status code by number",
+        "a number of records",
+    ] {
+        line.push(cursor.number::<u64>(expected)?.to_string());
+    }
+    while let Some(record) = cursor.peek() {
+        line.push(hex(&input::frame(&[record])?));
+        cursor.advance();
+    }
+    Ok(Expected::Printed(line.join(" ")))
 }
 
 fn pairs(cursor: &mut Cursor) -> Result<Expected, Mistake> {

@@ -1,11 +1,13 @@
 //! The rows of a `configure`, and the names that they give.
 
+use savorylatch::wire::{Action, Field, Row, PLACES};
+
+use crate::call::KINDS;
 use crate::lex::{Sign, Token};
 use crate::mistake::{quoted, Mistake, Place};
 use crate::names;
 use crate::parse::cursor::Cursor;
 use crate::parse::values;
-use crate::wire::{Action, Field, Row, KINDS, PLACES};
 
 /// A row and its names: `table NAME 0xID owner R size N [key FIELD..] [action ..]`.
 pub fn row(cursor: &mut Cursor) -> Result<(Row, names::Table), Mistake> {

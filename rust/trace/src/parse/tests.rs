@@ -1,12 +1,12 @@
 //! Every statement, and the mistakes: where, what was expected, what is there.
 
 use savorylatch::frame::Head;
+use savorylatch::wire::{Action, Entry, Field, Key, Row, Slot, Update, Value};
 use savorylatch::Reason;
 
 use super::*;
 use crate::mistake::Place;
 use crate::script::{Expected, ExpectedState};
-use crate::wire::{Action, Entry, Field, Key, Row, Slot, Update, Value};
 
 const CONFIGURE: &str = "configure role 0 id 5\n\
     \ttable t 0x02000001 owner 1 size 4 key a:exact:32 b:lpm:32 c:ternary:12 d:range:8\n\

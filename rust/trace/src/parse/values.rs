@@ -1,7 +1,8 @@
 //! Numbers and values as they are written.
 
+use savorylatch::wire::Value;
+
 use crate::notation::Notation;
-use crate::wire::Value;
 
 /// A value, and how it was written.
 #[derive(Clone, Copy, Debug, PartialEq, Eq)]

@@ -19,7 +19,7 @@ use facts::differ;
 use played::Player;
 
 fn scripts() -> PathBuf {
-    Path::new(env!("CARGO_MANIFEST_DIR")).join("../../scripts")
+    Path::new(env!("CARGO_MANIFEST_DIR")).join("../../samples")
 }
 
 /// The names of all scripts.
@@ -69,7 +69,7 @@ fn traces_are_what_the_second_implementation_answers() {
     assert!(!names.is_empty(), "there are no scripts");
     let wrong = names.iter().filter_map(|name| {
         let difference = check(&file(name, "txt"), &file(name, "trace")).err()?;
-        Some(format!("scripts/{name}.trace, {difference}\n"))
+        Some(format!("samples/{name}.trace, {difference}\n"))
     });
     let wrong: String = wrong.collect();
     assert!(wrong.is_empty(), "\n{wrong}");

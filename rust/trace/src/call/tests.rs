@@ -1,6 +1,7 @@
 //! Frames both ways, and what is wrong with a form.
 
 use savorylatch::frame::Head;
+use savorylatch::wire::{Action, Entry, Field, Slot, Value};
 
 use super::*;
 
@@ -114,53 +115,6 @@ fn lengths_are_document_01s() {
 }
 
 #[test]
-fn frames_are_the_wrapper_s() {
-    use savorylatch::frame::{self, Atomicity, Entry as Typed, Slot as TypedSlot};
-    let slot = |kind, first, second: Option<u128>| Slot {
-        kind,
-        first: Value::new(first),
-        second: second.map_or(Value::default(), Value::new),
-    };
-    let slots = [
-        slot(1, 0x0a00_0001, None),
-        slot(2, 0x0a00, Some(8)),
-        slot(3, 0, Some(0xff)),
-        slot(4, 1, Some(300)),
-    ];
-    let entry = Entry {
-        table: 0x0200_0001,
-        key: Key { priority: 5, slots },
-        action: 0x0100_0001,
-        parameters: [7, 0, 1 << 100, 8].map(Value::new),
-    };
-    let typed_slots = [
-        TypedSlot::exact(0x0a00_0001),
-        TypedSlot::lpm(0x0a00, 8),
-        TypedSlot::ternary(0, 0xff),
-        TypedSlot::range(1, 300),
-    ];
-    let values = [7, 0, 1 << 100, 8].map(frame::Value::new);
-    let typed = Typed::new(0x0200_0001, 5, typed_slots, 0x0100_0001, values);
-    let by_key = Entry {
-        action: 0,
-        parameters: [Value::default(); 4],
-        ..entry
-    };
-    let update = |kind, entry| Update { kind, entry };
-    let call = Call::Write {
-        head: HEAD,
-        atomicity: 1,
-        updates: vec![update(2, entry), update(DELETE, by_key)],
-    };
-    let updates = [
-        frame::Update::modify(typed),
-        frame::Update::delete(typed.key()),
-    ];
-    let frame = frame::write(&HEAD, Atomicity::RollbackOnError, &updates);
-    assert_eq!(call.encode(), frame);
-}
-
-#[test]
 fn what_is_wrong_with_a_form_is_said() {
     let arbitrate = Call::Arbitrate {
         stream: 1,
@@ -210,36 +164,4 @@ fn what_is_wrong_with_a_form_is_said() {
         let wrong = Call::decode(&frame).unwrap_err();
         assert!(wrong.contains(text), "{wrong} / {text}");
     }
-}
-
-#[test]
-fn values() {
-    assert_eq!(Value::new(0).digits(), Some(&[0][..]));
-    assert_eq!(Value::new(0x100).digits(), Some(&[1, 0][..]));
-    assert_eq!(Value::new(u128::MAX).number(), Some(u128::MAX));
-    assert_eq!(Value::from_bytes(&[]), None);
-    assert_eq!(Value::from_bytes(&[0; 17]), None);
-    let padded = Value::from_bytes(&[0, 1]).unwrap();
-    assert_eq!(padded.number(), Some(1));
-    assert_ne!(padded, Value::new(1));
-    for (length, at) in [(0, 0), (17, 0), (3, 3), (15, 15)] {
-        let mut bytes = [0; 16];
-        bytes[at] = 1;
-        assert_eq!(Value { length, bytes }.number(), None, "{length}");
-    }
-}
-
-#[test]
-fn keys_are_compared_as_numbers() {
-    let slot = |bytes: &[u8]| Slot {
-        kind: 1,
-        first: Value::from_bytes(bytes).unwrap(),
-        second: Value::default(),
-    };
-    assert!(slot(&[0, 7]).same(&slot(&[7])));
-    assert!(!slot(&[7]).same(&slot(&[8])));
-    assert!(!slot(&[7]).same(&Slot {
-        kind: 5,
-        ..slot(&[7])
-    }));
 }

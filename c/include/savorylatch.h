@@ -11,7 +11,7 @@
  *    bytes of its store. The host may look at the record. With any other record or store a call still ends and keeps within what
  *    it was lent; what it answers is then open.
  *
- * The record's layout is that of crates/agent, `Agent`; tests/layout.c holds this file to it.
+ * The record's layout is that of crates/agent, `Agent`; c/tests/layout.c holds this file to it.
  */
 #ifndef SAVORYLATCH_H
 #define SAVORYLATCH_H
@@ -24,7 +24,7 @@
 #define SAVORYLATCH_ANSWER 57344
 #define SAVORYLATCH_FRAME 14173
 
-/* The bytes of stack that a call needs at most: an atomic WRITE of 64 updates. tests/copies.c measures what calls use. */
+/* The bytes of stack that a call needs at most: an atomic WRITE of 64 updates. c/tests/copies.c measures what calls use. */
 #define SAVORYLATCH_STACK 10240
 
 /* ---- the record */

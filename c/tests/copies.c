@@ -2,7 +2,7 @@
  * counts of the library's first version beside it (docs/SPEED.md); atomic batches, which it did not have, are shown without. Each call is
  * made on a stack of its own, of which it is seen afterwards how much was used. Exit status 0: no call makes more than half as many
  * copies as it did then, nor moves more than half as many bytes, and none uses more stack than the header says.
- * cc -std=c11 -O1 -fno-builtin -Iinclude tests/copies.c target/staticlib/libsavorylatch.a -o copies && ./copies */
+ * cc -std=c11 -O1 -fno-builtin -Ic/include c/tests/copies.c target/staticlib/libsavorylatch.a -o copies && ./copies */
 #define _XOPEN_SOURCE 700
 #include "savorylatch.h"
 

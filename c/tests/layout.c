@@ -1,4 +1,4 @@
-/* Holds include/savorylatch.h to the library: the record's extent, every field's place, the sizes of the buffers, some reasons.
+/* Holds c/include/savorylatch.h to the library: the record's extent, every field's place, the sizes of the buffers, some reasons.
  * Prints what differs; exit status 0: nothing does. */
 #include "savorylatch.h"
 
