@@ -55,8 +55,8 @@ pub fn call(mut agent: Agent, frame: &[u8], store: &mut [u8], answer: &mut [u8])
         }
         Command::Table(command) => {
             let left = table_commands::carry_out(agent, command, frame, store, answer);
-            let tables = left.tables;
-            agent.tables = tables;
+            let held = left.tables;
+            agent.tables = held;
             Called {
                 agent,
                 reason: left.reason,

@@ -17,33 +17,33 @@ use Rattle.frames.specs.declared.Command.the-variants.{Stream, Pipeline,
 use Rattle.frames.specs.declared.Frame.{Frame}
 use Rattle.frames.specs.declared.Frame.the-variants.{Asks, Malformed}
 
--- ---- a command that was read from the frame f
+-- ---- a command, as it was read from the frame f
 
-abbrev pub eventOf : StreamEvent → rules.StreamEvent
-eventOf (Open s) = rules.OPEN s
-eventOf (Close s) = rules.CLOSE s
-eventOf (Arbitrate s h) = rules.ARBITRATE s (headOf h)
+abbrev pub eventRead : StreamEvent → rules.StreamEvent
+eventRead (Open s) = rules.OPEN s
+eventRead (Close s) = rules.CLOSE s
+eventRead (Arbitrate s h) = rules.ARBITRATE s (headOf h)
 
-abbrev pub pipelineOf : PipelineCommand → List ℕ → rules.PipelineCommand
-pipelineOf c f = rules.CONFIGURE (headOf (c .head)) (parts (c .count) 53 (drop 28 f))
+abbrev pub pipelineRead : PipelineCommand → List ℕ → rules.PipelineCommand
+pipelineRead c f = rules.CONFIGURE (headOf (c .head)) (parts (c .count) 53 (drop 28 f))
 
 -- what a READ asks for; its key is in the frame
-abbrev pub queryOf : Query → List ℕ → rules.Query
-queryOf q f = record { device = q .device; role = q .role; table = q .table; only = q .only; key = part 10 4 f ++ part 15 144 f }
+abbrev pub queryRead : Query → List ℕ → rules.Query
+queryRead q f = record { device = q .device; role = q .role; table = q .table; only = q .only; key = part 10 4 f ++ part 15 144 f }
 
-abbrev pub tableOf : TableCommand → List ℕ → rules.TableCommand
-tableOf (Write h atomicity n) f = rules.WRITE (headOf h) atomicity (map rules.updateOf (parts n 221 (drop 29 f)))
-tableOf (Read q) f = rules.READ (queryOf q f)
+abbrev pub tableRead : TableCommand → List ℕ → rules.TableCommand
+tableRead (Write h atomicity n) f = rules.WRITE (headOf h) atomicity (map rules.updateOf (parts n 221 (drop 29 f)))
+tableRead (Read q) f = rules.READ (queryRead q f)
 
-abbrev pub commandOf : Command → List ℕ → rules.Command
-commandOf (Stream x) f = rules.onStreams (eventOf x)
-commandOf (Pipeline x) f = rules.onPipeline (pipelineOf x f)
-commandOf (Table x) f = rules.onTables (tableOf x f)
+abbrev pub commandRead : Command → List ℕ → rules.Command
+commandRead (Stream x) f = rules.onStreams (eventRead x)
+commandRead (Pipeline x) f = rules.onPipeline (pipelineRead x f)
+commandRead (Table x) f = rules.onTables (tableRead x f)
 
 -- a command, or malformed
-abbrev pub frameOf : Frame → List ℕ → rules.Command
-frameOf (Asks c) f = commandOf c f
-frameOf Malformed f = rules.malformed
+abbrev pub frameRead : Frame → List ℕ → rules.Command
+frameRead (Asks c) f = commandRead c f
+frameRead Malformed f = rules.malformed
 
 -- ---- what a command leaves in the frame f is there: the count is in range, and f is as long as it says
 

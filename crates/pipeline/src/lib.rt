@@ -11,7 +11,7 @@ ghost use Rattle.rules.specs.Reason.{first};
 ghost use Rattle.rules.specs.Streams.{addressOrder};
 ghost use Rattle.rules.specs.Call.{configureReason};
 ghost use Rattle.election.specs.Meaning.{headOf};
-ghost use Rattle.frames.specs.Meaning.{pipelineOf, RowsThere};
+ghost use Rattle.frames.specs.Meaning.{pipelineRead, RowsThere};
 ghost use Rattle.memory.specs.Layout.{controlIn};
 ghost use Rattle.pipeline.specs.Pipeline.{Refuses, CarriesOut};
 use arbitration::Streams;
@@ -79,7 +79,7 @@ pub fn refusal(
     frame: &[u8],
 ) -> u8
     requires { ⌜ RowsThere command (now frame) ⌝ }
-    ensures { λ r. ⌜ Refuses (controlIn device streams configuration) (pipelineOf command (now (frame .entry))) r ⌝ }
+    ensures { λ r. ⌜ Refuses (controlIn device streams configuration) (pipelineRead command (now (frame .entry))) r ⌝ }
 {
     configure_reason(
         device,
@@ -94,7 +94,7 @@ pub fn refusal(
 // What an accepted pipeline command leaves: the rows of a CONFIGURE, and no entries.
 pub fn carry_out(command: PipelineCommand, frame: &[u8]) -> Configured
     requires { ⌜ RowsThere command (now frame) ⌝ }
-    ensures { λ r. ⌜ CarriesOut (pipelineOf command (now (frame .entry))) r ⌝ }
+    ensures { λ r. ⌜ CarriesOut (pipelineRead command (now (frame .entry))) r ⌝ }
 {
     Configured {
         configuration: Configuration {

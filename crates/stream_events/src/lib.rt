@@ -8,7 +8,7 @@ ghost use Rattle.rules.specs.Answer.{answerBytes};
 ghost use Rattle.rules.specs.Call.{eventAnswer};
 ghost use Rattle.buffers.specs.Splice.{splice};
 ghost use Rattle.arbitration.specs.Meaning.{streamsOf, outcomeOf};
-ghost use Rattle.frames.specs.Meaning.{eventOf};
+ghost use Rattle.frames.specs.Meaning.{eventRead};
 use arbitration::Outcome;
 use arbitration::Streams;
 use frames::StreamEvent;
@@ -17,7 +17,7 @@ use memory::Device;
 // What an event leaves, and who is to be notified. Nothing is written: `respond` does that, when the record has been stored, so that nobody
 // needs the old one any more.
 pub fn carry_out(device: Device, streams: Streams, event: StreamEvent) -> Outcome
-    ensures { λ r. ⌜ outcomeOf r ≡ rules.event (device .id) (streamsOf streams) (eventOf event) ⌝ }
+    ensures { λ r. ⌜ outcomeOf r ≡ rules.event (device .id) (streamsOf streams) (eventRead event) ⌝ }
 {
     match event {
         StreamEvent::Open(stream) => streams.open(stream),

@@ -14,7 +14,7 @@ use Rattle.rules.specs.Frame as rules
 use Rattle.rules.specs.Frame.{READ, Command, onTables}
 use Rattle.rules.specs.Streams.{addressOrder}
 use Rattle.rules.specs.Row as row
-use Rattle.rules.specs.Key.{tableOf, keyFormed, keyFits, keyRules}
+use Rattle.rules.specs.Key.{keyFormed, keyFits, keyRules}
 use Rattle.rules.specs.Answer.{answerBytes}
 use Rattle.rules.specs.Call.{unconfigured, readReason, refusal, nextControl, nextTables, next, shown, answer}
 use Rattle.rules.specs.Sound.{Sound}
@@ -25,7 +25,7 @@ use Rattle.rules.proofs.OneKey.{one-key}
 use Rattle.buffers.specs.Splice.{splice}
 use Rattle.frames.specs.declared.Query.{Query}
 use Rattle.frames.specs.declared.TableCommand.the-variants.{Read}
-use Rattle.frames.specs.Meaning.{queryOf, OperandsThere}
+use Rattle.frames.specs.Meaning.{queryRead, OperandsThere}
 use Rattle.entries.specs.Store.{tablesIn}
 use Rattle.entry_store.specs.Read.{keyIn, keyReason, queryReason, readIn, Reads}
 use Rattle.calls.specs.Contract.{Correct}
@@ -36,12 +36,12 @@ use Rattle.memory.proofs.Handled.{flat, store-stays}
 -- ---- the query in the frame
 
 -- the key, in the bytes from its table on
-pub key-there : (q : Query) (f : List ℕ) {b : List ℕ} → b ≡ part 10 149 f → keyIn b ≡ queryOf q f .key
+pub key-there : (q : Query) (f : List ℕ) {b : List ℕ} → b ≡ part 10 149 f → keyIn b ≡ queryRead q f .key
 key-there q f e =
     ap₂ (λ (x y : List ℕ). x ++ y) (ap (part 0 4) e ∙ part-part 10 149 0 4 f (omega arith)) (ap (part 5 144) e ∙ part-part 10 149 5 144 f (omega arith))
 
 -- what the reader has tested of it
-pub query-formed : (q : Query) (f : List ℕ) → OperandsThere (Read q) f → Formed (onTables (READ (queryOf q f)))
+pub query-formed : (q : Query) (f : List ℕ) → OperandsThere (Read q) f → Formed (onTables (READ (queryRead q f)))
 query-formed q f h =
     let n : length f ≡ 159 = h .0 in
     let l : length (part 10 4 f) ≡ 4 = simp (length-take, length-drop) (omega arith) in

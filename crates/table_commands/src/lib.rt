@@ -10,7 +10,7 @@ ghost use Rattle.rules.specs.Bytes.{if_then_else_};
 ghost use Rattle.rules.specs.Reason.{first};
 ghost use Rattle.rules.specs.Frame.{onTables};
 ghost use Rattle.rules.specs.Streams.{addressOrder};
-ghost use Rattle.frames.specs.Meaning.{tableOf, OperandsThere};
+ghost use Rattle.frames.specs.Meaning.{tableRead, OperandsThere};
 ghost use Rattle.memory.specs.Layout.{memory, result};
 ghost use Rattle.memory.specs.Handles.{Handles, withTables};
 use election::Head;
@@ -70,7 +70,7 @@ fn write(
     answer: &mut [u8],
 ) -> TableOutcome
     requires { ⌜ OperandsThere (TableCommand.Write head atomicity n) (now frame) × (agent .tables .count ≤ 256) × (56320 ≤ length (now store)) × (132 ≤ length (now answer)) ⌝ }
-    ensures { λ r. ⌜ Handles (memory agent (now (store .entry))) (onTables (tableOf (TableCommand.Write head atomicity n) (now (frame .entry)))) (now (answer .entry)) (result (withTables agent (r .tables)) (r .reason) (now (store .exit)) (now (answer .exit))) ⌝ }
+    ensures { λ r. ⌜ Handles (memory agent (now (store .entry))) (onTables (tableRead (TableCommand.Write head atomicity n) (now (frame .entry)))) (now (answer .entry)) (result (withTables agent (r .tables)) (r .reason) (now (store .exit)) (now (answer .exit))) ⌝ }
 {
     let streams = agent.streams;
     let rows = agent.configuration.rows;
@@ -124,7 +124,7 @@ fn read_reason(here: bool, role: u8, unconfigured: bool) -> u8
 // Writes the entries asked for from byte 4 on, and before them the head; the reason. The query is in the frame from byte 10 on.
 fn read(agent: Agent, query: Query, frame: &[u8], store: &[u8], answer: &mut [u8]) -> u8
     requires { ⌜ OperandsThere (TableCommand.Read query) (now frame) × (agent .tables .count ≤ 256) × (56320 ≤ length (now store)) × (57344 ≤ length (now answer)) ⌝ }
-    ensures { λ r. ⌜ Handles (memory agent (now (store .entry))) (onTables (tableOf (TableCommand.Read query) (now (frame .entry)))) (now (answer .entry)) (result agent r (now (store .entry)) (now (answer .exit))) ⌝ }
+    ensures { λ r. ⌜ Handles (memory agent (now (store .entry))) (onTables (tableRead (TableCommand.Read query) (now (frame .entry)))) (now (answer .entry)) (result agent r (now (store .entry)) (now (answer .exit))) ⌝ }
 {
     let rows = agent.configuration.rows;
     let here = query.device == agent.device.id;
@@ -138,7 +138,7 @@ fn read(agent: Agent, query: Query, frame: &[u8], store: &[u8], answer: &mut [u8
         answers::write_head(wrong, 0, answer);
         return wrong;
     }
-    let tables = agent.tables;
+    let held = agent.tables;
     let count = entry_store::read(
         rows,
         query.role,
@@ -146,7 +146,7 @@ fn read(agent: Agent, query: Query, frame: &[u8], store: &[u8], answer: &mut [u8
         query.only,
         &frame[10..],
         store,
-        tables.count,
+        held.count,
         &mut answer[4..],
     );
     answers::write_head(0, count, answer);
@@ -164,7 +164,7 @@ pub fn carry_out(
     answer: &mut [u8],
 ) -> TableOutcome
     requires { ⌜ OperandsThere command (now frame) × (56320 ≤ length (now store)) × (57344 ≤ length (now answer)) ⌝ }
-    ensures { λ r. ⌜ Handles (memory agent (now (store .entry))) (onTables (tableOf command (now (frame .entry)))) (now (answer .entry)) (result (withTables agent (r .tables)) (r .reason) (now (store .exit)) (now (answer .exit))) ⌝ }
+    ensures { λ r. ⌜ Handles (memory agent (now (store .entry))) (onTables (tableRead command (now (frame .entry)))) (now (answer .entry)) (result (withTables agent (r .tables)) (r .reason) (now (store .exit)) (now (answer .exit))) ⌝ }
 {
     let tables = agent.tables;
     if 256 < tables.count {

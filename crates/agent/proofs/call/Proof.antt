@@ -10,7 +10,7 @@ use Rattle.rules.specs.Frame.{readFrame}
 use Rattle.rules.specs.Call.{longEnough}
 use Rattle.frames.specs.declared.Command.{Command}
 use Rattle.frames.specs.declared.Frame.{Frame}
-use Rattle.frames.specs.Meaning.{eventOf, pipelineOf, commandOf, frameOf, CommandThere, FrameThere}
+use Rattle.frames.specs.Meaning.{eventRead, pipelineRead, commandRead, frameRead, CommandThere, FrameThere}
 use Rattle.answers.proofs.Answers.{head-alone}
 use Rattle.agent.proofs.Ways.{lengths, short-met, met, malformed-met, event-met, pipeline-refused-met, pipeline-met}
 use borrow.Author.Needs.{needs}
@@ -52,7 +52,7 @@ returns-2 c =
     let a = c .before .before .before .before .before .before .before .before .before .before .before .before .args in
     let h = c .before .before .write-head in
     malformed-met (a .agent) (now (a .frame)) (now (a .store)) (now (a .answer)) (long (c .before .before .before .before .before .before .before)) (h .last .1 .1 .0)
-    (sym (ap (λ (x : Frame). frameOf x (now (a .frame))) (c .before .before .before .before .enum-told .given .1)) ∙ c .before .before .before .before .before .before .read-frame .ensures .0)
+    (sym (ap (λ (x : Frame). frameRead x (now (a .frame))) (c .before .before .before .before .enum-told .given .1)) ∙ c .before .before .before .before .before .before .read-frame .ensures .0)
     (head-alone 1 (now (a .answer)) _ (h .ensures))
 
 enum-known-command-2 : tie.Need-enum-known-command-2
@@ -68,15 +68,15 @@ enum-known-command-3 : tie.Need-enum-known-command-3
 enum-known-command-3 c = search needs
 
 -- the command that the frame was read as, and what it leaves in the frame
-means : (m : tie.After-command) → let f = now (m .before .before .before .before .before .before .before .before .args .frame) in commandOf (m .command .given .0 .0) f ≡ readFrame f
-means m = let f = now (m .before .before .before .before .before .before .before .before .args .frame) in sym (ap (λ (x : Frame). frameOf x f) (m .command .given .1)) ∙ m .before .before .read-frame .ensures .0
+means : (m : tie.After-command) → let f = now (m .before .before .before .before .before .before .before .before .args .frame) in commandRead (m .command .given .0 .0) f ≡ readFrame f
+means m = let f = now (m .before .before .before .before .before .before .before .before .args .frame) in sym (ap (λ (x : Frame). frameRead x f) (m .command .given .1)) ∙ m .before .before .read-frame .ensures .0
 
 there : (m : tie.After-command) → CommandThere (m .command .given .0 .0) (now (m .before .before .before .before .before .before .before .before .args .frame))
 there m = subst (λ (x : Frame). FrameThere x (now (m .before .before .before .before .before .before .before .before .args .frame))) (m .command .given .1) (m .before .before .read-frame .ensures .1)
 
 -- and by its group
-of : (m : tie.After-command) {x : Command} → m .command .given .0 .0 ≡ x → let f = now (m .before .before .before .before .before .before .before .before .args .frame) in commandOf x f ≡ readFrame f
-of m e = sym (ap (λ (x : Command). commandOf x (now (m .before .before .before .before .before .before .before .before .args .frame))) e) ∙ means m
+of : (m : tie.After-command) {x : Command} → m .command .given .0 .0 ≡ x → let f = now (m .before .before .before .before .before .before .before .before .args .frame) in commandRead x f ≡ readFrame f
+of m e = sym (ap (λ (x : Command). commandRead x (now (m .before .before .before .before .before .before .before .before .args .frame))) e) ∙ means m
 
 refusal-requires : tie.Need-refusal-requires
 refusal-requires c κs = subst (λ (x : Command). CommandThere x (now (c .before .before .before .before .before .before .before .before .before .before .before .before .args .frame))) (c .before .command3 .given .1) (there (c .before .before .before .before))
@@ -92,7 +92,7 @@ returns-3 c =
     let a = c .before .before .before .before .before .before .before .before .before .before .before .before .before .before .before .before .before .before .args in
     let h = c .before .before .before .write-head2 in
     let x = c .before .before .before .before .before .before .before .command3 .given in
-    pipeline-refused-met (a .agent) (now (a .frame)) (now (a .store)) (now (a .answer)) (long (c .before .before .before .before .before .before .before .before .before .before .before .before .before)) (pipelineOf (x .0 .0) (now (a .frame))) (h .last .1 .1 .0)
+    pipeline-refused-met (a .agent) (now (a .frame)) (now (a .store)) (now (a .answer)) (long (c .before .before .before .before .before .before .before .before .before .before .before .before .before)) (pipelineRead (x .0 .0) (now (a .frame))) (h .last .1 .1 .0)
     (c .before .before .before .before .before .refusal .result) (of (c .before .before .before .before .before .before .before .before .before .before) (x .1)) (c .before .before .before .before .before .refusal .ensures) (head-alone _ (now (a .answer)) _ (h .ensures)) (c .if2 .taken)
 
 carry-out-requires-2 : tie.Need-carry-out-requires-2
@@ -114,7 +114,7 @@ returns-4 c =
     let a = c .before .before .before .before .before .before .before .before .before .before .before .before .before .before .before .before .before .before .args in
     let x = c .before .before .before .before .before .before .before .command2 .given in
     let r = c .before .before .before .respond in
-    event-met (a .agent) (now (a .frame)) (now (a .store)) (now (a .answer)) (long (c .before .before .before .before .before .before .before .before .before .before .before .before .before)) (eventOf (x .0 .0)) (r .last .1 .0)
+    event-met (a .agent) (now (a .frame)) (now (a .store)) (now (a .answer)) (long (c .before .before .before .before .before .before .before .before .before .before .before .before .before)) (eventRead (x .0 .0)) (r .last .1 .0)
     (c .before .before .before .before .before .carry-out .result) (of (c .before .before .before .before .before .before .before .before .before .before) (x .1)) (c .before .before .before .before .before .carry-out .ensures) (r .ensures)
 
 same-length-4 : tie.Need-same-length-4
@@ -125,7 +125,7 @@ returns-5 c =
     let a = c .before .before .before .before .before .before .before .before .before .before .before .before .before .before .before .before .before .before .before .before .before .args in
     let h = c .before .before .before .before .before .before .write-head2 in
     let x = c .before .before .before .before .before .before .before .before .before .before .command3 .given in
-    pipeline-met (a .agent) (now (a .frame)) (now (a .store)) (now (a .answer)) (long (c .before .before .before .before .before .before .before .before .before .before .before .before .before .before .before .before)) (pipelineOf (x .0 .0) (now (a .frame))) (h .last .1 .1 .0)
+    pipeline-met (a .agent) (now (a .frame)) (now (a .store)) (now (a .answer)) (long (c .before .before .before .before .before .before .before .before .before .before .before .before .before .before .before .before)) (pipelineRead (x .0 .0) (now (a .frame))) (h .last .1 .1 .0)
     (c .before .before .before .before .before .before .before .before .refusal .result) (of (c .before .before .before .before .before .before .before .before .before .before .before .before .before) (x .1)) (c .before .before .before .before .before .before .before .before .refusal .ensures) (head-alone _ (now (a .answer)) _ (h .ensures)) (c .before .before .before .if2 .left)
     (c .before .before .carry-out2 .result) (c .before .before .carry-out2 .ensures)
 

@@ -3,7 +3,7 @@ use mathlib.Core.Path.{_≡_, sym, ap, _∙_}
 use Rattle.rules.specs.Streams as rules
 use Rattle.arbitration.specs.Meaning.{streamsOf}
 use Rattle.frames.specs.declared.StreamEvent.{StreamEvent}
-use Rattle.frames.specs.Meaning.{eventOf}
+use Rattle.frames.specs.Meaning.{eventRead}
 use borrow.Author.Needs.{needs}
 use Rattle.stream_events.proofs.carry_out.Statement.{statement}
 use Rattle.stream_events.proofs.carry_out.Tie as tie
@@ -28,9 +28,9 @@ arbitrate-requires c κs = search needs
 
 -- what the event leaves is what its variant leaves
 of : (s : tie.Start) {o : rules.Outcome} {x : StreamEvent} → s .args .event ≡ x
-    → o ≡ rules.event (s .args .device .id) (streamsOf (s .args .streams)) (eventOf x)
-    → o ≡ rules.event (s .args .device .id) (streamsOf (s .args .streams)) (eventOf (s .args .event))
-of s e h = h ∙ ap (λ (x : StreamEvent). rules.event (s .args .device .id) (streamsOf (s .args .streams)) (eventOf x)) (sym e)
+    → o ≡ rules.event (s .args .device .id) (streamsOf (s .args .streams)) (eventRead x)
+    → o ≡ rules.event (s .args .device .id) (streamsOf (s .args .streams)) (eventRead (s .args .event))
+of s e h = h ∙ ap (λ (x : StreamEvent). rules.event (s .args .device .id) (streamsOf (s .args .streams)) (eventRead x)) (sym e)
 
 returns : tie.Need-returns
 returns c = of (c .before .before .before .before) (c .before .before .event .given .1) (c .«open» .ensures)

@@ -4,7 +4,7 @@ use mathlib.Core.Path.{_≡_, sym, subst}
 use denote.Ref.{now}
 use Rattle.rules.specs.Frame.{onTables}
 use Rattle.frames.specs.declared.TableCommand.{TableCommand}
-use Rattle.frames.specs.Meaning.{tableOf, OperandsThere}
+use Rattle.frames.specs.Meaning.{tableRead, OperandsThere}
 use Rattle.calls.specs.Contract.{Result}
 use Rattle.memory.specs.declared.Agent.{Agent}
 use Rattle.memory.specs.Layout.{memory}
@@ -28,10 +28,10 @@ of s e = subst (λ (x : TableCommand). OperandsThere x (now (s .args .frame))) e
 
 -- and what its variant comes to the command does
 by : (s : tie.Start) {x : TableCommand} {r : Result Agent} → s .args .command ≡ x
-    → Handles (memory (s .args .agent) (now (s .args .store))) (onTables (tableOf x (now (s .args .frame)))) (now (s .args .answer)) r
-    → Handles (memory (s .args .agent) (now (s .args .store))) (onTables (tableOf (s .args .command) (now (s .args .frame)))) (now (s .args .answer)) r
+    → Handles (memory (s .args .agent) (now (s .args .store))) (onTables (tableRead x (now (s .args .frame)))) (now (s .args .answer)) r
+    → Handles (memory (s .args .agent) (now (s .args .store))) (onTables (tableRead (s .args .command) (now (s .args .frame)))) (now (s .args .answer)) r
 by s {x} {r} e h =
-    subst (λ (y : TableCommand). Handles (memory (s .args .agent) (now (s .args .store))) (onTables (tableOf y (now (s .args .frame)))) (now (s .args .answer)) r) (sym e) h
+    subst (λ (y : TableCommand). Handles (memory (s .args .agent) (now (s .args .store))) (onTables (tableRead y (now (s .args .frame)))) (now (s .args .answer)) r) (sym e) h
 
 write-requires : tie.Need-write-requires
 write-requires c κs = let s = c .before .before .before .before .before .before .before .before .before .before .before in (of s (c .before .before .before .command .given .1), c .before .before .before .before .before .if1 .left, s .pre .1, omega (arith, s .pre .2))

@@ -14,7 +14,7 @@ use Rattle.rules.proofs.Formed.{Formed}
 use Rattle.rules.proofs.Refused.{table-refused}
 use Rattle.rules.proofs.Sizes.{shown-sized}
 use Rattle.buffers.proofs.Splice.{length-window}
-use Rattle.frames.specs.Meaning.{queryOf}
+use Rattle.frames.specs.Meaning.{queryRead}
 use Rattle.entries.specs.Store.{tablesIn}
 use Rattle.entry_store.specs.Read.{queryReason, readIn, Reads}
 use Rattle.memory.specs.Layout.{controlOf}
@@ -42,19 +42,19 @@ same-length c = search needs
 -- the order, once its first part is known
 order : (e : tie.After-read-reason) →
     let a = e .before .before .before .before .before .before .before .before .args in
-    let q = queryOf (a .query) (now (a .frame)) in
+    let q = queryRead (a .query) (now (a .frame)) in
     readReason (controlOf (a .agent)) q
     ≡ (if eqb (e .read-reason .result) 0 then queryReason (controlOf (a .agent) .rows) (q .role) (q .table) (q .only) (q .key) else e .read-reason .result)
 order e =
     let a = e .before .before .before .before .before .before .before .before .args in
-    read-order (a .agent) (queryOf (a .query) (now (a .frame))) refl (e .before .is-empty .ensures) (e .read-reason .ensures)
+    read-order (a .agent) (queryRead (a .query) (now (a .frame))) refl (e .before .is-empty .ensures) (e .read-reason .ensures)
 
 returns : tie.Need-returns
 returns c =
     let a = c .before .before .before .before .before .before .before .before .before .before .before .before .before .args in
     let h = c .before .before .write-head in
     refused (a .agent) _ (now (a .store)) (now (a .answer)) (h .last .1 .1 .0) (λ z. let w : _≡_ {A = ℕ} 0 1 = cc in omega arith) (c .before .before .before .before .before .read-reason .result)
-    (λ t. table-refused (atTables (a .agent) t) (READ (queryOf (a .query) (now (a .frame)))) (order (c .before .before .before .before .before) ∙ (rw (ne-eqb _ 0 (c .before .before .before .before .if1 .taken)))) (c .before .before .before .before .if1 .taken))
+    (λ t. table-refused (atTables (a .agent) t) (READ (queryRead (a .query) (now (a .frame)))) (order (c .before .before .before .before .before) ∙ (rw (ne-eqb _ 0 (c .before .before .before .before .if1 .taken)))) (c .before .before .before .before .if1 .taken))
     (head-alone _ (now (a .answer)) _ (h .ensures))
 
 sub-query-reason : tie.Need-sub-query-reason
@@ -82,11 +82,11 @@ whole f n = let e : length f - 10 ≡ 149 = omega arith in ap (λ (m : ℕ). tak
 -- and then its query's
 by-query : (e : tie.After-query-reason) →
     let a = e .before .before .before .before .before .before .before .before .before .before .before .args in
-    let q = queryOf (a .query) (now (a .frame)) in
+    let q = queryRead (a .query) (now (a .frame)) in
     e .query-reason .result ≡ queryReason (controlOf (a .agent) .rows) (q .role) (q .table) (q .only) (q .key)
 by-query e =
     let a = e .before .before .before .before .before .before .before .before .before .before .before .args in
-    let q = queryOf (a .query) (now (a .frame)) in
+    let q = queryRead (a .query) (now (a .frame)) in
     e .query-reason .ensures
     ∙ ap (queryReason (controlOf (a .agent) .rows) (q .role) (q .table) (q .only)) (key-there (a .query) (now (a .frame)) (whole (now (a .frame)) (e .before .before .before .before .before .before .before .before .before .before .before .pre .0 .0)))
 
@@ -95,7 +95,7 @@ returns-2 c =
     let a = c .before .before .before .before .before .before .before .before .before .before .before .before .before .before .before .before .args in
     let h = c .before .before .write-head2 in
     refused (a .agent) _ (now (a .store)) (now (a .answer)) (h .last .1 .1 .0) (λ z. let w : _≡_ {A = ℕ} 0 1 = cc in omega arith) (c .before .before .before .before .before .query-reason .result)
-    (λ t. table-refused (atTables (a .agent) t) (READ (queryOf (a .query) (now (a .frame))))
+    (λ t. table-refused (atTables (a .agent) t) (READ (queryRead (a .query) (now (a .frame))))
     (order (c .before .before .before .before .before .before .before .before) ∙ (rw (eq-eqb _ 0 (c .before .before .before .before .before .before .before .if1 .left))) ∙ sym (by-query (c .before .before .before .before .before))) (c .before .before .before .before .if2 .taken))
     (head-alone _ (now (a .answer)) _ (h .ensures))
 
@@ -131,7 +131,7 @@ returns-3 c =
     let a = c .before .before .before .before .before .before .before .before .before .before .before .before .before .before .before .before .before .before .before .before .before .before .args in
     let p = c .before .before .before .before .before .before .before .before .before .before .before .before .before .before .before .before .before .before .before .before .before .before .pre in
     let f = now (a .frame) in
-    let q = queryOf (a .query) f in
+    let q = queryRead (a .query) f in
     let s = now (a .store) in
     let d = now (a .answer) in
     let r = c .before .before .before .before .before .before .read in
