@@ -13,8 +13,8 @@ use Rattle.rules.specs.Reason.{codeOf, pairs}
 use Rattle.rules.specs.Frame.{Head, Update, Query, Command, tooShort, WRITE, READ, onTables}
 use Rattle.rules.specs.Answer.{Reply, answerBytes, replyOf}
 use Rattle.rules.specs.Call.{Call, State, fresh, accepted, refusal, plain, answer, commandOf, next, reply, run}
-use Rattle.rules.specs.LookBack.{Past, present, shows, tookEffect, pairsSeen, someFails, readSeen, answerSeen, replySeen}
-use Rattle.rules.specs.Agreement.{commandsOf, replyAfter, pastOf, pairAt}
+use Rattle.rules.specs.LookBack.{History, present, stateSeen, tookEffect, pairsSeen, someFails, readSeen, answerSeen, replySeen}
+use Rattle.rules.specs.Agreement.{commandsOf, replyAfter, historyOf, pairAt}
 use Rattle.rules.specs.Authority.{eventsOf, Gives, Held}
 use Rattle.rules.specs.Sound.{Sound, EveryStored}
 use Rattle.rules.proofs.Formed.{call-formed}
@@ -90,19 +90,19 @@ pair-in i b rest h =
     ∙ take-append-le 2 (drop (4 + 2 * i) b) rest (omega (arith, length-drop (4 + 2 * i) b))
 
 -- an accepted READ's bytes, and how long an accepted WRITE's are
-read-bytes : (p : Past) (q : Query) → accepted (shows p) (onTables (READ q)) ≡ true
+read-bytes : (p : History) (q : Query) → accepted (stateSeen p) (onTables (READ q)) ≡ true
     → replySeen p (onTables (READ q)) .written
     ≡ 0 ∷ 0 ∷ bytesOf 2 (length (readSeen (p .control .rows) q (present (p .effects)))) ++ concat (readSeen (p .control .rows) q (present (p .effects)))
 unfolding replySeen replyOf answerSeen answerBytes codeOf pairs
 read-bytes p q e =
     ap (λ (b : Bool). replyOf (if b then record { reason = 0; records = readSeen (p .control .rows) q (present (p .effects)) } else
-    plain (refusal (shows p) (onTables (READ q)))) .written) e
+    plain (refusal (stateSeen p) (onTables (READ q)))) .written) e
 
 head-length : (r c n : ℕ) (l : List ℕ) → length (r ∷ c ∷ bytesOf 2 n ++ l) ≡ 4 + length l
 unfolding bytesOf
 head-length r c n l = omega arith
 
-write-length : (p : Past) (h : Head) (atomicity : ℕ) (us : List Update) → accepted (shows p) (onTables (WRITE h atomicity us)) ≡ true
+write-length : (p : History) (h : Head) (atomicity : ℕ) (us : List Update) → accepted (stateSeen p) (onTables (WRITE h atomicity us)) ≡ true
     → length (replySeen p (onTables (WRITE h atomicity us)) .written) ≡ 4 + 2 * length us
 unfolding replySeen replyOf answerSeen answerBytes
 write-length p h atomicity us e = rw e (go (someFails p (h .role) us))
@@ -118,8 +118,8 @@ module _ {A : Type 0} (L : Layout A) (device : ℕ) (start : Memory A) (f : Fres
   abbrev calls : List Call
   calls = callsOf before
 
-  abbrev p : Past
-  p = pastOf room device calls
+  abbrev p : History
+  p = historyOf room device calls
 
   abbrev c : Command
   c = requested start (w .input)
@@ -142,19 +142,19 @@ module _ {A : Type 0} (L : Layout A) (device : ℕ) (start : Memory A) (f : Fres
     is-filled : w .result .answer ≡ replySeen p c .written ++ drop (length (replySeen p c .written)) (w .input .buffer)
     is-filled = replied L here .1 ∙ ap (λ (r : Reply). r .written ++ drop (length (r .written)) (w .input .buffer)) agrees
 
-    accepts : ((w .result .reason ≡ 0) ⊎ (w .result .reason ≡ 23)) ↔ (accepted (shows p) c ≡ true)
+    accepts : ((w .result .reason ≡ 0) ⊎ (w .result .reason ≡ 23)) ↔ (accepted (stateSeen p) c ≡ true)
     unfolding replyAfter
     accepts =
-        subst (λ (r : ℕ). ((r ≡ 0) ⊎ (r ≡ 23)) ↔ (accepted (shows p) c ≡ true)) (sym (replied L here .0))
+        subst (λ (r : ℕ). ((r ≡ 0) ⊎ (r ≡ 23)) ↔ (accepted (stateSeen p) c ≡ true)) (sym (replied L here .0))
         (agreement room device calls (callOf (w .input)) .acceptance)
 
-    is-read : (q : Query) → c ≡ onTables (READ q) → accepted (shows p) c ≡ true →
+    is-read : (q : Query) → c ≡ onTables (READ q) → accepted (stateSeen p) c ≡ true →
         let asked = readSeen (p .control .rows) q (present (p .effects)) in
         w .result .answer ≡ (0 ∷ 0 ∷ bytesOf 2 (length asked) ++ concat asked) ++ drop (4 + length (concat asked)) (w .input .buffer)
     is-read q e a =
         let asked : List (List ℕ) = readSeen (p .control .rows) q (present (p .effects)) in
         let b : replySeen p c .written ≡ 0 ∷ 0 ∷ bytesOf 2 (length asked) ++ concat asked =
-        ap (λ (x : Command). replySeen p x .written) e ∙ read-bytes p q (subst (λ (x : Command). accepted (shows p) x ≡ true) e a) in
+        ap (λ (x : Command). replySeen p x .written) e ∙ read-bytes p q (subst (λ (x : Command). accepted (stateSeen p) x ≡ true) e a) in
         is-filled ∙ ap (λ (x : List ℕ). x ++ drop (length x) (w .input .buffer)) b
         ∙ ap (λ (n : ℕ). (0 ∷ 0 ∷ bytesOf 2 (length asked) ++ concat asked) ++ drop n (w .input .buffer)) (head-length 0 0 (length asked) (concat asked))
 
@@ -167,9 +167,9 @@ module _ {A : Type 0} (L : Layout A) (device : ℕ) (start : Memory A) (f : Fres
     takes-effect : (h : Head) (atomicity : ℕ) (earlier : List Update) (u : Update) (later : List Update)
         → c ≡ onTables (WRITE h atomicity (earlier ++ u ∷ later))
         → ((length earlier < int 2 2 (w .result .answer)) × (pairAt (length earlier) (w .result .answer) ≡ 0 ∷ 0 ∷ []))
-        ↔ (accepted (shows p) c && tookEffect p (h .role) atomicity earlier u later ≡ true)
-    unfolding replyAfter pastOf
-    takes-effect h atomicity earlier u later e = go (accepted (shows p) c) refl
+        ↔ (accepted (stateSeen p) c && tookEffect p (h .role) atomicity earlier u later ≡ true)
+    unfolding replyAfter historyOf
+    takes-effect h atomicity earlier u later e = go (accepted (stateSeen p) c) refl
       where
         us : List Update
         us = earlier ++ u ∷ later
@@ -181,17 +181,17 @@ module _ {A : Type 0} (L : Layout A) (device : ℕ) (start : Memory A) (f : Fres
         write x q z = let w : _≡_ {A = ℕ} 0 1 = cc in omega arith
 
         -- a pair for each update where the WRITE is accepted, and none where it is refused
-        number : int 2 2 (w .result .answer) ≡ (if accepted (shows p) c then length us else 0)
+        number : int 2 2 (w .result .answer) ≡ (if accepted (stateSeen p) c then length us else 0)
         number =
             counts (write c e) ∙ ap (λ (x : Command). length (answer s x .records)) e ∙ write-count s h atomicity us
             ∙ ap₂ (λ (t : State) (x : Command). if accepted t x then length us else 0) (fresh-shows device (commandsOf room calls)) (sym e)
 
-        go : (b : Bool) → accepted (shows p) c ≡ b
+        go : (b : Bool) → accepted (stateSeen p) c ≡ b
             → ((length earlier < int 2 2 (w .result .answer)) × (pairAt (length earlier) (w .result .answer) ≡ 0 ∷ 0 ∷ [])) ↔ (b && T ≡ true)
         go true a =
             let n : length (replySeen p c .written) ≡ 4 + 2 * length us =
             ap (λ (x : Command). length (replySeen p x .written)) e
-            ∙ write-length p h atomicity us (subst (λ (x : Command). accepted (shows p) x ≡ true) e a) in
+            ∙ write-length p h atomicity us (subst (λ (x : Command). accepted (stateSeen p) x ≡ true) e a) in
             let k : length us ≡ length earlier + suc (length later) = length-append earlier (u ∷ later) in
             let m : int 2 2 (w .result .answer) ≡ length us = number ∙ (rw a) in
             let b : pairAt (length earlier) (w .result .answer) ≡ pairAt (length earlier) (reply s c .written) =
@@ -228,7 +228,7 @@ module _ {A : Type 0} (L : Layout A) (device : ℕ) (start : Memory A) (f : Fres
 module _ {A : Type 0} (L : Layout A) where
   all-lists : (device : ℕ) (start : Memory A) → Fresh L device (start .agent)
       → (ws : List (Step A)) → Trace L start ws → ListClaim L device start ws
-  unfolding shows pastOf
+  unfolding stateSeen historyOf
   all-lists device start f ws l = record {
     returned = λ p. is-returned L device start f (p .before) (p .call) (p .after) (there p);
     filled = λ p. is-filled L device start f (p .before) (p .call) (p .after) (there p);
@@ -250,7 +250,7 @@ module _ {A : Type 0} (L : Layout A) where
       there : (p : Place ws) → Trace L start (p .before ++ p .call ∷ p .after)
       there p = subst (Trace L start) (p .whole) l
 
-      are-shortest : (calls : List Call) → EveryStored (present (pastOf room′ device calls .effects))
+      are-shortest : (calls : List Call) → EveryStored (present (historyOf room′ device calls .effects))
       are-shortest calls =
           subst (λ (s : State). EveryStored (s .tables .entries)) (fresh-shows device (commandsOf room′ calls))
           (sound room′ device calls .tables .shortest)

@@ -14,8 +14,8 @@ use lib.ListN.{length, drop}
 use Rattle.rules.specs.Bytes.{Pointwise, int, bytesOf, concat}
 use Rattle.rules.specs.Frame.{Head, Update, Query, Command, WRITE, READ, onTables}
 use Rattle.rules.specs.Call.{Call, State, accepted, next}
-use Rattle.rules.specs.LookBack.{Past, present, shows, tookEffect, readSeen, replySeen}
-use Rattle.rules.specs.Agreement.{pastOf, pairAt}
+use Rattle.rules.specs.LookBack.{History, present, stateSeen, tookEffect, readSeen, replySeen}
+use Rattle.rules.specs.Agreement.{historyOf, pairAt}
 use Rattle.rules.specs.Presence.{Describes}
 use Rattle.rules.specs.Authority.{Event, eventsOf, Gives, Held}
 use Rattle.rules.specs.Sound.{Sound, EveryStored}
@@ -62,9 +62,9 @@ module _ {A : Type 0} (L : Layout A) (device : ℕ) (start : Memory A) (ws : Lis
   abbrev pub command : Place ws → Command
   command p = requested start (p .call .input)
 
-  -- what looking back over the calls before p yields: the past that they come to,
-  abbrev pub past : Place ws → Past
-  past p = pastOf (length (start .store)) device (callsOf (p .before))
+  -- what looking back over the calls before p yields: the history that they come to,
+  abbrev pub history : Place ws → History
+  history p = historyOf (length (start .store)) device (callsOf (p .before))
 
   -- and what each of them was, with the reason under which it was refused
   abbrev pub events : Place ws → List Event
@@ -72,7 +72,7 @@ module _ {A : Type 0} (L : Layout A) (device : ℕ) (start : Memory A) (ws : Lis
 
   -- the entries present there, in their order
   abbrev pub entries : Place ws → List (List ℕ)
-  entries p = present (past p .effects)
+  entries p = present (history p .effects)
 
   -- The call at p *changes no entry*: a READ x made in its stead, and the same READ y made after it, are answered alike.
   abbrev pub ChangesNoEntry : Place ws → Type 0
@@ -84,19 +84,19 @@ module _ {A : Type 0} (L : Layout A) (device : ℕ) (start : Memory A) (ws : Lis
   -- What is claimed of the list: at each place p of it,
   pub record ListClaim : Type 0 where
     -- The call returns and writes what looking back yields, and touches no other byte of the buffer.
-    pub returned : (p : Place ws) → p .call .result .reason ≡ replySeen (past p) (command p) .returned
+    pub returned : (p : Place ws) → p .call .result .reason ≡ replySeen (history p) (command p) .returned
     pub filled : (p : Place ws) → p .call .result .answer
-        ≡ replySeen (past p) (command p) .written ++ drop (length (replySeen (past p) (command p) .written)) (p .call .input .buffer)
+        ≡ replySeen (history p) (command p) .written ++ drop (length (replySeen (history p) (command p) .written)) (p .call .input .buffer)
     -- 1. It returns reason 0 or 23 exactly when it is accepted.
     pub acceptance : (p : Place ws) → ((p .call .result .reason ≡ 0) ⊎ (p .call .result .reason ≡ 23))
-        ↔ (accepted (shows (past p)) (command p) ≡ true)
+        ↔ (accepted (stateSeen (history p)) (command p) ≡ true)
     -- 2. An accepted READ answers reason 0, code 0, as count the number of present entries that it asks for, then these.
-    pub reads : (p : Place ws) (q : Query) → command p ≡ onTables (READ q) → accepted (shows (past p)) (command p) ≡ true →
-        let found = readSeen (past p .control .rows) q (entries p) in
+    pub reads : (p : Place ws) (q : Query) → command p ≡ onTables (READ q) → accepted (stateSeen (history p)) (command p) ≡ true →
+        let found = readSeen (history p .control .rows) q (entries p) in
         p .call .result .answer
         ≡ (0 ∷ 0 ∷ bytesOf 2 (length found) ++ concat found) ++ drop (4 + length (concat found)) (p .call .input .buffer)
     -- The entries present are those that document 01 describes, in its order; each is 220 bytes in shortest form.
-    pub described : (p : Place ws) → Describes (past p .effects) (entries p)
+    pub described : (p : Place ws) → Describes (history p .effects) (entries p)
     pub shortest : (p : Place ws) → EveryStored (entries p)
     -- 3. An update of a WRITE is answered (0, 0), its pair being one of those that the answer counts, exactly when it took effect:
     -- the WRITE is accepted, and the update is refused under no reason after the updates before it (atomicity 0), or no update of
@@ -105,11 +105,11 @@ module _ {A : Type 0} (L : Layout A) (device : ℕ) (start : Memory A) (ws : Lis
         → command p ≡ onTables (WRITE h atomicity (earlier ++ u ∷ later)) →
         let answer = p .call .result .answer in
         ((length earlier < int 2 2 answer) × (pairAt (length earlier) answer ≡ 0 ∷ 0 ∷ []))
-        ↔ (accepted (shows (past p)) (command p) && tookEffect (past p) (h .role) atomicity earlier u later ≡ true)
+        ↔ (accepted (stateSeen (history p)) (command p) && tookEffect (history p) (h .role) atomicity earlier u later ≡ true)
     -- 4. An accepted CONFIGURE, and an accepted WRITE, which holds every update that takes effect, gave the highest id accepted
     -- until then for its role, while exactly one open stream of that role, the live primary, held it.
     pub authority : (p : Place ws) (role id : ℕ) → Gives role id (command p)
-        → accepted (shows (past p)) (command p) ≡ true → Held role id (events p)
+        → accepted (stateSeen (history p)) (command p) ≡ true → Held role id (events p)
     -- 5. A call that gives no such id changes no entry.
     pub unchanged : (p : Place ws) → ((role id : ℕ) → Gives role id (command p) → Held role id (events p) → ⊥) → ChangesNoEntry p
     -- 6. A WRITE with atomicity 1 that was answered 23 changes no entry.

@@ -25,14 +25,14 @@ eventRead (Close s) = rules.CLOSE s
 eventRead (Arbitrate s h) = rules.ARBITRATE s (headOf h)
 
 abbrev pub pipelineRead : PipelineCommand → List ℕ → rules.PipelineCommand
-pipelineRead c f = rules.CONFIGURE (headOf (c .head)) (parts (c .count) 53 (drop 28 f))
+pipelineRead c f = rules.CONFIGURE (headOf (c .head)) (parts (c .count) rules.rowSize (drop 28 f))
 
 -- what a READ asks for; its key is in the frame
 abbrev pub queryRead : Query → List ℕ → rules.Query
-queryRead q f = record { device = q .device; role = q .role; table = q .table; only = q .only; key = part 10 4 f ++ part 15 144 f }
+queryRead q f = record { device = q .device; role = q .role; table = q .table; only = q .only; key = part 10 4 f ++ part 15 rules.restSize f }
 
 abbrev pub tableRead : TableCommand → List ℕ → rules.TableCommand
-tableRead (Write h atomicity n) f = rules.WRITE (headOf h) atomicity (map rules.updateOf (parts n 221 (drop 29 f)))
+tableRead (Write h atomicity n) f = rules.WRITE (headOf h) atomicity (map rules.updateOf (parts n rules.updateSize (drop 29 f)))
 tableRead (Read q) f = rules.READ (queryRead q f)
 
 abbrev pub commandRead : Command → List ℕ → rules.Command
@@ -48,11 +48,11 @@ frameRead Malformed f = rules.malformed
 -- ---- what a command leaves in the frame f is there: the count is in range, and f is as long as it says
 
 abbrev pub RowsThere : PipelineCommand → List ℕ → Type 0
-RowsThere c f = (c .count ≤ 8) × (length f ≡ 28 + 53 * c .count)
+RowsThere c f = (c .count ≤ 8) × (length f ≡ 28 + rules.rowSize * c .count)
 
 -- the updates of a WRITE, the key of a READ: it is of the table that the READ names, and with only 1 it names one
 abbrev pub OperandsThere : TableCommand → List ℕ → Type 0
-OperandsThere (Write h atomicity n) f = (n ≤ 64) × (length f ≡ 29 + 221 * n)
+OperandsThere (Write h atomicity n) f = (n ≤ 64) × (length f ≡ 29 + rules.updateSize * n)
 OperandsThere (Read q) f = (length f ≡ 159) × (int 10 4 f ≡ q .table) × (q .only ≡ 1 → q .table ≡ 0 → ⊥)
 
 abbrev pub CommandThere : Command → List ℕ → Type 0

@@ -141,7 +141,7 @@ fn read_configure(frame: &[u8]) -> Frame
     if 8 < t {
         return Frame::Malformed;
     }
-    if frame.len() != 28 + 53 * t {
+    if frame.len() != 28 + rules::ROW * t {
         return Frame::Malformed;
     }
     let head = head_at(frame, 1);
@@ -163,7 +163,7 @@ fn read_write(frame: &[u8]) -> Frame
     if 64 < n {
         return Frame::Malformed;
     }
-    if frame.len() != 29 + 221 * n {
+    if frame.len() != 29 + rules::UPDATE * n {
         return Frame::Malformed;
     }
     let atomicity = frame[27];

@@ -3,6 +3,7 @@ use mathlib.Core.Path.{_≡_}
 use mathlib.Core.List.{List, [], _∷_}
 use Prim.Native.Nat.{ℕ, _*_}
 use lib.ListN.{take}
+use Rattle.rules.specs.Frame.{entrySize}
 use Rattle.rules.specs.Update as rules
 use Rattle.rules.specs.Call.{Control}
 use Rattle.arbitration.specs.declared.Streams.{Streams}
@@ -26,7 +27,7 @@ abbrev pub Flat : Layout Agent
 Flat = record {
   control = controlOf;
   holds = λ (m : Memory Agent) (t : rules.Tables). tablesIn (m .agent .tables .count) (m .store) ≡ t;
-  used = λ (m : Memory Agent). take (m .agent .tables .count * 220) (m .store) ∷ [];
+  used = λ (m : Memory Agent). take (m .agent .tables .count * entrySize) (m .store) ∷ [];
 }
 
 -- what the code has in hand before a call and after it

@@ -14,7 +14,7 @@ use Rattle.rules.specs.Key.{tableOf, keyFormed, keyFits, keyRules, short
 use Rattle.rules.specs.Update.{Tables, entryFormed, entryFits, judge, judgeBy, perform, apply, Batch, eachAlone, oneFurther, failure, unlessFailed, allOrNone, batch}
 use Rattle.rules.specs.Answer.{Reply, replyOf}
 use Rattle.rules.specs.Call.{State, writeReason, refusal, nextControl, nextTables, next, headReason, pairOf, plain, answer, reply}
-use Rattle.rules.specs.LookBack.{Effect, Past, shows, effectOf, reasonAt, succeeds, noteUpdate, noteUpdates, someFails, noteBatch, noted, note, pairsAlone, pairsRolledBack, pairsSeen, answerSeen, replySeen}
+use Rattle.rules.specs.LookBack.{Effect, History, stateSeen, effectOf, reasonAt, succeeds, withUpdate, withUpdates, someFails, withBatch, effectsWith, withCall, pairsAlone, pairsRolledBack, pairsSeen, answerSeen, replySeen}
 use Rattle.rules.specs.Deletes.{SameDelete, Alike, AlikeCommands, KeyAlone}
 use Rattle.rules.proofs.Shortest.{key-of-key, table-of-key, formed-of-key, fits-of-key, rules-of-key}
 
@@ -144,45 +144,45 @@ module _ (s : State) where
 -- ---- looking back
 
 module _ (role : ℕ) where
-  same-reason-at : (p : Past) (u v : Update) → Alike u v → reasonAt p role u ≡ reasonAt p role v
+  same-reason-at : (p : History) (u v : Update) → Alike u v → reasonAt p role u ≡ reasonAt p role v
   unfolding reasonAt
-  same-reason-at p u v a = alike-reason (p .control .rows) role (shows p .tables) u v a
+  same-reason-at p u v a = alike-reason (p .control .rows) role (stateSeen p .tables) u v a
 
-  same-noted : (p : Past) (u v : Update) → Alike u v → noteUpdate p role u ≡ noteUpdate p role v
-  unfolding noteUpdate succeeds
+  same-noted : (p : History) (u v : Update) → Alike u v → withUpdate p role u ≡ withUpdate p role v
+  unfolding withUpdate succeeds
   same-noted p u v a =
       ap₂ (λ (r : ℕ) (f : Effect). record { control = p .control; effects = if eqb r 0 then p .effects ++ (f ∷ []) else p .effects })
       (same-reason-at p u v a) (alike-effect u v a)
 
   -- what is asked of a batch update by update is the same, where it is the same of one
-  module _ {A : Type 0} (f : Past → List Update → A) (g : Past → Update → A → List Update → A)
-      (step : (p : Past) (u : Update) (us : List Update) → f p (u ∷ us) ≡ g p u (f (noteUpdate p role u) us) us)
-      (one : (p : Past) (u v : Update) (x : A) (us vs : List Update) → Alike u v → Pointwise Alike us vs → g p u x us ≡ g p v x vs) where
-    by-updates : (p : Past) (us vs : List Update) → Pointwise Alike us vs → f p us ≡ f p vs
+  module _ {A : Type 0} (f : History → List Update → A) (g : History → Update → A → List Update → A)
+      (step : (p : History) (u : Update) (us : List Update) → f p (u ∷ us) ≡ g p u (f (withUpdate p role u) us) us)
+      (one : (p : History) (u v : Update) (x : A) (us vs : List Update) → Alike u v → Pointwise Alike us vs → g p u x us ≡ g p v x vs) where
+    by-updates : (p : History) (us vs : List Update) → Pointwise Alike us vs → f p us ≡ f p vs
     by-updates p [] [] a = refl
     by-updates p [] (v ∷ vs) a = absurd a
     by-updates p (u ∷ us) [] a = absurd a
     by-updates p (u ∷ us) (v ∷ vs) a =
-        let rest = by-updates (noteUpdate p role u) us vs (a .1) ∙ ap (λ (q : Past). f q vs) (same-noted p u v (a .0)) in
-        step p u us ∙ ap (λ (x : A). g p u x us) rest ∙ one p u v (f (noteUpdate p role v) vs) us vs (a .0) (a .1) ∙ sym (step p v vs)
+        let rest = by-updates (withUpdate p role u) us vs (a .1) ∙ ap (λ (q : History). f q vs) (same-noted p u v (a .0)) in
+        step p u us ∙ ap (λ (x : A). g p u x us) rest ∙ one p u v (f (withUpdate p role v) vs) us vs (a .0) (a .1) ∙ sym (step p v vs)
 
-  noted-updates : (p : Past) (us vs : List Update) → Pointwise Alike us vs → noteUpdates p role us ≡ noteUpdates p role vs
-  unfolding noteUpdates
-  noted-updates = by-updates (λ p us. noteUpdates p role us) (λ p u x us. x) (λ p u us. refl) (λ p u v x us vs a b. refl)
+  noted-updates : (p : History) (us vs : List Update) → Pointwise Alike us vs → withUpdates p role us ≡ withUpdates p role vs
+  unfolding withUpdates
+  noted-updates = by-updates (λ p us. withUpdates p role us) (λ p u x us. x) (λ p u us. refl) (λ p u v x us vs a b. refl)
 
-  some-fails : (p : Past) (us vs : List Update) → Pointwise Alike us vs → someFails p role us ≡ someFails p role vs
+  some-fails : (p : History) (us vs : List Update) → Pointwise Alike us vs → someFails p role us ≡ someFails p role vs
   unfolding someFails succeeds
   some-fails =
       by-updates (λ p us. someFails p role us) (λ p u x us. not (succeeds p role u) || x) (λ p u us. refl)
       (λ p u v x us vs a b. ap (λ (r : ℕ). not (eqb r 0) || x) (same-reason-at p u v a))
 
-  pairs-alone : (p : Past) (us vs : List Update) → Pointwise Alike us vs → pairsAlone p role us ≡ pairsAlone p role vs
+  pairs-alone : (p : History) (us vs : List Update) → Pointwise Alike us vs → pairsAlone p role us ≡ pairsAlone p role vs
   unfolding pairsAlone
   pairs-alone =
       by-updates (λ p us. pairsAlone p role us) (λ p u x us. pairOf (reasonAt p role u) ∷ x) (λ p u us. refl)
       (λ p u v x us vs a b. ap (λ (r : ℕ). pairOf r ∷ x) (same-reason-at p u v a))
 
-  pairs-rolled-back : (p : Past) (us vs : List Update) → Pointwise Alike us vs → pairsRolledBack p role us ≡ pairsRolledBack p role vs
+  pairs-rolled-back : (p : History) (us vs : List Update) → Pointwise Alike us vs → pairsRolledBack p role us ≡ pairsRolledBack p role vs
   unfolding pairsRolledBack succeeds
   pairs-rolled-back =
       by-updates (λ p us. pairsRolledBack p role us)
@@ -196,19 +196,19 @@ module _ (role : ℕ) where
       others (u ∷ us) [] b = absurd b
       others (u ∷ us) (v ∷ vs) b = ap (λ (l : List (List ℕ)). pairOf 25 ∷ l) (others us vs (b .1))
 
-module _ (p : Past) where
-  alike-noted : (c d : Command) → AlikeCommands c d → note p c ≡ note p d
-  unfolding note nextControl noted noteBatch refusal
-  alike-noted c d (inl q) = ap (note p) q
+module _ (p : History) where
+  alike-noted : (c d : Command) → AlikeCommands c d → withCall p c ≡ withCall p d
+  unfolding withCall nextControl effectsWith withBatch refusal
+  alike-noted c d (inl q) = ap (withCall p) q
   alike-noted c d (inr w) =
       rw (w .one, w .other)
       (ap₂ counted (some-fails (w .head .role) p (w .us) (w .vs) (w .updates)) (noted-updates (w .head .role) p (w .us) (w .vs) (w .updates)))
     where
-      counted : Bool → Past → Past
+      counted : Bool → History → History
       counted fails more = record {
-        control = shows p .control;
+        control = stateSeen p .control;
         effects =
-            if eqb (writeReason (shows p .control) (w .head) (w .atomicity)) 0
+            if eqb (writeReason (stateSeen p .control) (w .head) (w .atomicity)) 0
             then (if eqb (w .atomicity) 1 && fails then p else more) .effects
             else p .effects;
       }
@@ -225,7 +225,7 @@ module _ (p : Past) where
       (pairs-alone (w .head .role) p (w .us) (w .vs) (w .updates))))
     where
       refused : ℕ
-      refused = writeReason (shows p .control) (w .head) (w .atomicity)
+      refused = writeReason (stateSeen p .control) (w .head) (w .atomicity)
 
       written : Bool → List (List ℕ) → List (List ℕ) → Reply
       written fails undone alone =
@@ -244,6 +244,6 @@ key-alone = record {
   answers = alike-answer;
   states = alike-next;
   effects = alike-effect;
-  noted = alike-noted;
+  histories = alike-noted;
   seen = alike-seen;
 }

@@ -17,8 +17,8 @@ use Rattle.rules.specs.Key.{tableOf, slotNumbers, keyFormed, keyFits, ke
 use Rattle.rules.specs.Entry.{actionFormed, actionFits, passes}
 use Rattle.rules.specs.Update.{Tables, isInsert, isDelete, stored, held, entryFormed, entryFits, judge, judgeBy, batch}
 use Rattle.rules.specs.Call.{State, fresh, readReason, refusal, accepted, batchOf, commandOf, run}
-use Rattle.rules.specs.LookBack.{Past, nothing, present, shows, reasonAt, noteUpdates, lookBack, readSeen}
-use Rattle.rules.specs.Agreement.{commandsOf, pastOf}
+use Rattle.rules.specs.LookBack.{History, nothing, present, stateSeen, reasonAt, withUpdates, lookBack, readSeen}
+use Rattle.rules.specs.Agreement.{commandsOf, historyOf}
 use Rattle.rules.specs.Presence.{In, Ordered}
 use Rattle.rules.specs.Sound.{Stored, EveryStored, Distinct, SoundTables, Sound}
 use Rattle.rules.specs.Keys.{SameKey, Compared, KeysAsNumbers}
@@ -190,9 +190,9 @@ decided rows role t u n = go (eqb (first early) 0) refl
 
 -- ---- an update of 220 bytes
 
-compared : (p : Past) (role : ℕ) (u : Update) → length (u .entry) ≡ 220 → allBytes (u .entry) ≡ true
-    → SoundTables (p .control .rows) (shows p .tables) → AllStored (shows p .tables) → Compared p role u
-unfolding shows reasonAt
+compared : (p : History) (role : ℕ) (u : Update) → length (u .entry) ≡ 220 → allBytes (u .entry) ≡ true
+    → SoundTables (p .control .rows) (stateSeen p .tables) → AllStored (stateSeen p .tables) → Compared p role u
+unfolding stateSeen reasonAt
 compared p role u l b ok bytes = record {
   each = λ f. each-key rows t ok bytes e whole-key b f;
   found = some;
@@ -249,7 +249,7 @@ read-formed s q here o a =
     rw here (not-false _ (and-false _ _ (c .1 .1 .1 .1 .1 .0) (eq-eqb (q .only) 1 o)))
 
 pub keys-as-numbers : KeysAsNumbers
-unfolding pastOf fresh shows batch
+unfolding historyOf fresh stateSeen batch
 keys-as-numbers room device before c bs b = record {
   once = once;
   updates = updates;
@@ -257,52 +257,52 @@ keys-as-numbers room device before c bs b = record {
   reads = reads;
 }
   where
-    p : Past
+    p : History
     p = lookBack (nothing device) (commandsOf room before)
 
     rows : List Row
     rows = p .control .rows
 
-    seen : run (fresh device) (commandsOf room before) ≡ shows p
+    seen : run (fresh device) (commandsOf room before) ≡ stateSeen p
     seen = fresh-shows device (commandsOf room before)
 
-    ok : Sound (shows p)
+    ok : Sound (stateSeen p)
     ok = subst Sound seen (sound room device before)
 
-    bytes : AllStored (shows p .tables)
+    bytes : AllStored (stateSeen p .tables)
     bytes = subst (λ s. AllStored (s .tables)) seen (run-bytes room (fresh device) before bs refl)
 
     -- after the earlier updates of a batch
     noted-sound : (role : ℕ) (us : List Update) → Whole us
-        → SoundTables (noteUpdates p role us .control .rows) (shows (noteUpdates p role us) .tables)
+        → SoundTables (withUpdates p role us .control .rows) (stateSeen (withUpdates p role us) .tables)
     noted-sound role us w =
         rw (noted-control p role us, ← alone-shows p role us)
-        (alone-sound rows (ids-distinct rows (ok .rows)) role (shows p .tables) us w (ok .tables))
+        (alone-sound rows (ids-distinct rows (ok .rows)) role (stateSeen p .tables) us w (ok .tables))
 
-    noted-bytes : (role : ℕ) (us : List Update) → every entryOfBytes us ≡ true → AllStored (shows (noteUpdates p role us) .tables)
+    noted-bytes : (role : ℕ) (us : List Update) → every entryOfBytes us ≡ true → AllStored (stateSeen (withUpdates p role us) .tables)
     noted-bytes role us d =
-        subst AllStored (alone-shows p role us) (alone-every allBytes rows role (shows p .tables) us (entries-bytes us d) bytes)
+        subst AllStored (alone-shows p role us) (alone-every allBytes rows role (stateSeen p .tables) us (entries-bytes us d) bytes)
 
     es : List (List ℕ)
-    es = shows p .tables .entries
+    es = stateSeen p .tables .entries
 
     once : Ordered (λ (x y : List ℕ). keyNumbers x ≡ keyNumbers y → ⊥) es
-    once = numbers-once rows (shows p .tables) (ok .tables) bytes es (λ e i. i) (ok .tables .distinct)
+    once = numbers-once rows (stateSeen p .tables) (ok .tables) bytes es (λ e i. i) (ok .tables .distinct)
 
     updates : (h : Head) (atomicity : ℕ) (earlier : List Update) (u : Update) (later : List Update)
-        → commandOf room c ≡ onTables (WRITE h atomicity (earlier ++ u ∷ later)) → Compared (noteUpdates p (h .role) earlier) (h .role) u
+        → commandOf room c ≡ onTables (WRITE h atomicity (earlier ++ u ∷ later)) → Compared (withUpdates p (h .role) earlier) (h .role) u
     updates h atomicity earlier u later e =
         let w = whole-place earlier u later (subst Formed e (call-formed room c) .1) in
         let d = every-split entryOfBytes earlier (u ∷ later) (subst OfBytes e (call-bytes room c b)) in
         let own : allBytes (u .entry) ≡ true = and-true (entryOfBytes u) (every entryOfBytes later) (d .1) .0 in
-        compared (noteUpdates p (h .role) earlier) (h .role) u (w .1) own
+        compared (withUpdates p (h .role) earlier) (h .role) u (w .1) own
         (noted-sound (h .role) earlier (w .0)) (noted-bytes (h .role) earlier (d .0))
 
     entries : (h : Head) (earlier : List Update)
-        → batchOf (run (fresh device) (commandsOf room before)) h 0 earlier .tables ≡ shows (noteUpdates p (h .role) earlier) .tables
+        → batchOf (run (fresh device) (commandsOf room before)) h 0 earlier .tables ≡ stateSeen (withUpdates p (h .role) earlier) .tables
     entries h earlier = ap (λ s. batchOf s h 0 earlier .tables) seen ∙ alone-shows p (h .role) earlier
 
-    reads : (q : Query) → commandOf room c ≡ onTables (READ q) → q .only ≡ 1 → accepted (shows p) (onTables (READ q)) ≡ true → (e : List ℕ)
+    reads : (q : Query) → commandOf room c ≡ onTables (READ q) → q .only ≡ 1 → accepted (stateSeen p) (onTables (READ q)) ≡ true → (e : List ℕ)
         → In e (readSeen rows q es) ↔ (In e es × (keyNumbers e ≡ keyNumbers (q .key)))
     reads q is o a e = (to, from)
       where
@@ -314,11 +314,11 @@ keys-as-numbers room device before c bs b = record {
 
         same : (e : List ℕ) → In e es → (has e ≡ true) ↔ (keyNumbers e ≡ keyNumbers (q .key))
         same =
-            each-key rows (shows p .tables) (ok .tables) bytes (q .key) (omega (arith, f .0))
-            (subst OfBytes is (call-bytes room c b)) (read-formed (shows p) q (f .1) o a)
+            each-key rows (stateSeen p .tables) (ok .tables) bytes (q .key) (omega (arith, f .0))
+            (subst OfBytes is (call-bytes room c b)) (read-formed (stateSeen p) q (f .1) o a)
 
         all : readSeen rows q es ≡ keep has es
-        all = sym (shown-seen p q) ∙ one-key (shows p) q f ok a o
+        all = sym (shown-seen p q) ∙ one-key (stateSeen p) q f ok a o
 
         to : In e (readSeen rows q es) → In e es × (keyNumbers e ≡ keyNumbers (q .key))
         to i = let k = in-keep has es e (subst (In e) all i) in (k .0, same e (k .0) .0 (k .1))

@@ -20,8 +20,8 @@ use Rattle.rules.specs.Entry.{shortEntry}
 use Rattle.rules.specs.Update.{Tables, noEntries, inTable, perform, apply, eachAlone, oneFurther, failure, rolledBack, unlessFailed, allOrNone, batch}
 use Rattle.rules.specs.Answer.{Answer, replyOf}
 use Rattle.rules.specs.Call.{State, Call, fresh, configureReason, writeReason, readReason, refusal, accepted, nextControl, nextTables, next, plain, pairOf, headReason, batchOf, asked, gathered, shown, answer, commandOf, reply, run}
-use Rattle.rules.specs.LookBack.{Effect, inserted, modified, deleted, cleared, revise, present, Past, nothing, shows, effectOf, reasonAt, succeeds, noteUpdate, noteUpdates, someFails, tookEffect, noteBatch, noted, note, lookBack, pairsAlone, pairsRolledBack, pairsSeen, named, asksFor, readSeen, answerSeen, replySeen}
-use Rattle.rules.specs.Agreement.{commandsOf, replyAfter, pastOf, pairAt, Agreement}
+use Rattle.rules.specs.LookBack.{Effect, inserted, modified, deleted, cleared, revise, present, History, nothing, stateSeen, effectOf, reasonAt, succeeds, withUpdate, withUpdates, someFails, tookEffect, withBatch, effectsWith, withCall, lookBack, pairsAlone, pairsRolledBack, pairsSeen, named, asksFor, readSeen, answerSeen, replySeen}
+use Rattle.rules.specs.Agreement.{commandsOf, replyAfter, historyOf, pairAt, Agreement}
 use Rattle.rules.proofs.Tests.{same-sym}
 use Rattle.rules.proofs.Rollback.{eqb-sym, rollback}
 use Rattle.rules.proofs.Orders.{first-avoids}
@@ -57,8 +57,8 @@ effect-is u t = go (eqb (u .type) 1) (eqb (u .type) 2)
     go false false = removed
 
 -- one update more, and a batch: what looking back notes is what the rules leave
-noted-update : (p : Past) (role : ℕ) (u : Update) → shows (noteUpdate p role u) .tables ≡ apply (reasonAt p role u) u (shows p .tables)
-unfolding shows noteUpdate apply succeeds
+noted-update : (p : History) (role : ℕ) (u : Update) → stateSeen (withUpdate p role u) .tables ≡ apply (reasonAt p role u) u (stateSeen p .tables)
+unfolding stateSeen withUpdate apply succeeds
 noted-update p role u = go (eqb (reasonAt p role u) 0)
   where
     t : Tables
@@ -72,7 +72,7 @@ noted-update p role u = go (eqb (reasonAt p role u) 0)
 
 -- a batch over the entries that looking back shows
 module _ (role : ℕ) where
-  abbrev rowsOf : Past → List Row
+  abbrev rowsOf : History → List Row
   rowsOf p = p .control .rows
 
   and-or : (a b : Bool) → a && not b ≡ not (not a || b)
@@ -80,23 +80,23 @@ module _ (role : ℕ) where
   and-or false b = refl
 
   -- each update alone
-  abbrev Alone : Past → Tables → List Update → Type 0
+  abbrev Alone : History → Tables → List Update → Type 0
   Alone p t us =
-      (eachAlone (rowsOf p) role t us .tables ≡ shows (noteUpdates p role us) .tables)
+      (eachAlone (rowsOf p) role t us .tables ≡ stateSeen (withUpdates p role us) .tables)
       × (map pairOf (eachAlone (rowsOf p) role t us .reasons) ≡ pairsAlone p role us)
       × (every (eqb 0) (eachAlone (rowsOf p) role t us .reasons) ≡ not (someFails p role us))
 
-  alone : (p : Past) (us : List Update) → Alone p (shows p .tables) us
-  unfolding eachAlone noteUpdates pairsAlone someFails reasonAt succeeds noteUpdate
+  alone : (p : History) (us : List Update) → Alone p (stateSeen p .tables) us
+  unfolding eachAlone withUpdates pairsAlone someFails reasonAt succeeds withUpdate
   alone p [] = (refl, refl, refl)
   alone p (u ∷ us) =
       let r : ℕ = reasonAt p role u in
-      let q : Past = noteUpdate p role u in
-      let g : Alone q (apply r u (shows p .tables)) us = subst (λ (t : Tables). Alone q t us) (noted-update p role u) (alone q us) in
+      let q : History = withUpdate p role u in
+      let g : Alone q (apply r u (stateSeen p .tables)) us = subst (λ (t : Tables). Alone q t us) (noted-update p role u) (alone q us) in
       (g .0, ap (λ l. pairOf r ∷ l) (g .1), ap₂ _&&_ (eqb-sym 0 r) (g .2) ∙ and-or (eqb r 0) (someFails q role us))
 
   -- the first update that fails, if any
-  abbrev Failing : Option (ℕ × ℕ) → Past → List Update → Type 0
+  abbrev Failing : Option (ℕ × ℕ) → History → List Update → Type 0
   Failing none p us = someFails p role us ≡ false
   Failing (some f) p us =
       (someFails p role us ≡ true)
@@ -107,10 +107,10 @@ module _ (role : ℕ) where
   all-25 [] = refl
   all-25 (u ∷ us) = ap (λ l. pairOf 25 ∷ l) (all-25 us)
 
-  module _ (p : Past) (u : Update) (us : List Update) where
+  module _ (p : History) (u : Update) (us : List Update) where
     passing : succeeds p role u ≡ true
-        → (someFails p role (u ∷ us) ≡ someFails (noteUpdate p role u) role us)
-        × (pairsRolledBack p role (u ∷ us) ≡ pairOf 25 ∷ pairsRolledBack (noteUpdate p role u) role us)
+        → (someFails p role (u ∷ us) ≡ someFails (withUpdate p role u) role us)
+        × (pairsRolledBack p role (u ∷ us) ≡ pairOf 25 ∷ pairsRolledBack (withUpdate p role u) role us)
     unfolding someFails pairsRolledBack
     passing e = rw e (refl, refl)
 
@@ -119,18 +119,18 @@ module _ (role : ℕ) where
     unfolding someFails pairsRolledBack
     first-failing e = rw e (refl, refl)
 
-  failing : (p : Past) (us : List Update) → Failing (failure (rowsOf p) role (shows p .tables) us) p us
-  unfolding failure someFails pairsRolledBack reasonAt succeeds noteUpdate
+  failing : (p : History) (us : List Update) → Failing (failure (rowsOf p) role (stateSeen p .tables) us) p us
+  unfolding failure someFails pairsRolledBack reasonAt succeeds withUpdate
   failing p [] = refl
   failing p (u ∷ us) =
-      go (eqb r 0) refl (failure (rowsOf p) role (apply r u (shows p .tables)) us)
+      go (eqb r 0) refl (failure (rowsOf p) role (apply r u (stateSeen p .tables)) us)
       (subst (λ (t : Tables). Failing (failure (rowsOf p) role t us) q us) (noted-update p role u) (failing q us))
     where
       r : ℕ
       r = reasonAt p role u
 
-      q : Past
-      q = noteUpdate p role u
+      q : History
+      q = withUpdate p role u
 
       go : (b : Bool) → eqb r 0 ≡ b → (o : Option (ℕ × ℕ)) → Failing o q us → Failing (if b then oneFurther o else some (0, r)) p (u ∷ us)
       go true e none h = passing p u us e .0 ∙ h
@@ -142,37 +142,37 @@ module _ (role : ℕ) where
           (z .0, ap (λ l. pairOf r ∷ l) (all-25 us) ∙ sym (z .1), ap (λ (b : Bool). b && every (eqb 0) (replicate (length us) 25)) (eqb-sym 0 r ∙ e))
 
   -- a batch of either atomicity
-  abbrev Batched : Past → ℕ → List Update → Type 0
+  abbrev Batched : History → ℕ → List Update → Type 0
   Batched p atomicity us =
-      (batch atomicity (rowsOf p) role (shows p .tables) us .tables ≡ shows (noteBatch p role atomicity us) .tables)
-      × (map pairOf (batch atomicity (rowsOf p) role (shows p .tables) us .reasons) ≡ pairsSeen p role atomicity us)
-      × (every (eqb 0) (batch atomicity (rowsOf p) role (shows p .tables) us .reasons) ≡ not (someFails p role us))
+      (batch atomicity (rowsOf p) role (stateSeen p .tables) us .tables ≡ stateSeen (withBatch p role atomicity us) .tables)
+      × (map pairOf (batch atomicity (rowsOf p) role (stateSeen p .tables) us .reasons) ≡ pairsSeen p role atomicity us)
+      × (every (eqb 0) (batch atomicity (rowsOf p) role (stateSeen p .tables) us .reasons) ≡ not (someFails p role us))
 
-  batched : (p : Past) (atomicity : ℕ) (us : List Update) → Batched p atomicity us
-  unfolding batch allOrNone noteBatch pairsSeen
+  batched : (p : History) (atomicity : ℕ) (us : List Update) → Batched p atomicity us
+  unfolding batch allOrNone withBatch pairsSeen
   batched p atomicity us = go (eqb atomicity 1) (failure (rowsOf p) role t us) (failing p us)
     where
       t : Tables
-      t = shows p .tables
+      t = stateSeen p .tables
 
       go : (b : Bool) (o : Option (ℕ × ℕ)) → Failing o p us →
           let x = if b then unlessFailed o t us (eachAlone (rowsOf p) role t us) else eachAlone (rowsOf p) role t us in
-          (x .tables ≡ shows (if b && someFails p role us then p else noteUpdates p role us) .tables)
+          (x .tables ≡ stateSeen (if b && someFails p role us then p else withUpdates p role us) .tables)
           × (map pairOf (x .reasons) ≡ (if b && someFails p role us then pairsRolledBack p role us else pairsAlone p role us))
           × (every (eqb 0) (x .reasons) ≡ not (someFails p role us))
       go true none h = let g = alone p us in (rw h (g .0), rw h (g .1), g .2)
       go true (some f) h = (rw (h .0), rw (h .0) (h .1), rw (h .0) (h .2))
       go false o h = alone p us
 
-pub alone-shows : (p : Past) (role : ℕ) (us : List Update)
-    → eachAlone (p .control .rows) role (shows p .tables) us .tables ≡ shows (noteUpdates p role us) .tables
+pub alone-shows : (p : History) (role : ℕ) (us : List Update)
+    → eachAlone (p .control .rows) role (stateSeen p .tables) us .tables ≡ stateSeen (withUpdates p role us) .tables
 alone-shows p role us = alone role p us .0
 
 -- an update changes no row
-pub noted-control : (p : Past) (role : ℕ) (us : List Update) → noteUpdates p role us .control ≡ p .control
-unfolding noteUpdates noteUpdate
+pub noted-control : (p : History) (role : ℕ) (us : List Update) → withUpdates p role us .control ≡ p .control
+unfolding withUpdates withUpdate
 noted-control p role [] = refl
-noted-control p role (u ∷ us) = noted-control (noteUpdate p role u) role us
+noted-control p role (u ∷ us) = noted-control (withUpdate p role u) role us
 
 -- ---- READ
 
@@ -258,14 +258,14 @@ rows-seen q (row ∷ rows) es = go (asked (q .role) (q .table) row) refl (rows-s
     go false h ih = ih ∙ ap (λ l. l ++ readSeen rows q es) (sym (seen ∙ ap (λ (b : Bool). if b then narrowed one k mine else []) h))
 
 -- the records of a READ
-pub shown-seen : (p : Past) (q : Query) → shown (shows p) q ≡ readSeen (p .control .rows) q (present (p .effects))
-unfolding shown shows
+pub shown-seen : (p : History) (q : Query) → shown (stateSeen p) q ≡ readSeen (p .control .rows) q (present (p .effects))
+unfolding shown stateSeen
 shown-seen p q = rows-seen q (p .control .rows) (present (p .effects))
 
 -- ---- a call
 
-answers-agree : (p : Past) (c : Command) → answer (shows p) c ≡ answerSeen p c
-unfolding answer answerSeen shows refusal
+answers-agree : (p : History) (c : Command) → answer (stateSeen p) c ≡ answerSeen p c
+unfolding answer answerSeen stateSeen refusal
 answers-agree p tooShort = refl
 answers-agree p malformed = refl
 answers-agree p (onStreams x) = refl
@@ -277,8 +277,8 @@ answers-agree p (onTables (WRITE h atomicity us)) = rw (b .1, b .2) (go (someFai
 
     told : ℕ → Answer
     told reason =
-        if accepted (shows p) (onTables (WRITE h atomicity us)) then record { reason = reason; records = pairsSeen p (h .role) atomicity us } else
-        plain (refusal (shows p) (onTables (WRITE h atomicity us)))
+        if accepted (stateSeen p) (onTables (WRITE h atomicity us)) then record { reason = reason; records = pairsSeen p (h .role) atomicity us } else
+        plain (refusal (stateSeen p) (onTables (WRITE h atomicity us)))
 
     go : (t : Bool) → told (if not t then 0 else 23) ≡ told (if t then 23 else 0)
     go true = refl
@@ -290,36 +290,36 @@ unnoted : (b : Bool) (effects : List Effect) → present effects ≡ present (if
 unnoted true effects = refl
 unnoted false effects = refl
 
-tables-agree : (p : Past) (c : Command) → nextTables (shows p) c .entries ≡ present (if accepted (shows p) c then noted p c else p .effects)
-unfolding nextTables noted shows takeEffect refusal
-tables-agree p tooShort = unnoted (accepted (shows p) tooShort) (p .effects)
-tables-agree p malformed = unnoted (accepted (shows p) malformed) (p .effects)
-tables-agree p (onStreams x) = unnoted (accepted (shows p) (onStreams x)) (p .effects)
-tables-agree p (onPipeline (CONFIGURE h rows)) = go (accepted (shows p) (onPipeline (CONFIGURE h rows)))
+tables-agree : (p : History) (c : Command) → nextTables (stateSeen p) c .entries ≡ present (if accepted (stateSeen p) c then effectsWith p c else p .effects)
+unfolding nextTables effectsWith stateSeen takeEffect refusal
+tables-agree p tooShort = unnoted (accepted (stateSeen p) tooShort) (p .effects)
+tables-agree p malformed = unnoted (accepted (stateSeen p) malformed) (p .effects)
+tables-agree p (onStreams x) = unnoted (accepted (stateSeen p) (onStreams x)) (p .effects)
+tables-agree p (onPipeline (CONFIGURE h rows)) = go (accepted (stateSeen p) (onPipeline (CONFIGURE h rows)))
   where
-    go : (b : Bool) → (if b then noEntries else shows p .tables) .entries ≡ present (if b then p .effects ++ (cleared ∷ []) else p .effects)
+    go : (b : Bool) → (if b then noEntries else stateSeen p .tables) .entries ≡ present (if b then p .effects ++ (cleared ∷ []) else p .effects)
     go true = sym (present-snoc (p .effects) cleared)
     go false = refl
-tables-agree p (onTables (WRITE h atomicity us)) = go (accepted (shows p) (onTables (WRITE h atomicity us)))
+tables-agree p (onTables (WRITE h atomicity us)) = go (accepted (stateSeen p) (onTables (WRITE h atomicity us)))
   where
-    go : (b : Bool) → (if b then batch atomicity (p .control .rows) (h .role) (shows p .tables) us .tables else shows p .tables) .entries
-        ≡ present (if b then noteBatch p (h .role) atomicity us .effects else p .effects)
+    go : (b : Bool) → (if b then batch atomicity (p .control .rows) (h .role) (stateSeen p .tables) us .tables else stateSeen p .tables) .entries
+        ≡ present (if b then withBatch p (h .role) atomicity us .effects else p .effects)
     go true = ap (λ t. t .entries) (batched (h .role) p atomicity us .0)
     go false = refl
-tables-agree p (onTables (READ q)) = unnoted (accepted (shows p) (onTables (READ q))) (p .effects)
+tables-agree p (onTables (READ q)) = unnoted (accepted (stateSeen p) (onTables (READ q))) (p .effects)
 
-pub next-shows : (p : Past) (c : Command) → next (shows p) c ≡ shows (note p c)
-unfolding next note shows
-next-shows p c = ap (λ es. record { control = nextControl (shows p) c; tables = record { entries = es } }) (tables-agree p c)
+pub next-shows : (p : History) (c : Command) → next (stateSeen p) c ≡ stateSeen (withCall p c)
+unfolding next withCall stateSeen
+next-shows p c = ap (λ es. record { control = nextControl (stateSeen p) c; tables = record { entries = es } }) (tables-agree p c)
 
-pub run-shows : (p : Past) (cs : List Command) → run (shows p) cs ≡ shows (lookBack p cs)
+pub run-shows : (p : History) (cs : List Command) → run (stateSeen p) cs ≡ stateSeen (lookBack p cs)
 unfolding run lookBack
 run-shows p [] = refl
-run-shows p (c ∷ cs) = ap (λ s. run s cs) (next-shows p c) ∙ run-shows (note p c) cs
+run-shows p (c ∷ cs) = ap (λ s. run s cs) (next-shows p c) ∙ run-shows (withCall p c) cs
 
 -- after every list of calls the agent is as looking back shows it
-pub fresh-shows : (device : ℕ) (cs : List Command) → run (fresh device) cs ≡ shows (lookBack (nothing device) cs)
-unfolding fresh nothing shows present
+pub fresh-shows : (device : ℕ) (cs : List Command) → run (fresh device) cs ≡ stateSeen (lookBack (nothing device) cs)
+unfolding fresh nothing stateSeen present
 fresh-shows device cs = run-shows (nothing device) cs
 
 -- ---- what is returned
@@ -394,19 +394,19 @@ left s h us e = ap (λ (t : Tables). record { control = s .control; tables = t }
 -- ---- the claim
 
 pub agreement : (room device : ℕ) (before : List Call) (c : Call) → Agreement room device before c
-unfolding replyAfter pastOf reply replySeen
+unfolding replyAfter historyOf reply replySeen
 agreement room device before c = record {
   replies = replies;
-  acceptance = subst (λ s. ((reply s (commandOf room c) .returned ≡ 0) ⊎ (reply s (commandOf room c) .returned ≡ 23)) ↔ (accepted (shows p) (commandOf room c) ≡ true))
-      (sym shown-past) (returned-accepted (shows p) (commandOf room c));
+  acceptance = subst (λ s. ((reply s (commandOf room c) .returned ≡ 0) ⊎ (reply s (commandOf room c) .returned ≡ 23)) ↔ (accepted (stateSeen p) (commandOf room c) ≡ true))
+      (sym shown-past) (returned-accepted (stateSeen p) (commandOf room c));
   updates = updates;
   rolled-back = undone;
 }
   where
-    p : Past
+    p : History
     p = lookBack (nothing device) (commandsOf room before)
 
-    shown-past : run (fresh device) (commandsOf room before) ≡ shows p
+    shown-past : run (fresh device) (commandsOf room before) ≡ stateSeen p
     shown-past = fresh-shows device (commandsOf room before)
 
     replies : reply (run (fresh device) (commandsOf room before)) (commandOf room c) ≡ replySeen p (commandOf room c)
@@ -414,14 +414,14 @@ agreement room device before c = record {
 
     updates : (h : Head) (atomicity : ℕ) (earlier : List Update) (u : Update) (later : List Update)
         → commandOf room c ≡ onTables (WRITE h atomicity (earlier ++ u ∷ later))
-        → accepted (shows p) (commandOf room c) ≡ true
+        → accepted (stateSeen p) (commandOf room c) ≡ true
         → (pairAt (length earlier) (reply (run (fresh device) (commandsOf room before)) (commandOf room c) .written) ≡ 0 ∷ 0 ∷ [])
         ↔ (tookEffect p (h .role) atomicity earlier u later ≡ true)
     updates h atomicity earlier u later e q =
         let x = seen-at (h .role) p atomicity earlier u later in
         let w : pairAt (length earlier) (reply (run (fresh device) (commandsOf room before)) (commandOf room c) .written) ≡ pairOf (x .0) =
         ap (λ a. pairAt (length earlier) (a .written)) (replies ∙ ap (replySeen p) e)
-        ∙ update-pair p h atomicity (earlier ++ u ∷ later) (length earlier) (x .0) (x .2) (subst (λ y. accepted (shows p) y ≡ true) e q) in
+        ∙ update-pair p h atomicity (earlier ++ u ∷ later) (length earlier) (x .0) (x .2) (subst (λ y. accepted (stateSeen p) y ≡ true) e q) in
         (λ z. x .1 .0 (pair-zero (x .0) .0 (sym w ∙ z)), λ z. w ∙ pair-zero (x .0) .1 (x .1 .1 z))
 
     s : State

@@ -15,7 +15,7 @@ use Rattle.rules.specs.Reason.{codeOf, pairs}
 use Rattle.rules.specs.Frame.{Head, Update, Command, WRITE, onTables}
 use Rattle.rules.specs.Answer.{answerBytes, replyOf}
 use Rattle.rules.specs.Call.{accepted, pairOf}
-use Rattle.rules.specs.LookBack.{Effect, Past, shows, effectOf, reasonAt, succeeds, noteUpdate, noteUpdates, someFails, tookEffect, rollsBack, noteBatch, noted, note, pairsAlone, pairsRolledBack, pairsSeen, answerSeen, replySeen}
+use Rattle.rules.specs.LookBack.{Effect, History, stateSeen, effectOf, reasonAt, succeeds, withUpdate, withUpdates, someFails, tookEffect, rollsBack, withBatch, effectsWith, withCall, pairsAlone, pairsRolledBack, pairsSeen, answerSeen, replySeen}
 use Rattle.rules.specs.Agreement.{pairAt}
 use Rattle.rules.specs.Rollback.{effectsOf, Counted}
 use Rattle.rules.proofs.Tests.{or-false}
@@ -42,11 +42,11 @@ pair-next l n r x a = record {
 }
 
 module _ (role : ℕ) where
-  kept-at : (p : Past) (earlier : List Update) (u : Update) (later : List Update)
-      → PairAt (pairsAlone p role (earlier ++ u ∷ later)) (length earlier) (reasonAt (noteUpdates p role earlier) role u)
-  unfolding pairsAlone noteUpdates
+  kept-at : (p : History) (earlier : List Update) (u : Update) (later : List Update)
+      → PairAt (pairsAlone p role (earlier ++ u ∷ later)) (length earlier) (reasonAt (withUpdates p role earlier) role u)
+  unfolding pairsAlone withUpdates
   kept-at p [] u later = pair-first _ _
-  kept-at p (v ∷ earlier) u later = pair-next _ _ _ _ (kept-at (noteUpdate p role v) earlier u later)
+  kept-at p (v ∷ earlier) u later = pair-next _ _ _ _ (kept-at (withUpdate p role v) earlier u later)
 
   all-at : (earlier : List Update) (u : Update) (later : List Update)
       → PairAt (map (λ (v : Update). pairOf 25) (earlier ++ u ∷ later)) (length earlier) 25
@@ -54,36 +54,36 @@ module _ (role : ℕ) where
   all-at (v ∷ earlier) u later = pair-next _ _ _ _ (all-at earlier u later)
 
   -- no update of a batch that is rolled back has the pair (0, 0)
-  undone-at : (p : Past) (earlier : List Update) (u : Update) (later : List Update)
+  undone-at : (p : History) (earlier : List Update) (u : Update) (later : List Update)
       → (r : ℕ) × (r ≡ 0 → ⊥) × PairAt (pairsRolledBack p role (earlier ++ u ∷ later)) (length earlier) r
   unfolding pairsRolledBack succeeds
   undone-at p [] u later = go (eqb (reasonAt p role u) 0) refl
     where
       go : (b : Bool) → eqb (reasonAt p role u) 0 ≡ b
           → (r : ℕ) × (r ≡ 0 → ⊥)
-          × PairAt (if b then pairOf 25 ∷ pairsRolledBack (noteUpdate p role u) role later else pairOf (reasonAt p role u) ∷ map (λ (v : Update). pairOf 25) later) 0 r
+          × PairAt (if b then pairOf 25 ∷ pairsRolledBack (withUpdate p role u) role later else pairOf (reasonAt p role u) ∷ map (λ (v : Update). pairOf 25) later) 0 r
       go true e = (25, λ z. let w : _≡_ {A = ℕ} 25 0 = z in omega arith, pair-first _ _)
       go false e = (reasonAt p role u, eqb-false _ 0 e, pair-first _ _)
-  undone-at p (v ∷ earlier) u later = go (eqb (reasonAt p role v) 0) (undone-at (noteUpdate p role v) earlier u later)
+  undone-at p (v ∷ earlier) u later = go (eqb (reasonAt p role v) 0) (undone-at (withUpdate p role v) earlier u later)
     where
       us : List Update
       us = earlier ++ u ∷ later
 
-      go : (b : Bool) → (r : ℕ) × (r ≡ 0 → ⊥) × PairAt (pairsRolledBack (noteUpdate p role v) role us) (length earlier) r
+      go : (b : Bool) → (r : ℕ) × (r ≡ 0 → ⊥) × PairAt (pairsRolledBack (withUpdate p role v) role us) (length earlier) r
           → (r : ℕ) × (r ≡ 0 → ⊥)
-          × PairAt (if b then pairOf 25 ∷ pairsRolledBack (noteUpdate p role v) role us else pairOf (reasonAt p role v) ∷ map (λ (w : Update). pairOf 25) us) (suc (length earlier)) r
+          × PairAt (if b then pairOf 25 ∷ pairsRolledBack (withUpdate p role v) role us else pairOf (reasonAt p role v) ∷ map (λ (w : Update). pairOf 25) us) (suc (length earlier)) r
       go true h = (h .0, h .1, pair-next _ _ _ _ (h .2))
       go false h = (25, λ z. let w : _≡_ {A = ℕ} 25 0 = z in omega arith, pair-next _ _ _ _ (all-at earlier u later))
 
   -- where none fails, each succeeds
-  none-fails : (p : Past) (earlier : List Update) (u : Update) (later : List Update) → someFails p role (earlier ++ u ∷ later) ≡ false
-      → succeeds (noteUpdates p role earlier) role u ≡ true
-  unfolding someFails noteUpdates
+  none-fails : (p : History) (earlier : List Update) (u : Update) (later : List Update) → someFails p role (earlier ++ u ∷ later) ≡ false
+      → succeeds (withUpdates p role earlier) role u ≡ true
+  unfolding someFails withUpdates
   none-fails p [] u later e = not-false _ (or-false (not (succeeds p role u)) _ e .0)
-  none-fails p (v ∷ earlier) u later e = none-fails (noteUpdate p role v) earlier u later (or-false (not (succeeds p role v)) _ e .1)
+  none-fails p (v ∷ earlier) u later e = none-fails (withUpdate p role v) earlier u later (or-false (not (succeeds p role v)) _ e .1)
 
   -- its reason is 0 exactly when the update took effect
-  pub seen-at : (p : Past) (atomicity : ℕ) (earlier : List Update) (u : Update) (later : List Update)
+  pub seen-at : (p : History) (atomicity : ℕ) (earlier : List Update) (u : Update) (later : List Update)
       → (r : ℕ) × ((r ≡ 0) ↔ (tookEffect p role atomicity earlier u later ≡ true))
       × PairAt (pairsSeen p role atomicity (earlier ++ u ∷ later)) (length earlier) r
   unfolding pairsSeen tookEffect succeeds
@@ -93,7 +93,7 @@ module _ (role : ℕ) where
       us = earlier ++ u ∷ later
 
       own : ℕ
-      own = reasonAt (noteUpdates p role earlier) role u
+      own = reasonAt (withUpdates p role earlier) role u
 
       go : (b c : Bool) → someFails p role us ≡ c
           → (r : ℕ) × ((r ≡ 0) ↔ ((if b then not c else eqb own 0) ≡ true))
@@ -105,27 +105,27 @@ module _ (role : ℕ) where
       go false c e = (own, (λ z. eq-eqb own 0 z, λ z. eqb-true own 0 z), kept-at p earlier u later)
 
   -- two bytes for each update
-  kept-length : (p : Past) (us : List Update) → length (concat (pairsAlone p role us)) ≡ 2 * length us
+  kept-length : (p : History) (us : List Update) → length (concat (pairsAlone p role us)) ≡ 2 * length us
   unfolding pairsAlone
   kept-length p [] = refl
-  kept-length p (u ∷ us) = omega (arith, kept-length (noteUpdate p role u) us)
+  kept-length p (u ∷ us) = omega (arith, kept-length (withUpdate p role u) us)
 
   all-length : (us : List Update) → length (concat (map (λ (v : Update). pairOf 25) us)) ≡ 2 * length us
   all-length [] = refl
   all-length (u ∷ us) = omega (arith, all-length us)
 
-  undone-length : (p : Past) (us : List Update) → length (concat (pairsRolledBack p role us)) ≡ 2 * length us
+  undone-length : (p : History) (us : List Update) → length (concat (pairsRolledBack p role us)) ≡ 2 * length us
   unfolding pairsRolledBack
   undone-length p [] = refl
-  undone-length p (u ∷ us) = go (succeeds p role u) (undone-length (noteUpdate p role u) us)
+  undone-length p (u ∷ us) = go (succeeds p role u) (undone-length (withUpdate p role u) us)
     where
-      go : (b : Bool) → length (concat (pairsRolledBack (noteUpdate p role u) role us)) ≡ 2 * length us
-          → length (concat (if b then pairOf 25 ∷ pairsRolledBack (noteUpdate p role u) role us else pairOf (reasonAt p role u) ∷ map (λ (v : Update). pairOf 25) us))
+      go : (b : Bool) → length (concat (pairsRolledBack (withUpdate p role u) role us)) ≡ 2 * length us
+          → length (concat (if b then pairOf 25 ∷ pairsRolledBack (withUpdate p role u) role us else pairOf (reasonAt p role u) ∷ map (λ (v : Update). pairOf 25) us))
           ≡ 2 * suc (length us)
       go true h = omega (arith, h)
       go false h = omega (arith, all-length us)
 
-  pub pairs-length : (p : Past) (atomicity : ℕ) (us : List Update) → length (concat (pairsSeen p role atomicity us)) ≡ 2 * length us
+  pub pairs-length : (p : History) (atomicity : ℕ) (us : List Update) → length (concat (pairsSeen p role atomicity us)) ≡ 2 * length us
   unfolding pairsSeen
   pairs-length p atomicity us = go (rollsBack p role atomicity us)
     where
@@ -145,8 +145,8 @@ unfolding codeOf pairs
 pair-zero r = (λ e. cc, λ e. rw e)
 
 -- the pair of an update in the bytes of an accepted WRITE
-pub update-pair : (p : Past) (h : Head) (atomicity : ℕ) (us : List Update) (n r : ℕ) → PairAt (pairsSeen p (h .role) atomicity us) n r
-    → accepted (shows p) (onTables (WRITE h atomicity us)) ≡ true
+pub update-pair : (p : History) (h : Head) (atomicity : ℕ) (us : List Update) (n r : ℕ) → PairAt (pairsSeen p (h .role) atomicity us) n r
+    → accepted (stateSeen p) (onTables (WRITE h atomicity us)) ≡ true
     → pairAt n (replySeen p (onTables (WRITE h atomicity us)) .written) ≡ pairOf r
 unfolding replySeen replyOf answerSeen answerBytes bytesOf
 update-pair p h atomicity us n r s q = rw q (go (someFails p (h .role) us))
@@ -158,50 +158,50 @@ update-pair p h atomicity us n r s q = rw q (go (someFails p (h .role) us))
 -- ---- what looking back counts
 
 -- an update that succeeds adds its effect, another adds none
-noted-passing : (p : Past) (role : ℕ) (u : Update) → succeeds p role u ≡ true → noteUpdate p role u .effects ≡ p .effects ++ (effectOf u ∷ [])
-unfolding noteUpdate
+noted-passing : (p : History) (role : ℕ) (u : Update) → succeeds p role u ≡ true → withUpdate p role u .effects ≡ p .effects ++ (effectOf u ∷ [])
+unfolding withUpdate
 noted-passing p role u e = rw e
 
-noted-failing : (p : Past) (role : ℕ) (u : Update) → succeeds p role u ≡ false → noteUpdate p role u .effects ≡ p .effects
-unfolding noteUpdate
+noted-failing : (p : History) (role : ℕ) (u : Update) → succeeds p role u ≡ false → withUpdate p role u .effects ≡ p .effects
+unfolding withUpdate
 noted-failing p role u e = rw e
 
-took-effect : (p : Past) (role atomicity : ℕ) (earlier : List Update) (u : Update) (later : List Update)
+took-effect : (p : History) (role atomicity : ℕ) (earlier : List Update) (u : Update) (later : List Update)
     → tookEffect p role atomicity earlier u later
-    ≡ (if eqb atomicity 1 then not (someFails p role (earlier ++ u ∷ later)) else succeeds (noteUpdates p role earlier) role u)
+    ≡ (if eqb atomicity 1 then not (someFails p role (earlier ++ u ∷ later)) else succeeds (withUpdates p role earlier) role u)
 unfolding tookEffect
 took-effect p role atomicity earlier u later = refl
 
-module _ (p : Past) (role : ℕ) where
-  noted-snoc : (p : Past) (us : List Update) (u : Update) → noteUpdates p role (us ++ (u ∷ [])) ≡ noteUpdate (noteUpdates p role us) role u
-  unfolding noteUpdates
+module _ (p : History) (role : ℕ) where
+  noted-snoc : (p : History) (us : List Update) (u : Update) → withUpdates p role (us ++ (u ∷ [])) ≡ withUpdate (withUpdates p role us) role u
+  unfolding withUpdates
   noted-snoc p [] u = refl
-  noted-snoc p (v ∷ us) u = noted-snoc (noteUpdate p role v) us u
+  noted-snoc p (v ∷ us) u = noted-snoc (withUpdate p role v) us u
 
   module _ (atomicity : ℕ) where
     -- where each update takes effect that succeeds after those before it
     count-kept : (earlier us : List Update)
         → ((before : List Update) (u : Update) (after : List Update) → earlier ++ us ≡ before ++ u ∷ after
-        → tookEffect p role atomicity before u after ≡ succeeds (noteUpdates p role before) role u)
-        → noteUpdates (noteUpdates p role earlier) role us .effects
-        ≡ noteUpdates p role earlier .effects ++ effectsOf p role atomicity earlier us
-    unfolding effectsOf noteUpdates
+        → tookEffect p role atomicity before u after ≡ succeeds (withUpdates p role before) role u)
+        → withUpdates (withUpdates p role earlier) role us .effects
+        ≡ withUpdates p role earlier .effects ++ effectsOf p role atomicity earlier us
+    unfolding effectsOf withUpdates
     count-kept earlier [] h = sym (append-nil _)
     count-kept earlier (u ∷ us) h =
-        ap (λ (q : Past). noteUpdates q role us .effects) (sym (noted-snoc p earlier u))
+        ap (λ (q : History). withUpdates q role us .effects) (sym (noted-snoc p earlier u))
         ∙ count-kept (earlier ++ (u ∷ [])) us (λ before v after e. h before v after (sym (append-assoc earlier (u ∷ []) us) ∙ e))
-        ∙ ap (λ (q : Past). q .effects ++ rest) (noted-snoc p earlier u)
-        ∙ noted-one (succeeds (noteUpdates p role earlier) role u) refl
-        ∙ ap (λ (b : Bool). noteUpdates p role earlier .effects ++ (if b then effectOf u ∷ rest else rest)) (sym (h earlier u us refl))
+        ∙ ap (λ (q : History). q .effects ++ rest) (noted-snoc p earlier u)
+        ∙ noted-one (succeeds (withUpdates p role earlier) role u) refl
+        ∙ ap (λ (b : Bool). withUpdates p role earlier .effects ++ (if b then effectOf u ∷ rest else rest)) (sym (h earlier u us refl))
       where
         rest : List Effect
         rest = effectsOf p role atomicity (earlier ++ (u ∷ [])) us
 
-        noted-one : (b : Bool) → succeeds (noteUpdates p role earlier) role u ≡ b
-            → noteUpdate (noteUpdates p role earlier) role u .effects ++ rest
-            ≡ noteUpdates p role earlier .effects ++ (if b then effectOf u ∷ rest else rest)
-        noted-one true e = ap (λ (l : List Effect). l ++ rest) (noted-passing (noteUpdates p role earlier) role u e) ∙ append-assoc (noteUpdates p role earlier .effects) (effectOf u ∷ []) rest
-        noted-one false e = ap (λ (l : List Effect). l ++ rest) (noted-failing (noteUpdates p role earlier) role u e)
+        noted-one : (b : Bool) → succeeds (withUpdates p role earlier) role u ≡ b
+            → withUpdate (withUpdates p role earlier) role u .effects ++ rest
+            ≡ withUpdates p role earlier .effects ++ (if b then effectOf u ∷ rest else rest)
+        noted-one true e = ap (λ (l : List Effect). l ++ rest) (noted-passing (withUpdates p role earlier) role u e) ∙ append-assoc (withUpdates p role earlier .effects) (effectOf u ∷ []) rest
+        noted-one false e = ap (λ (l : List Effect). l ++ rest) (noted-failing (withUpdates p role earlier) role u e)
 
     -- where none does
     count-undone : (earlier us : List Update)
@@ -214,17 +214,17 @@ module _ (p : Past) (role : ℕ) where
         rw (h earlier u us refl)
         (count-undone (earlier ++ (u ∷ [])) us (λ before v after e. h before v after (sym (append-assoc earlier (u ∷ []) us) ∙ e)))
 
-    counts : (us : List Update) → noteBatch p role atomicity us .effects ≡ p .effects ++ effectsOf p role atomicity [] us
-    unfolding noteBatch noteUpdates
+    counts : (us : List Update) → withBatch p role atomicity us .effects ≡ p .effects ++ effectsOf p role atomicity [] us
+    unfolding withBatch withUpdates
     counts us = go (eqb atomicity 1) refl (someFails p role us) refl
       where
         took : (b c : Bool) → eqb atomicity 1 ≡ b → (before : List Update) (u : Update) (after : List Update)
             → someFails p role (before ++ u ∷ after) ≡ c
-            → tookEffect p role atomicity before u after ≡ (if b then not c else succeeds (noteUpdates p role before) role u)
-        took b c e before u after f = took-effect p role atomicity before u after ∙ ap₂ (λ (x y : Bool). if x then not y else succeeds (noteUpdates p role before) role u) e f
+            → tookEffect p role atomicity before u after ≡ (if b then not c else succeeds (withUpdates p role before) role u)
+        took b c e before u after f = took-effect p role atomicity before u after ∙ ap₂ (λ (x y : Bool). if x then not y else succeeds (withUpdates p role before) role u) e f
 
         go : (b : Bool) → eqb atomicity 1 ≡ b → (c : Bool) → someFails p role us ≡ c
-            → (if b && c then p else noteUpdates p role us) .effects ≡ p .effects ++ effectsOf p role atomicity [] us
+            → (if b && c then p else withUpdates p role us) .effects ≡ p .effects ++ effectsOf p role atomicity [] us
         go true e true f =
             sym (ap (λ (l : List Effect). p .effects ++ l) (count-undone [] us (λ before u after q. took true true e before u after (ap (someFails p role) (sym q) ∙ f)))
             ∙ append-nil _)
@@ -234,15 +234,15 @@ module _ (p : Past) (role : ℕ) where
         go false e c f = count-kept [] us (λ before u after q. took false (someFails p role (before ++ u ∷ after)) e before u after refl)
 
 -- and none of a batch that is rolled back
-none-counted : (p : Past) (role : ℕ) (us : List Update) → someFails p role us ≡ true → noteBatch p role 1 us .effects ≡ p .effects
-unfolding noteBatch
+none-counted : (p : History) (role : ℕ) (us : List Update) → someFails p role us ≡ true → withBatch p role 1 us .effects ≡ p .effects
+unfolding withBatch
 none-counted p role us f = rw f
 
-pub counted : (p : Past) (h : Head) (us : List Update) → Counted p h us
-unfolding note noted
+pub counted : (p : History) (h : Head) (us : List Update) → Counted p h us
+unfolding withCall effectsWith
 counted p h us = record {
   effects = λ atomicity q. rw q (counts p (h .role) atomicity us);
-  rolled-back = λ f. either (none-counted p (h .role) us f) (accepted (shows p) (onTables (WRITE h 1 us)));
+  rolled-back = λ f. either (none-counted p (h .role) us f) (accepted (stateSeen p) (onTables (WRITE h 1 us)));
 }
   where
     either : {l : List Effect} → l ≡ p .effects → (b : Bool) → (if b then l else p .effects) ≡ p .effects

@@ -15,8 +15,8 @@ use Rattle.rules.specs.Key.{keyOf, hasKey, shortKey}
 use Rattle.rules.specs.Entry.{shortEntry}
 use Rattle.rules.specs.Update.{stored, judge, judgeBy}
 use Rattle.rules.specs.Call.{Call, accepted}
-use Rattle.rules.specs.LookBack.{Effect, inserted, modified, deleted, cleared, revise, present, Past, nothing, shows, effectOf, reasonAt, succeeds, noteUpdate, noteUpdates, rollsBack, noteBatch, noted, note, lookBack}
-use Rattle.rules.specs.Agreement.{commandsOf, pastOf}
+use Rattle.rules.specs.LookBack.{Effect, inserted, modified, deleted, cleared, revise, present, History, nothing, stateSeen, effectOf, reasonAt, succeeds, withUpdate, withUpdates, rollsBack, withBatch, effectsWith, withCall, lookBack}
+use Rattle.rules.specs.Agreement.{commandsOf, historyOf}
 use Rattle.rules.specs.Presence.{insertsKey, setsKey, setsEntry, removesKey, Since, Present, Before, In, Ordered, Describes}
 use Rattle.rules.proofs.Tests.{clash, and-false, same-true, same-refl, same-sym, eq-same}
 use Rattle.rules.proofs.Orders.{first-clear}
@@ -272,9 +272,9 @@ described-more : (E : List Effect) (f : Effect) → Described E → Allowed (pre
 described-more E f d a = rw (present-snoc E f) (describes-step E (present E) f d a)
 
 -- an INSERT takes effect only where 20 does not hold
-allowed : (p : Past) (role : ℕ) (u : Update) → length (u .entry) ≡ 220 → reasonAt p role u ≡ 0
+allowed : (p : History) (role : ℕ) (u : Update) → length (u .entry) ≡ 220 → reasonAt p role u ≡ 0
     → Allowed (present (p .effects)) (effectOf u)
-unfolding reasonAt judge judgeBy stored shows
+unfolding reasonAt judge judgeBy stored stateSeen
 allowed p role u k e = go (eqb (u .type) 1) (eqb (u .type) 2) refl
   where
     x : List ℕ
@@ -288,32 +288,32 @@ allowed p role u k e = go (eqb (u .type) 1) (eqb (u .type) 2) refl
     go false true t y i = refl
     go false false t y i = refl
 
-noted-update : (p : Past) (role : ℕ) (u : Update) → length (u .entry) ≡ 220
-    → Described (p .effects) → Described (noteUpdate p role u .effects)
-unfolding noteUpdate succeeds
+noted-update : (p : History) (role : ℕ) (u : Update) → length (u .entry) ≡ 220
+    → Described (p .effects) → Described (withUpdate p role u .effects)
+unfolding withUpdate succeeds
 noted-update p role u k d = go (eqb (reasonAt p role u) 0) refl
   where
     go : (b : Bool) → eqb (reasonAt p role u) 0 ≡ b → Described (if b then p .effects ++ (effectOf u ∷ []) else p .effects)
     go true t = described-more (p .effects) (effectOf u) d (allowed p role u k (eqb-true _ _ t))
     go false t = d
 
-noted-updates : (p : Past) (role : ℕ) (us : List Update) → Whole us → Described (p .effects)
-    → Described (noteUpdates p role us .effects)
-unfolding noteUpdates
+noted-updates : (p : History) (role : ℕ) (us : List Update) → Whole us → Described (p .effects)
+    → Described (withUpdates p role us .effects)
+unfolding withUpdates
 noted-updates p role [] k d = d
-noted-updates p role (u ∷ us) k d = noted-updates (noteUpdate p role u) role us (k .1) (noted-update p role u (k .0) d)
+noted-updates p role (u ∷ us) k d = noted-updates (withUpdate p role u) role us (k .1) (noted-update p role u (k .0) d)
 
-noted-batch : (p : Past) (role atomicity : ℕ) (us : List Update) → Whole us → Described (p .effects)
-    → Described (noteBatch p role atomicity us .effects)
-unfolding noteBatch
+noted-batch : (p : History) (role atomicity : ℕ) (us : List Update) → Whole us → Described (p .effects)
+    → Described (withBatch p role atomicity us .effects)
+unfolding withBatch
 noted-batch p role atomicity us k d = go (rollsBack p role atomicity us)
   where
-    go : (b : Bool) → Described ((if b then p else noteUpdates p role us) .effects)
+    go : (b : Bool) → Described ((if b then p else withUpdates p role us) .effects)
     go true = d
     go false = noted-updates p role us k d
 
-noted-call : (p : Past) (c : Command) → Formed c → Described (p .effects) → Described (noted p c)
-unfolding noted
+noted-call : (p : History) (c : Command) → Formed c → Described (p .effects) → Described (effectsWith p c)
+unfolding effectsWith
 noted-call p tooShort k d = d
 noted-call p malformed k d = d
 noted-call p (onStreams (OPEN n)) k d = d
@@ -323,18 +323,18 @@ noted-call p (onPipeline (CONFIGURE h rows)) k d = described-more (p .effects) c
 noted-call p (onTables (WRITE h atomicity us)) k d = noted-batch p (h .role) atomicity us (k .1) d
 noted-call p (onTables (READ q)) k d = d
 
-noted-calls : (p : Past) (cs : List Command) → EveryFormed cs → Described (p .effects) → Described (lookBack p cs .effects)
-unfolding lookBack note
+noted-calls : (p : History) (cs : List Command) → EveryFormed cs → Described (p .effects) → Described (lookBack p cs .effects)
+unfolding lookBack withCall
 noted-calls p [] k d = d
-noted-calls p (c ∷ cs) k d = noted-calls (note p c) cs (k .1) (go (accepted (shows p) c))
+noted-calls p (c ∷ cs) k d = noted-calls (withCall p c) cs (k .1) (go (accepted (stateSeen p) c))
   where
-    go : (b : Bool) → Described (if b then noted p c else p .effects)
+    go : (b : Bool) → Described (if b then effectsWith p c else p .effects)
     go true = noted-call p c (k .0) d
     go false = d
 
 -- After every list of calls the list that looking back computes is one that document 01 describes,
-pub presence : (room device : ℕ) (before : List Call) → Described (pastOf room device before .effects)
-unfolding pastOf nothing
+pub presence : (room device : ℕ) (before : List Call) → Described (historyOf room device before .effects)
+unfolding historyOf nothing
 presence room device before = noted-calls (nothing device) (commandsOf room before) (calls-formed room before) nothing-described
 
 -- and there is no other.

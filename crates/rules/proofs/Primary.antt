@@ -13,9 +13,9 @@ use Rattle.rules.specs.Streams.{closed, bound, Streams, streamAt, markOf
 use Rattle.rules.specs.Row.{rowOf}
 use Rattle.rules.specs.Update.{noEntries}
 use Rattle.rules.specs.Call.{Control, State, Call, fresh, configureReason, writeReason, readReason, refusal, accepted, withRows, nextControl, batchOf, nextTables, next, shown, answer, commandOf, reply, run}
-use Rattle.rules.specs.LookBack.{Past, nothing, shows, note, lookBack}
-use Rattle.rules.specs.Agreement.{commandsOf, pastOf}
-use Rattle.rules.specs.Authority.{history, eventsOf, idFor, highest, leaves, holding, Held, Gives, Authority}
+use Rattle.rules.specs.LookBack.{History, nothing, stateSeen, withCall, lookBack}
+use Rattle.rules.specs.Agreement.{commandsOf, historyOf}
+use Rattle.rules.specs.Authority.{eventsFrom, eventsOf, idFor, highest, leaves, holding, Held, Gives, Authority}
 use Rattle.rules.specs.Sound.{SoundStreams}
 use Rattle.rules.proofs.Orders.{first-clear}
 use Rattle.rules.proofs.Formed.{Formed, EveryFormed, calls-formed}
@@ -65,32 +65,32 @@ next-stream s (onTables x) t ok f = refl
 
 -- ---- lists of calls
 
-past-streams : (p : Past) (cs : List Command) → SoundStreams (p .control .streams) → SoundStreams (lookBack p cs .control .streams)
-unfolding lookBack note shows
+past-streams : (p : History) (cs : List Command) → SoundStreams (p .control .streams) → SoundStreams (lookBack p cs .control .streams)
+unfolding lookBack withCall stateSeen
 past-streams p [] ok = ok
-past-streams p (c ∷ cs) ok = past-streams (note p c) cs (next-streams (shows p) c ok)
+past-streams p (c ∷ cs) ok = past-streams (withCall p c) cs (next-streams (stateSeen p) c ok)
 
 -- the mark is the highest id accepted
-mark-highest : (p : Past) (cs : List Command) (role : ℕ) → SoundStreams (p .control .streams)
-    → markOf (lookBack p cs .control .streams) role ≡ max (markOf (p .control .streams) role) (highest role (history p cs))
-unfolding lookBack note shows history highest
+mark-highest : (p : History) (cs : List Command) (role : ℕ) → SoundStreams (p .control .streams)
+    → markOf (lookBack p cs .control .streams) role ≡ max (markOf (p .control .streams) role) (highest role (eventsFrom p cs))
+unfolding lookBack withCall stateSeen eventsFrom highest
 mark-highest p [] role ok = omega arith
 mark-highest p (c ∷ cs) role ok =
-    omega (arith, mark-highest (note p c) cs role (next-streams (shows p) c ok), next-mark (shows p) c role ok)
+    omega (arith, mark-highest (withCall p c) cs role (next-streams (stateSeen p) c ok), next-mark (stateSeen p) c role ok)
 
 -- each stream is what the list says
-stream-holding : (p : Past) (cs : List Command) (t : ℕ) → SoundStreams (p .control .streams) → EveryFormed cs
-    → streamAt (lookBack p cs .control .streams) t ≡ holding t (streamAt (p .control .streams) t) (history p cs)
-unfolding lookBack note shows history holding
+stream-holding : (p : History) (cs : List Command) (t : ℕ) → SoundStreams (p .control .streams) → EveryFormed cs
+    → streamAt (lookBack p cs .control .streams) t ≡ holding t (streamAt (p .control .streams) t) (eventsFrom p cs)
+unfolding lookBack withCall stateSeen eventsFrom holding
 stream-holding p [] t ok f = refl
 stream-holding p (c ∷ cs) t ok f =
-    stream-holding (note p c) cs t (next-streams (shows p) c ok) (f .1)
-    ∙ ap (λ x. holding t x (history (note p c) cs)) (next-stream (shows p) c t ok (f .0))
+    stream-holding (withCall p c) cs t (next-streams (stateSeen p) c ok) (f .1)
+    ∙ ap (λ x. holding t x (eventsFrom (withCall p c) cs)) (next-stream (stateSeen p) c t ok (f .0))
 
 -- the id of a live primary is held as document 01 says
 live-held : (device : ℕ) (cs : List Command) → EveryFormed cs → (role id : ℕ)
     → byPrimary (lookBack (nothing device) cs .control .streams) role id ≡ true
-    → Held role id (history (nothing device) cs)
+    → Held role id (eventsFrom (nothing device) cs)
 unfolding nothing fresh
 live-held device cs f role id h = record {
   set = w .0;
@@ -109,8 +109,8 @@ live-held device cs f role id h = record {
     w : (0 < id) × (id ≡ markOf e role) × ((p : ℕ) × (streamAt e p ≡ bound role id))
     w = by-primary e role id h
 
-    held : (s : ℕ) → streamAt e s ≡ holding s closed (history (nothing device) cs)
-    held s = stream-holding (nothing device) cs s fresh-sound f ∙ ap (λ x. holding s x (history (nothing device) cs)) (none-open s)
+    held : (s : ℕ) → streamAt e s ≡ holding s closed (eventsFrom (nothing device) cs)
+    held s = stream-holding (nothing device) cs s fresh-sound f ∙ ap (λ x. holding s x (eventsFrom (nothing device) cs)) (none-open s)
 
 -- ---- what an accepted call gave
 
@@ -160,7 +160,7 @@ next-alike s (onTables (READ q)) n = record { device = refl; rows = refl; tables
 -- ---- the claim
 
 pub authority : (room device : ℕ) (before : List Call) (c : Call) → Authority room device before c
-unfolding pastOf eventsOf shows
+unfolding historyOf eventsOf stateSeen
 authority room device before c = record {
   given = given;
   unchanged = λ n q. read-alike s (next s x) (next-alike s x (λ role id g a. n role id g (given role id g (subst (λ t. accepted t x ≡ true) (fresh-shows device cs) a)))) q;
@@ -175,5 +175,5 @@ authority room device before c = record {
     s : State
     s = run (fresh device) cs
 
-    given : (role id : ℕ) → Gives role id x → accepted (shows (lookBack (nothing device) cs)) x ≡ true → Held role id (history (nothing device) cs)
-    given role id g a = live-held device cs (calls-formed room before) role id (gave (shows (lookBack (nothing device) cs)) x role id g a)
+    given : (role id : ℕ) → Gives role id x → accepted (stateSeen (lookBack (nothing device) cs)) x ≡ true → Held role id (eventsFrom (nothing device) cs)
+    given role id g a = live-held device cs (calls-formed room before) role id (gave (stateSeen (lookBack (nothing device) cs)) x role id g a)

@@ -11,7 +11,7 @@ use lib.Dec.{eqb}
 use lib.ListN.{length, replicate, length-append, length-map, length-set, length-replicate}
 use Rattle.rules.specs.Bytes.{if_then_else_, keep, concat, sum, between, numberFrom, int, bytesOf}
 use Rattle.rules.specs.Frame.{Head, Update, Query, Command, tooShort, malformed, OPEN, CLOSE, ARBITRATE, CONFIGURE, WRITE, READ, onStreams, onPipeline, onTables}
-use Rattle.rules.specs.Streams.{Stream, closed, unbound, bound, Streams, numbers, inRole, members, markOf, noticeOf, notification, notifyAll, is, primary, become, streamAt, leaving, closeReason, openStream, closeRecords, closeStream, arbitrateReason, binds, samePair, bindRecords, arbitrate}
+use Rattle.rules.specs.Streams.{Stream, closed, unbound, bound, Streams, numbers, inRole, members, markOf, noticeOf, notification, notifyAll, is, primary, become, streamAt, recordsOnClose, closeReason, openStream, closeRecords, closeStream, arbitrateReason, binds, samePair, bindRecords, arbitrate}
 use Rattle.rules.specs.Row.{Row}
 use Rattle.rules.specs.Key.{hasKey, shortKey}
 use Rattle.rules.specs.Update.{Tables, inTable, held, judge, apply, eachAlone, failure, unlessFailed, allOrNone, batch}
@@ -90,7 +90,7 @@ close-sized : (e : Streams) (s : ℕ) → length (e .streams) ≡ 32 → Sized 2
 unfolding closeRecords
 close-sized e s l = go (streamAt e s)
   where
-    go : (x : Stream) → Sized 20 (leaving e s x)
+    go : (x : Stream) → Sized 20 (recordsOnClose e s x)
     go closed = none-sized 20
     go unbound = none-sized 20
     go (bound r i) = choose 20 (is s (primary e r)) _ _ (all-sized (become e s closed) r (length-set (e .streams) s closed ∙ l)) (none-sized 20)

@@ -9,21 +9,21 @@ use Rattle.rules.specs.Bytes.{if_then_else_, between}
 use Rattle.rules.specs.Frame.{Query, StreamEvent, OPEN, CLOSE, ARBITRATE, CONFIGURE, WRITE, READ, Command, tooShort, malformed, onStreams, onPipeline, onTables}
 use Rattle.rules.specs.Streams.{Stream, closed, unbound, bound}
 use Rattle.rules.specs.Call.{Call, refusal, accepted, fresh, next, run, reply, commandOf}
-use Rattle.rules.specs.LookBack.{Past, nothing, shows, note}
-use Rattle.rules.specs.Agreement.{commandsOf, pastOf}
+use Rattle.rules.specs.LookBack.{History, nothing, stateSeen, withCall}
+use Rattle.rules.specs.Agreement.{commandsOf, historyOf}
 
 -- A call of the list, and the reason under which the rules refuse it after the calls before it (0: they accept it).
 pub record Event : Type 0 where
   pub command : Command
   pub reason : ℕ
 
-unfoldable pub history : Past → List Command → List Event
-history p [] = []
-history p (c ∷ cs) = record { command = c; reason = refusal (shows p) c } ∷ history (note p c) cs
+unfoldable pub eventsFrom : History → List Command → List Event
+eventsFrom p [] = []
+eventsFrom p (c ∷ cs) = record { command = c; reason = refusal (stateSeen p) c } ∷ eventsFrom (withCall p c) cs
 
 -- the calls `before`, from a fresh agent
 unfoldable pub eventsOf : ℕ → ℕ → List Call → List Event
-eventsOf room device before = history (nothing device) (commandsOf room before)
+eventsOf room device before = eventsFrom (nothing device) (commandsOf room before)
 
 -- ---- the highest id
 
@@ -91,7 +91,7 @@ Gives role id (onTables (READ q)) = ⊥
 pub record Authority (room device : ℕ) (before : List Call) (c : Call) : Type 0 where
   -- an accepted CONFIGURE, and an accepted WRITE, which every update that takes effect stands in, gave the live primary's id
   pub given : (role id : ℕ) → Gives role id (commandOf room c)
-      → accepted (shows (pastOf room device before)) (commandOf room c) ≡ true
+      → accepted (stateSeen (historyOf room device before)) (commandOf room c) ≡ true
       → Held role id (eventsOf room device before)
   -- a call that does not give it changes no entry: every READ has the same answer before it and after it
   pub unchanged : ((role id : ℕ) → Gives role id (commandOf room c) → Held role id (eventsOf room device before) → ⊥)

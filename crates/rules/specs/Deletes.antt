@@ -10,7 +10,7 @@ use Rattle.rules.specs.Row.{Row}
 use Rattle.rules.specs.Key.{keyOf}
 use Rattle.rules.specs.Update.{Tables, judge, apply, batch}
 use Rattle.rules.specs.Call.{State, next, reply}
-use Rattle.rules.specs.LookBack.{Past, effectOf, note, replySeen}
+use Rattle.rules.specs.LookBack.{History, effectOf, withCall, replySeen}
 
 -- ---- what differs in nothing that is looked at
 
@@ -52,5 +52,5 @@ pub record KeyAlone : Type 0 where
   pub states : (s : State) (c d : Command) → AlikeCommands c d → next s c ≡ next s d
   -- looking back notes the same of them, and yields one answer
   pub effects : (u v : Update) → Alike u v → effectOf u ≡ effectOf v
-  pub noted : (p : Past) (c d : Command) → AlikeCommands c d → note p c ≡ note p d
-  pub seen : (p : Past) (c d : Command) → AlikeCommands c d → replySeen p c ≡ replySeen p d
+  pub histories : (p : History) (c d : Command) → AlikeCommands c d → withCall p c ≡ withCall p d
+  pub seen : (p : History) (c d : Command) → AlikeCommands c d → replySeen p c ≡ replySeen p d

@@ -8,14 +8,14 @@ use mathlib.Core.List.{List, _∷_, _++_}
 use Prim.Native.Nat.{ℕ}
 use lib.ListN.{length}
 use Rattle.rules.specs.Bytes.{between, every, allBytes}
-use Rattle.rules.specs.Frame.{Head, Update, Query, WRITE, READ, onTables}
+use Rattle.rules.specs.Frame.{keySize, Head, Update, Query, WRITE, READ, onTables}
 use Rattle.rules.specs.Row.{Row, rowFor}
 use Rattle.rules.specs.Value.{value, isValue, short}
 use Rattle.rules.specs.Key.{tableOf, keyFormed, shortKey, keyNumbers, hasKey}
 use Rattle.rules.specs.Update.{stored}
 use Rattle.rules.specs.Call.{Call, fresh, accepted, batchOf, commandOf, run}
-use Rattle.rules.specs.LookBack.{Past, present, shows, reasonAt, noteUpdates, readSeen}
-use Rattle.rules.specs.Agreement.{commandsOf, pastOf}
+use Rattle.rules.specs.LookBack.{History, present, stateSeen, reasonAt, withUpdates, readSeen}
+use Rattle.rules.specs.Agreement.{commandsOf, historyOf}
 use Rattle.rules.specs.Presence.{In, Ordered}
 
 -- ---- values and keys by themselves
@@ -29,7 +29,7 @@ ValuesSame =
 -- and two keys that pass 17 by one row are the same exactly when their shortest forms are equal.
 abbrev pub KeysSame : Type 0
 KeysSame =
-    (row : Row) (k j : List ℕ) → length k ≡ 148 → length j ≡ 148 → allBytes k ≡ true → allBytes j ≡ true
+    (row : Row) (k j : List ℕ) → length k ≡ keySize → length j ≡ keySize → allBytes k ≡ true → allBytes j ≡ true
     → keyFormed row k ≡ true → keyFormed row j ≡ true → (keyNumbers k ≡ keyNumbers j) ↔ (shortKey k ≡ shortKey j)
 
 -- ---- an update after a list of calls, and after the earlier updates of its batch
@@ -40,15 +40,15 @@ pub record SameKey (k : List ℕ) (es : List (List ℕ)) : Type 0 where
   pub member : In entry es
   pub same : keyNumbers entry ≡ keyNumbers k
 
--- Of an update u by a role, after the past p:
-pub record Compared (p : Past) (role : ℕ) (u : Update) : Type 0 where
+-- Of an update u by a role, after the history p:
+pub record Compared (p : History) (role : ℕ) (u : Update) : Type 0 where
   -- Where its key passes 17 by the row in force, an entry has this key exactly when it has the same numbers,
   pub each : keyFormed (rowFor (tableOf (u .entry)) (p .control .rows)) (u .entry) ≡ true
       → (e : List ℕ) → In e (present (p .effects))
       → (hasKey (shortKey (u .entry)) e ≡ true) ↔ (keyNumbers e ≡ keyNumbers (u .entry))
   -- and the key is found exactly when some entry has the same numbers.
   pub found : keyFormed (rowFor (tableOf (u .entry)) (p .control .rows)) (u .entry) ≡ true
-      → (stored (shortKey (u .entry)) (shows p .tables) ≡ true) ↔ SameKey (u .entry) (present (p .effects))
+      → (stored (shortKey (u .entry)) (stateSeen p .tables) ≡ true) ↔ SameKey (u .entry) (present (p .effects))
   -- So where none of 15 to 19 refuses it: 20 is INSERT while an entry has the same numbers,
   pub twenty : between 15 19 (reasonAt p role u) ≡ false
       → (reasonAt p role u ≡ 20) ↔ ((u .type ≡ 1) × SameKey (u .entry) (present (p .effects)))
@@ -61,20 +61,20 @@ pub record Compared (p : Past) (role : ℕ) (u : Update) : Type 0 where
 -- Of a call c after the calls `before`, from a fresh agent and with a store of `room` bytes:
 pub record KeysCompared (room device : ℕ) (before : List Call) (c : Call) : Type 0 where
   -- no two entries have the same numbers,
-  pub once : Ordered (λ (x y : List ℕ). keyNumbers x ≡ keyNumbers y → ⊥) (present (pastOf room device before .effects))
+  pub once : Ordered (λ (x y : List ℕ). keyNumbers x ≡ keyNumbers y → ⊥) (present (historyOf room device before .effects))
   -- every update of a WRITE is compared as numbers with what is present after the earlier ones,
   pub updates : (h : Head) (atomicity : ℕ) (earlier : List Update) (u : Update) (later : List Update)
       → commandOf room c ≡ onTables (WRITE h atomicity (earlier ++ u ∷ later))
-      → Compared (noteUpdates (pastOf room device before) (h .role) earlier) (h .role) u
+      → Compared (withUpdates (historyOf room device before) (h .role) earlier) (h .role) u
   -- which is what the rules have stored then (with atomicity 1 an update is judged where the earlier ones succeed, by the same),
   pub entries : (h : Head) (earlier : List Update)
       → batchOf (run (fresh device) (commandsOf room before)) h 0 earlier .tables
-      ≡ shows (noteUpdates (pastOf room device before) (h .role) earlier) .tables
+      ≡ stateSeen (withUpdates (historyOf room device before) (h .role) earlier) .tables
   -- and an accepted READ of one key shows exactly the entries that have the same numbers.
   pub reads : (q : Query) → commandOf room c ≡ onTables (READ q) → q .only ≡ 1
-      → accepted (shows (pastOf room device before)) (onTables (READ q)) ≡ true
+      → accepted (stateSeen (historyOf room device before)) (onTables (READ q)) ≡ true
       → (e : List ℕ) →
-      let p = pastOf room device before in
+      let p = historyOf room device before in
       In e (readSeen (p .control .rows) q (present (p .effects)))
       ↔ (In e (present (p .effects)) × (keyNumbers e ≡ keyNumbers (q .key)))
 

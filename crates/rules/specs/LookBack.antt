@@ -56,19 +56,19 @@ present (modified e ∷ later) = present later
 present (deleted k ∷ later) = present later
 present (cleared ∷ later) = present later
 
--- ---- the past
+-- ---- the history
 
 -- What a list of calls comes to: streams, marks and rows as the rules make them, and what took effect, oldest first.
-pub record Past : Type 0 where
+pub record History : Type 0 where
   pub control : Control
   pub effects : List Effect
 
-unfoldable pub nothing : ℕ → Past
+unfoldable pub nothing : ℕ → History
 nothing device = record { control = fresh device .control; effects = [] }
 
 -- the agent as looking back shows it: refusals and 20 to 24 are judged by this
-unfoldable pub shows : Past → State
-shows p = record { control = p .control; tables = record { entries = present (p .effects) } }
+unfoldable pub stateSeen : History → State
+stateSeen p = record { control = p .control; tables = record { entries = present (p .effects) } }
 
 -- what an update does where it takes effect; of a DELETE the key alone is noted
 abbrev pub effectOf : Update → Effect
@@ -76,76 +76,76 @@ effectOf u =
     let e = shortEntry (u .entry) in
     if eqb (u .type) 1 then inserted e else if eqb (u .type) 2 then modified e else deleted (shortKey (u .entry))
 
--- an update's reason after the past p, and whether it has none and so *succeeds*
-unfoldable pub reasonAt : Past → ℕ → Update → ℕ
-reasonAt p role u = judge (p .control .rows) role (shows p .tables) u
+-- an update's reason after the history p, and whether it has none and so *succeeds*
+unfoldable pub reasonAt : History → ℕ → Update → ℕ
+reasonAt p role u = judge (p .control .rows) role (stateSeen p .tables) u
 
-unfoldable pub succeeds : Past → ℕ → Update → Bool
+unfoldable pub succeeds : History → ℕ → Update → Bool
 succeeds p role u = eqb (reasonAt p role u) 0
 
--- the past after one more update, and after several: each is judged after those before it
-unfoldable pub noteUpdate : Past → ℕ → Update → Past
-noteUpdate p role u =
+-- the history with one more update, and with several: each is judged after those before it
+unfoldable pub withUpdate : History → ℕ → Update → History
+withUpdate p role u =
     record { control = p .control; effects = if succeeds p role u then p .effects ++ (effectOf u ∷ []) else p .effects }
 
-unfoldable pub noteUpdates : Past → ℕ → List Update → Past
-noteUpdates p role [] = p
-noteUpdates p role (u ∷ us) = noteUpdates (noteUpdate p role u) role us
+unfoldable pub withUpdates : History → ℕ → List Update → History
+withUpdates p role [] = p
+withUpdates p role (u ∷ us) = withUpdates (withUpdate p role u) role us
 
 -- an update of the batch fails, each judged after those before it
-unfoldable pub someFails : Past → ℕ → List Update → Bool
+unfoldable pub someFails : History → ℕ → List Update → Bool
 someFails p role [] = false
-someFails p role (u ∷ us) = not (succeeds p role u) || someFails (noteUpdate p role u) role us
+someFails p role (u ∷ us) = not (succeeds p role u) || someFails (withUpdate p role u) role us
 
 -- An update u of a batch *took effect*: with atomicity 0 where it succeeds after the earlier ones, with atomicity 1 where no update
 -- of the batch fails (document 02, request Two).
-unfoldable pub tookEffect : Past → ℕ → ℕ → List Update → Update → List Update → Bool
+unfoldable pub tookEffect : History → ℕ → ℕ → List Update → Update → List Update → Bool
 tookEffect p role atomicity earlier u later =
-    if eqb atomicity 1 then not (someFails p role (earlier ++ u ∷ later)) else succeeds (noteUpdates p role earlier) role u
+    if eqb atomicity 1 then not (someFails p role (earlier ++ u ∷ later)) else succeeds (withUpdates p role earlier) role u
 
 -- a batch is rolled back; then no update of it is counted
-abbrev pub rollsBack : Past → ℕ → ℕ → List Update → Bool
+abbrev pub rollsBack : History → ℕ → ℕ → List Update → Bool
 rollsBack p role atomicity us = eqb atomicity 1 && someFails p role us
 
-unfoldable pub noteBatch : Past → ℕ → ℕ → List Update → Past
-noteBatch p role atomicity us = if rollsBack p role atomicity us then p else noteUpdates p role us
+unfoldable pub withBatch : History → ℕ → ℕ → List Update → History
+withBatch p role atomicity us = if rollsBack p role atomicity us then p else withUpdates p role us
 
 -- what an accepted call adds to the effects
-unfoldable pub noted : Past → Command → List Effect
-noted p tooShort = p .effects
-noted p malformed = p .effects
-noted p (onStreams x) = p .effects
-noted p (onPipeline (CONFIGURE h rows)) = p .effects ++ (cleared ∷ [])
-noted p (onTables (WRITE h atomicity us)) = noteBatch p (h .role) atomicity us .effects
-noted p (onTables (READ q)) = p .effects
+unfoldable pub effectsWith : History → Command → List Effect
+effectsWith p tooShort = p .effects
+effectsWith p malformed = p .effects
+effectsWith p (onStreams x) = p .effects
+effectsWith p (onPipeline (CONFIGURE h rows)) = p .effects ++ (cleared ∷ [])
+effectsWith p (onTables (WRITE h atomicity us)) = withBatch p (h .role) atomicity us .effects
+effectsWith p (onTables (READ q)) = p .effects
 
--- the past after one more call, and after a list of them, refused ones included
-unfoldable pub note : Past → Command → Past
-note p c = record {
-  control = nextControl (shows p) c;
-  effects = if accepted (shows p) c then noted p c else p .effects;
+-- the history with one more call, and with a list of them, refused ones included
+unfoldable pub withCall : History → Command → History
+withCall p c = record {
+  control = nextControl (stateSeen p) c;
+  effects = if accepted (stateSeen p) c then effectsWith p c else p .effects;
 }
 
-unfoldable pub lookBack : Past → List Command → Past
+unfoldable pub lookBack : History → List Command → History
 lookBack p [] = p
-lookBack p (c ∷ cs) = lookBack (note p c) cs
+lookBack p (c ∷ cs) = lookBack (withCall p c) cs
 
 -- ---- what each call answers
 
 -- the pairs of a batch that is not rolled back: each update after those before it
-unfoldable pub pairsAlone : Past → ℕ → List Update → List (List ℕ)
+unfoldable pub pairsAlone : History → ℕ → List Update → List (List ℕ)
 pairsAlone p role [] = []
-pairsAlone p role (u ∷ us) = pairOf (reasonAt p role u) ∷ pairsAlone (noteUpdate p role u) role us
+pairsAlone p role (u ∷ us) = pairOf (reasonAt p role u) ∷ pairsAlone (withUpdate p role u) role us
 
 -- and of one that is: 25 for the updates that succeed, its own reason for the first that fails, 25 for all after that
-unfoldable pub pairsRolledBack : Past → ℕ → List Update → List (List ℕ)
+unfoldable pub pairsRolledBack : History → ℕ → List Update → List (List ℕ)
 pairsRolledBack p role [] = []
 pairsRolledBack p role (u ∷ us) =
-    if succeeds p role u then pairOf 25 ∷ pairsRolledBack (noteUpdate p role u) role us else
+    if succeeds p role u then pairOf 25 ∷ pairsRolledBack (withUpdate p role u) role us else
     pairOf (reasonAt p role u) ∷ map (λ (v : Update). pairOf 25) us
 
 -- the pairs of a WRITE
-unfoldable pub pairsSeen : Past → ℕ → ℕ → List Update → List (List ℕ)
+unfoldable pub pairsSeen : History → ℕ → ℕ → List Update → List (List ℕ)
 pairsSeen p role atomicity us = if rollsBack p role atomicity us then pairsRolledBack p role us else pairsAlone p role us
 
 abbrev pub named : Query → Bool
@@ -164,20 +164,20 @@ unfoldable pub readSeen : List Row → Query → List (List ℕ) → List (List 
 readSeen [] q es = []
 readSeen (row ∷ rows) q es = keep (asksFor q row) es ++ readSeen rows q es
 
--- what a call after the past p answers
-unfoldable pub answerSeen : Past → Command → Answer
+-- what a call after the history p answers
+unfoldable pub answerSeen : History → Command → Answer
 answerSeen p tooShort = plain 2
 answerSeen p malformed = plain 1
-answerSeen p (onStreams x) = eventAnswer (streamEvent (shows p) x)
-answerSeen p (onPipeline x) = plain (refusal (shows p) (onPipeline x))
+answerSeen p (onStreams x) = eventAnswer (streamEvent (stateSeen p) x)
+answerSeen p (onPipeline x) = plain (refusal (stateSeen p) (onPipeline x))
 answerSeen p (onTables (WRITE h atomicity us)) =
-    if accepted (shows p) (onTables (WRITE h atomicity us))
+    if accepted (stateSeen p) (onTables (WRITE h atomicity us))
     then record { reason = if someFails p (h .role) us then 23 else 0; records = pairsSeen p (h .role) atomicity us }
-    else plain (refusal (shows p) (onTables (WRITE h atomicity us)))
+    else plain (refusal (stateSeen p) (onTables (WRITE h atomicity us)))
 answerSeen p (onTables (READ q)) =
-    if accepted (shows p) (onTables (READ q))
+    if accepted (stateSeen p) (onTables (READ q))
     then record { reason = 0; records = readSeen (p .control .rows) q (present (p .effects)) }
-    else plain (refusal (shows p) (onTables (READ q)))
+    else plain (refusal (stateSeen p) (onTables (READ q)))
 
-unfoldable pub replySeen : Past → Command → Reply
+unfoldable pub replySeen : History → Command → Reply
 replySeen p c = replyOf (answerSeen p c)

@@ -11,7 +11,7 @@ use Rattle.rules.specs.Frame.{Head, Update, WRITE, onTables}
 use Rattle.rules.specs.Row.{Row}
 use Rattle.rules.specs.Update.{Tables, judge, Batch, batch}
 use Rattle.rules.specs.Call.{accepted, headReason}
-use Rattle.rules.specs.LookBack.{Effect, Past, shows, effectOf, someFails, tookEffect, note}
+use Rattle.rules.specs.LookBack.{Effect, History, stateSeen, effectOf, someFails, tookEffect, withCall}
 
 -- of batches by a role under these rows, the tables before them being t
 module _ (rows : List Row) (role : ℕ) (t : Tables) where
@@ -39,15 +39,15 @@ module _ (rows : List Row) (role : ℕ) (t : Tables) where
     pub left : (us : List Update) → headReason (atomic us .reasons) ≡ 23 → atomic us .tables ≡ t
 
 -- the effects of those updates `us` of a batch that took effect, in order; `earlier` are the updates before them
-unfoldable pub effectsOf : Past → ℕ → ℕ → List Update → List Update → List Effect
+unfoldable pub effectsOf : History → ℕ → ℕ → List Update → List Update → List Effect
 effectsOf p role atomicity earlier [] = []
 effectsOf p role atomicity earlier (u ∷ us) =
     let rest = effectsOf p role atomicity (earlier ++ (u ∷ [])) us in
     if tookEffect p role atomicity earlier u us then effectOf u ∷ rest else rest
 
-pub record Counted (p : Past) (h : Head) (us : List Update) : Type 0 where
+pub record Counted (p : History) (h : Head) (us : List Update) : Type 0 where
   -- looking back counts the updates of an accepted WRITE that took effect, and no other
-  pub effects : (atomicity : ℕ) → accepted (shows p) (onTables (WRITE h atomicity us)) ≡ true
-      → note p (onTables (WRITE h atomicity us)) .effects ≡ p .effects ++ effectsOf p (h .role) atomicity [] us
+  pub effects : (atomicity : ℕ) → accepted (stateSeen p) (onTables (WRITE h atomicity us)) ≡ true
+      → withCall p (onTables (WRITE h atomicity us)) .effects ≡ p .effects ++ effectsOf p (h .role) atomicity [] us
   -- and of a batch that was rolled back none
-  pub rolled-back : someFails p (h .role) us ≡ true → note p (onTables (WRITE h 1 us)) .effects ≡ p .effects
+  pub rolled-back : someFails p (h .role) us ≡ true → withCall p (onTables (WRITE h 1 us)) .effects ≡ p .effects

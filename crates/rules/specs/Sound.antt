@@ -6,6 +6,7 @@ use mathlib.Core.List.{List, [], _∷_}
 use Prim.Native.Nat.{ℕ, _≤_, _<_}
 use lib.ListN.{length}
 use Rattle.rules.specs.Bytes.{every}
+use Rattle.rules.specs.Frame.{entrySize}
 use Rattle.rules.specs.Streams.{bound, Streams, streamAt, markOf}
 use Rattle.rules.specs.Row.{Row, rowsAllowed, known, rowFor}
 use Rattle.rules.specs.Key.{tableOf, keyOf}
@@ -25,7 +26,7 @@ pub record SoundStreams (e : Streams) : Type 0 where
 
 -- an entry as it is stored: 220 bytes, in shortest form
 pub record Stored (e : List ℕ) : Type 0 where
-  pub size : length e ≡ 220
+  pub size : length e ≡ entrySize
   pub shortest : shortEntry e ≡ e
 
 abbrev pub EveryStored : List (List ℕ) → Type 0

@@ -7,6 +7,7 @@ use lib.Dec.{eqb, leb, ltb}
 use lib.ListN.{length, drop}
 use Rattle.rules.specs.Bytes.{if_then_else_, byte, int, parts}
 use Rattle.rules.specs.Reason.{codeOf}
+use Rattle.rules.specs.Frame.{entrySize}
 use Rattle.rules.specs.Answer.{Answer}
 
 -- the character of a digit below 16: 0 to 9, a to f
@@ -57,13 +58,13 @@ unfoldable pub recordSize : List ℕ → ℕ
 recordSize [] = 0
 recordSize (c ∷ operands) =
     if eqb c 0x01 then 20 else if eqb c 0x02 then 20 else if eqb c 0x03 then 20 else
-    if eqb c 0x05 then 2 else if eqb c 0x06 then 220 else 0
+    if eqb c 0x05 then 2 else if eqb c 0x06 then entrySize else 0
 
 -- an answer whose records have this size is whole, and its line has room
 unfoldable pub fits : ℕ → ℕ → List ℕ → Bool
 fits room size answer =
     let count = int 2 2 answer in
-    leb size 220 && leb 4 (length answer) && leb (4 + size * count) (length answer) && leb (84 + (1 + 2 * size) * count) room
+    leb size entrySize && leb 4 (length answer) && leb (4 + size * count) (length answer) && leb (84 + (1 + 2 * size) * count) room
 
 -- the line of an answer's bytes, nothing where it does not fit
 unfoldable pub lineIn : ℕ → ℕ → ℕ → List ℕ → List ℕ
