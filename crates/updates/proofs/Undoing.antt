@@ -13,9 +13,9 @@ use Rattle.rules.proofs.Lists.{drop-take}
 use Rattle.rules.proofs.Tests.{same-true}
 use Rattle.rules.proofs.Shortest.{key-length}
 use Rattle.rules.proofs.Formed.{parts-count}
-use Rattle.entries.specs.Store.{entriesIn, place, without, Left}
-use Rattle.entries.proofs.Parts.{parts-at, parts-fewer}
-use Rattle.entries.proofs.Places.{place-stored, place-below}
+use Rattle.store.specs.Store.{entriesIn, place, without, Left}
+use Rattle.store.proofs.Parts.{parts-at, parts-fewer}
+use Rattle.store.proofs.Places.{place-stored, place-below}
 use Rattle.updates.specs.Undo.{Note, Added, Changed, Removed, noteOf, noted, undone, Fits, Undone, Undoing, UndoAfterApply}
 use Rattle.updates.specs.Update.{Performed}
 use Rattle.updates.specs.declared.Verdict.the-variants.{Refused, Insert, Modify, Delete}

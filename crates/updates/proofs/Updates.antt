@@ -21,8 +21,8 @@ use Rattle.rules.proofs.Orders.{first-clear}
 use Rattle.rules.proofs.Formed.{parts-count}
 use Rattle.rules.proofs.Shortest.{key-of-short}
 use Rattle.rules.proofs.Tables.{revised, distinct-map, distinct-keep, distinct-snoc, keep-fewer}
-use Rattle.entries.specs.Store.{entriesIn, tablesIn, place, without, Left}
-use Rattle.entries.proofs.Places.{modify-place, delete-place, place-stored, place-below}
+use Rattle.store.specs.Store.{entriesIn, tablesIn, place, without, Left}
+use Rattle.store.proofs.Places.{modify-place, delete-place, place-stored, place-below}
 use Rattle.updates.specs.Update.{reasonOf, Meant, changed, Performed, Tidy}
 use Rattle.updates.specs.declared.Verdict.{Verdict}
 use Rattle.updates.specs.declared.Verdict.the-variants.{Refused, Insert, Modify, Delete}

@@ -11,8 +11,8 @@ use Rattle.rules.specs.Reason.{first}
 use Rattle.rules.specs.Row.{Row}
 use Rattle.rules.specs.Key.{shortKey}
 use Rattle.rules.specs.Update.{Tables, isInsert, stored, held}
-use Rattle.entries.specs.Store.{place}
-use Rattle.entries.proofs.Places.{place-stored}
+use Rattle.store.specs.Store.{place}
+use Rattle.store.proofs.Places.{place-stored}
 use Rattle.updates.specs.Update.{placeReason}
 
 -- an update with entry e, of a table that the row describes, where the entries es are stored

@@ -7,7 +7,7 @@ use lib.Dec.{eqb, ltb}
 use lib.ListN.{length, take, drop, getD, set}
 use Rattle.rules.specs.Bytes.{if_then_else_, byte}
 use Rattle.rules.specs.Key.{shortKey}
-use Rattle.entries.specs.Store.{entriesIn, tablesIn, insertedAt, Left}
+use Rattle.store.specs.Store.{entriesIn, tablesIn, insertedAt, Left}
 use Rattle.updates.specs.Update.{reasonOf, Meant, Performed}
 use Rattle.updates.specs.declared.Verdict.{Verdict}
 use Rattle.updates.specs.declared.Verdict.the-variants.{Refused, Insert, Modify, Delete}

@@ -14,7 +14,7 @@ use Rattle.rules.specs.Key.{keyRules, shortKey}
 use Rattle.rules.specs.Entry.{shortEntry}
 use Rattle.rules.specs.Update.{Tables, isInsert, isModify, stored, held, entryFormed, entryFits, apply}
 use Rattle.rules.specs.Sound.{Distinct}
-use Rattle.entries.specs.Store.{entriesIn, tablesIn, place, without, Left}
+use Rattle.store.specs.Store.{entriesIn, tablesIn, place, without, Left}
 use Rattle.updates.specs.declared.Verdict.{Verdict}
 use Rattle.updates.specs.declared.Verdict.the-variants.{Refused, Insert, Modify, Delete}
 

@@ -12,10 +12,10 @@ ghost use Rattle.rules.specs.Key.{keyFormed, keyFits, shortKey};
 ghost use Rattle.rules.specs.Entry.{actionFormed, actionFits, shortEntry};
 ghost use Rattle.rules.specs.Update.{isInsert, held as heldIn, judgeBy};
 ghost use Rattle.rows.specs.Meaning.{rowOf};
-ghost use Rattle.entries.specs.Store.{entriesIn, tablesIn, place, placeOf, insertedAt, Left};
+ghost use Rattle.store.specs.Store.{entriesIn, tablesIn, place, placeOf, insertedAt, Left};
 ghost use Rattle.updates.specs.Undo.{noteOf, noted, Undone};
 ghost use Rattle.updates.specs.Update.{entryReason, placeReason, reasonOf, Meant, changed, Performed, Applied};
-use entries::Found;
+use store::Found;
 use numbers::integer;
 use rows::Row;
 
@@ -86,7 +86,7 @@ fn look_up(store: &[u8], count: usize, key: &[u8], short: &mut [u8]) -> Found
     ensures { λ r. ⌜ placeOf r ≡ place (shortKey (now (key .entry))) (entriesIn count (now (store .entry))) ⌝ }
 {
     values::shorten_key(key, short);
-    entries::find(store, count, short)
+    store::find(store, count, short)
 }
 
 // Where the entry of an update's key is.
@@ -107,7 +107,7 @@ fn full(row: Row, store: &[u8], count: usize) -> bool
     if count < size {
         return false;
     }
-    size <= entries::held(store, count, row.table as u64)
+    size <= store::held(store, count, row.table as u64)
 }
 
 // 20, 22 and 24 of an INSERT.
@@ -222,7 +222,7 @@ fn perform(verdict: Verdict, store: &mut [u8], count: usize, entry: &[u8]) -> us
             if count <= i {
                 return count;
             }
-            entries::remove(store, count, i);
+            store::remove(store, count, i);
             count - 1
         }
     }
@@ -301,7 +301,7 @@ fn put_back(note: &[u8], update: &[u8], store: &mut [u8], count: usize, i: usize
 {
     let mut old = [0; 220];
     old_entry(note, update, &mut old);
-    entries::put_back(store, count, i, &old);
+    store::put_back(store, count, i, &old);
 }
 
 // Undoes what was noted last of an update of 221 bytes; the number of entries then.
@@ -317,7 +317,7 @@ pub fn undo(note: &[u8], update: &[u8], store: &mut [u8], count: usize) -> usize
     }
     if kind == 2 {
         if i < count {
-            entries::replace_action(store, count, i, &note[2..74]);
+            store::replace_action(store, count, i, &note[2..74]);
         }
         return count;
     }

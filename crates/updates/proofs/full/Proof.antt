@@ -8,7 +8,7 @@ use Rattle.rules.specs.Update.{inTable, held}
 use Rattle.rules.proofs.Formed.{parts-count}
 use Rattle.rules.proofs.Tables.{keep-fewer}
 use Rattle.rows.specs.Meaning.{rowOf}
-use Rattle.entries.specs.Store.{entriesIn, tablesIn}
+use Rattle.store.specs.Store.{entriesIn, tablesIn}
 use borrow.Author.Needs.{needs}
 use Rattle.updates.proofs.full.Statement.{statement}
 use Rattle.updates.proofs.full.Tie as tie

@@ -9,7 +9,7 @@ use Rattle.rules.specs.Entry.{shortEntry}
 use Rattle.rules.proofs.Shortest.{entry-length}
 use Rattle.buffers.proofs.Splice.{drop-splice, length-splice}
 use Rattle.values.proofs.Pieces.{rest-back}
-use Rattle.entries.proofs.Parts.{parts-append}
+use Rattle.store.proofs.Parts.{parts-append}
 use borrow.Author.Needs.{needs}
 use Rattle.updates.proofs.insert.Statement.{statement}
 use Rattle.updates.proofs.insert.Tie as tie

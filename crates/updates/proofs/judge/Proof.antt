@@ -11,7 +11,7 @@ use Rattle.rules.specs.Bytes.{byte}
 use Rattle.rules.specs.Row.{Row}
 use Rattle.rules.specs.Update.{Tables}
 use Rattle.rows.specs.Meaning.{rowOf}
-use Rattle.entries.specs.Store.{tablesIn}
+use Rattle.store.specs.Store.{tablesIn}
 use Rattle.updates.proofs.Judging.{Reached, type-zero, type-high, table-unknown, not-owned, owned, entry-lent, entry-refused, place-judged, place-meant}
 use borrow.Author.Needs.{needs}
 use Rattle.updates.proofs.judge.Statement.{statement}

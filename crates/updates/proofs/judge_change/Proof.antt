@@ -5,7 +5,7 @@ use mathlib.Core.Bool.{false}
 use borrow.Author.Tests.{eq-eqb, ne-eqb}
 use denote.Ref.{now}
 use Rattle.rows.specs.Meaning.{rowOf}
-use Rattle.entries.specs.Store.{entriesIn, placeOf}
+use Rattle.store.specs.Store.{entriesIn, placeOf}
 use Rattle.updates.proofs.Verdicts.{change-present, change-absent}
 use Rattle.rules.specs.Update.{isInsert}
 use borrow.Author.Needs.{needs}

@@ -7,7 +7,7 @@ use denote.Ref.{now}
 use Rattle.rules.specs.Key.{shortKey}
 use Rattle.rules.proofs.Formed.{parts-count}
 use Rattle.rows.specs.Meaning.{rowOf}
-use Rattle.entries.specs.Store.{entriesIn, place, placeOf}
+use Rattle.store.specs.Store.{entriesIn, place, placeOf}
 use Rattle.updates.proofs.Verdicts.{insert-present, insert-table-full, insert-store-full, insert-absent}
 use borrow.Author.Needs.{needs}
 use Rattle.updates.proofs.judge_insert.Statement.{statement}

@@ -5,7 +5,7 @@ use mathlib.Core.Path.{ap, _∙_}
 use mathlib.Core.List.{List}
 use denote.Ref.{now}
 use Rattle.rules.proofs.Shortest.{key-of-key}
-use Rattle.entries.specs.Store.{entriesIn, place}
+use Rattle.store.specs.Store.{entriesIn, place}
 use borrow.Author.Needs.{needs}
 use Rattle.updates.proofs.locate.Statement.{statement}
 use Rattle.updates.proofs.locate.Tie as tie

@@ -8,8 +8,8 @@ use Rattle.rules.specs.Key.{shortKey}
 use Rattle.rules.proofs.Shortest.{key-length}
 use Rattle.buffers.specs.Splice.{splice}
 use Rattle.buffers.proofs.Splice.{splice-end}
-use Rattle.entries.specs.Store.{entriesIn, place, placeOf}
-use Rattle.entries.specs.declared.Found.{Found}
+use Rattle.store.specs.Store.{entriesIn, place, placeOf}
+use Rattle.store.specs.declared.Found.{Found}
 use borrow.Author.Needs.{needs}
 use Rattle.updates.proofs.look_up.Statement.{statement}
 use Rattle.updates.proofs.look_up.Tie as tie

@@ -8,7 +8,7 @@ use denote.Ref.{now}
 use Rattle.rules.specs.Entry.{shortEntry}
 use Rattle.rules.proofs.Shortest.{entry-length}
 use Rattle.values.proofs.Pieces.{rest-back}
-use Rattle.entries.proofs.Parts.{action-over}
+use Rattle.store.proofs.Parts.{action-over}
 use borrow.Author.Needs.{needs}
 use Rattle.updates.proofs.modify.Statement.{statement}
 use Rattle.updates.proofs.modify.Tie as tie

@@ -1,0 +1,3 @@
+-- Laws of batches.
+pub mod Batches
+pub mod Rollbacks

@@ -1,0 +1,3 @@
+-- Laws of reads.
+pub mod Queries
+pub mod Reading
