@@ -13,8 +13,8 @@ use Rattle.rules.specs.Entry.{hasAction, widthsOf}
 use Rattle.rows.specs.Meaning.{rowOf}
 use Rattle.rules.proofs.Lists.{length-mapped}
 use Rattle.checks.proofs.Alongside.{noAction, actions-next, actions-none}
-use Rattle.checks.proofs.choose.Statement.{statement}
-use Rattle.checks.proofs.choose.Tie as tie
+use Rattle.checks.proofs.parameters_of.Statement.{statement}
+use Rattle.checks.proofs.parameters_of.Tie as tie
 
 abbrev Inv-loop : tie.InvT-loop
 Inv-loop id row n i₀ i =
@@ -93,8 +93,8 @@ loop-again c =
 returns-3 : tie.Need-returns-3 Inv-loop μ-loop
 returns-3 c = ended (c .before) (omega arith)
 
-pub choose-spec : {M : Type 1} → statement M
-choose-spec =
+pub parameters-of-spec : {M : Type 1} → statement M
+parameters-of-spec =
     tie.close
     (tie.spec
     Inv-loop
