@@ -1,4 +1,4 @@
--- Laws of entries as parts of a store, and of where a key is among them.
-pub mod Parts
-pub mod Places
-pub mod Rest
+-- Laws of the store: what writing over it leaves, where a key is in it, and walking its entries in order.
+pub mod Writes
+pub mod KeyPlace
+pub mod Scan

@@ -5,18 +5,18 @@ use mathlib.Core.Path.{_≡_, refl, sym, _∙_}
 use mathlib.Core.Bool.{true, false}
 use mathlib.Core.List.{List}
 use denote.Ref.{now}
-use Rattle.rules.specs.Bytes.{part, same}
-use Rattle.store.specs.Store.{entriesIn, place}
-use Rattle.store.proofs.Rest.{searched, searched-next, searched-none}
+use Rattle.rules.specs.Bytes.{part, parts, same}
+use Rattle.store.specs.Store.{place}
+use Rattle.store.proofs.Scan.{searched, searched-next, searched-none}
 use borrow.Author.Needs.{needs}
 use Rattle.store.proofs.find.Statement.{statement}
 use Rattle.store.proofs.find.Tie as tie
 
 abbrev Inv-loop : tie.InvT-loop
-Inv-loop store count key i₀ i = (i ≤ count) × (place key (entriesIn count store) ≡ searched count store key i)
+Inv-loop store key count i₀ i = (i ≤ count) × (place key (parts count 220 store) ≡ searched (record { count = count }) store key i)
 
 abbrev μ-loop : tie.MeasureT-loop
-μ-loop store count key i₀ i = count - i
+μ-loop store key count i₀ i = count - i
 
 loop-holds : tie.Need-loop-holds Inv-loop μ-loop
 loop-holds c = (omega arith, refl)
@@ -34,7 +34,7 @@ returns c =
     let s : List ℕ = now (a .store) in
     let i : ℕ = l .loop .i in
     let t : same (part (220 * i) 148 s) (now (a .key)) ≡ true = sym (c .before .has-key .ensures) ∙ c .if1 .taken in
-    sym (l .loop .inv .1 ∙ searched-next (a .count) s (now (a .key)) i true (omega arith) t)
+    (sym (l .loop .inv .1 ∙ searched-next (a .tables) s (now (a .key)) i true (omega arith) t), omega arith)
 
 add-i : tie.Need-add-i Inv-loop μ-loop
 add-i c = search needs
@@ -49,13 +49,13 @@ loop-again c =
     let s : List ℕ = now (a .store) in
     let i : ℕ = l .loop .i in
     let t : same (part (220 * i) 148 s) (now (a .key)) ≡ false = sym (c .before .has-key .ensures) ∙ c .if1 .left in
-    (omega arith, l .loop .inv .1 ∙ searched-next (a .count) s (now (a .key)) i false (omega arith) t)
+    (omega arith, l .loop .inv .1 ∙ searched-next (a .tables) s (now (a .key)) i false (omega arith) t)
 
 returns-2 : tie.Need-returns-2 Inv-loop μ-loop
 returns-2 c =
     let l = c .before in
     let a = l .before .before .before .args in
-    sym (l .loop .inv .1 ∙ searched-none (a .count) (now (a .store)) (now (a .key)) (l .loop .i) (omega arith))
+    (sym (l .loop .inv .1 ∙ searched-none (a .tables) (now (a .store)) (now (a .key)) (l .loop .i) (omega arith)), tt)
 
 pub find-spec : {M : Type 1} → statement M
 find-spec =

@@ -9,16 +9,16 @@ use denote.Ref.{now}
 use Rattle.rules.specs.Bytes.{part}
 use Rattle.buffers.specs.Splice.{splice}
 use Rattle.buffers.proofs.Splice.{length-window, part-copied}
+use Rattle.store.proofs.Scan.{Gathered, gather-start, gather-long, gather-miss, gather-hit, gather-full, gather-end}
 use borrow.Author.Needs.{needs}
-use Rattle.store.proofs.Rest.{Gathered, gather-start, gather-long, gather-miss, gather-hit, gather-full, gather-end}
 use Rattle.store.proofs.gather.Statement.{statement}
 use Rattle.store.proofs.gather.Tie as tie
 
 abbrev Inv-loop : tie.InvT-loop
-Inv-loop store count table answer₀ n₀ i₀ answer n i = Gathered table count store answer₀ answer n i
+Inv-loop store table answer₀ count n₀ i₀ answer n i = Gathered table (record { count = count }) store answer₀ answer n i
 
 abbrev μ-loop : tie.MeasureT-loop
-μ-loop store count table answer₀ n₀ i₀ answer n i = count - i
+μ-loop store table answer₀ count n₀ i₀ answer n i = count - i
 
 loop-holds : tie.Need-loop-holds Inv-loop μ-loop
 loop-holds c = gather-start _ _ _ _

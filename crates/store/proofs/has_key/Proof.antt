@@ -5,7 +5,7 @@ use mathlib.Core.Path.{_≡_, sym, ap, _∙_}
 use denote.Ref.{now}
 use borrow.Author.Tests.{not-true}
 use Rattle.rules.specs.Bytes.{part, same}
-use Rattle.store.proofs.Rest.{word-differs}
+use Rattle.store.proofs.Scan.{word-differs}
 use borrow.Author.Needs.{needs}
 use Rattle.store.proofs.has_key.Statement.{statement}
 use Rattle.store.proofs.has_key.Tie as tie

@@ -7,21 +7,23 @@ use mathlib.Core.Logic.{⊎-elim}
 use lib.ListN.{length}
 use denote.Ref.{now}
 use Rattle.rules.specs.Update.{held as heldIn}
+use Rattle.store.specs.declared.Tables.{Tables}
 use Rattle.store.specs.Store.{tablesIn}
-use Rattle.store.proofs.Rest.{left, left-hit, left-miss, left-none, held-left}
+use Rattle.store.proofs.Scan.{left, left-hit, left-miss, left-none, held-left}
 use borrow.Author.Needs.{needs}
 use Rattle.store.proofs.held.Statement.{statement}
 use Rattle.store.proofs.held.Tie as tie
 
 abbrev Inv-loop : tie.InvT-loop
-Inv-loop store count table n₀ i₀ n i =
-    (i ≤ count) × (n ≤ i) × (heldIn table (tablesIn count store) ≡ n + length (left table count store i))
+Inv-loop store table count n₀ i₀ n i =
+    let tables : Tables = record { count = count } in
+    (i ≤ count) × (n ≤ i) × (heldIn table (tablesIn tables store) ≡ n + length (left table tables store i))
 
 abbrev μ-loop : tie.MeasureT-loop
-μ-loop store count table n₀ i₀ n i = count - i
+μ-loop store table count n₀ i₀ n i = count - i
 
 loop-holds : tie.Need-loop-holds Inv-loop μ-loop
-loop-holds c = let a = c .before .args in (omega arith, omega arith, held-left (a .table) (a .count) (now (a .store)))
+loop-holds c = let a = c .before .args in (omega arith, omega arith, held-left (a .table) (a .tables) (now (a .store)))
 
 mul-integer : tie.Need-mul-integer Inv-loop μ-loop
 mul-integer c = search needs
@@ -44,14 +46,14 @@ loop-again c =
     let a = l .before .before .args in
     let s : List ℕ = now (a .store) in
     let i : ℕ = l .loop .i in
-    let h : i < a .count = omega arith in
+    let h : i < a .tables .count = omega arith in
     let e = c .before .integer .ensures in
     ⊎-elim
     (λ w.
-    let p = ap length (left-hit (a .table) (a .count) s i h (sym e ∙ w .0 .taken)) in
+    let p = ap length (left-hit (a .table) (a .tables) s i h (sym e ∙ w .0 .taken)) in
     (omega arith, omega arith, omega (arith, p, w .1, l .loop .inv .2)))
     (λ w.
-    let p = ap length (left-miss (a .table) (a .count) s i h (λ q. w .0 .left (e ∙ q))) in
+    let p = ap length (left-miss (a .table) (a .tables) s i h (λ q. w .0 .left (e ∙ q))) in
     (omega arith, omega arith, omega (arith, p, w .1, l .loop .inv .2)))
     (c .if1 .came)
 
@@ -59,7 +61,7 @@ returns : tie.Need-returns Inv-loop μ-loop
 returns c =
     let l = c .before in
     let a = l .before .before .args in
-    omega (arith, l .loop .inv .2, ap length (left-none (a .table) (a .count) (now (a .store)) (l .loop .i) (omega arith)))
+    omega (arith, l .loop .inv .2, ap length (left-none (a .table) (a .tables) (now (a .store)) (l .loop .i) (omega arith)))
 
 pub held-spec : {M : Type 1} → statement M
 held-spec =

@@ -8,7 +8,7 @@ use lib.ListN.{length, take, drop, length-append}
 use denote.Ref.{now}
 use Rattle.buffers.specs.Splice.{splice}
 use Rattle.buffers.proofs.Splice.{part-copied, splice-before, drop-splice, length-splice, length-window}
-use Rattle.store.proofs.Parts.{parts-open}
+use Rattle.store.proofs.Writes.{parts-open}
 use borrow.Author.Needs.{needs}
 use Rattle.store.proofs.put_back.Statement.{statement}
 use Rattle.store.proofs.put_back.Tie as tie
@@ -40,6 +40,9 @@ part-copy-end c = search needs
 copy-requires : tie.Need-copy-requires
 copy-requires c κs = search needs
 
+add-t12 : tie.Need-add-t12
+add-t12 c = search needs
+
 same-length : tie.Need-same-length
 same-length c = search needs
 
@@ -51,7 +54,7 @@ returns c =
     let s : List ℕ = now (a .store) in
     let e : List ℕ = now (a .entry) in
     let at : ℕ = 220 * a .i in
-    let k : ℕ = 220 * a .count - at in
+    let k : ℕ = 220 * a .tables .count - at in
     let moved : List ℕ = take k (drop at s) in
     let l : length moved ≡ k = length-window at k s (omega arith) in
     let n : length (splice s (at + 220) moved) ≡ length s = length-splice s (at + 220) moved (omega arith) in
@@ -61,7 +64,8 @@ returns c =
     ∙ ap (λ (x : List ℕ). splice x at e) (m .move-up .ensures)
     ∙ splice-before s at (at + 220) moved e (omega arith) (omega arith) in
     rw (back, add-one) (record {
-      holds = parts-open (a .i) (a .count) 220 s e k (omega arith) (omega arith) (omega arith) (omega arith);
+      holds = parts-open (a .i) (a .tables .count) 220 s e k (omega arith) (omega arith) (omega arith) (omega arith);
+      few = omega arith;
       room = length-splice s at (e ++ moved) (omega arith);
       beyond = drop-splice 56_320 s at (e ++ moved) (omega arith) (omega arith);
     })
@@ -79,5 +83,6 @@ put-back-spec =
     part-copy-start
     part-copy-end
     copy-requires
+    add-t12
     same-length
     returns)

@@ -4,7 +4,7 @@ use native.Mathlib.Omega.{arith}
 use mathlib.Core.List.{List}
 use denote.Ref.{now}
 use Rattle.buffers.proofs.Splice.{part-copied}
-use Rattle.store.proofs.Parts.{action-over}
+use Rattle.store.proofs.Writes.{action-over}
 use borrow.Author.Needs.{needs}
 use Rattle.store.proofs.replace_action.Statement.{statement}
 use Rattle.store.proofs.replace_action.Tie as tie
@@ -41,7 +41,7 @@ returns c =
     let new : List ℕ = now (a .action) in
     let at : ℕ = 220 * a .i + 148 in
     rw (part-copied s (w .last .1 .0) new at (at + 72 - at) (w .ensures) (omega arith) (omega arith))
-    (action-over (a .i) (a .count) s new (omega arith) (omega arith) (omega arith) (omega arith))
+    (action-over (a .i) (a .tables) s new (omega arith) (omega arith) (omega arith) (omega arith))
 
 pub replace-action-spec : {M : Type 1} → statement M
 replace-action-spec =

@@ -11,7 +11,8 @@ use Rattle.rules.proofs.Lists.{parts-from}
 use Rattle.rules.specs.Bytes.{part, parts}
 use Rattle.buffers.specs.Splice.{splice}
 use Rattle.buffers.proofs.Splice.{take-splice, drop-splice, splice-front, splice-end, length-splice, part-splice, part-back, length-window}
-use Rattle.store.specs.Store.{entriesIn, without, insertedAt, Left}
+use Rattle.store.specs.declared.Tables.{Tables}
+use Rattle.store.specs.Store.{entriesIn, without, insertedAt, changedAt, Holds}
 
 -- ---- where a part stands
 
@@ -86,15 +87,16 @@ parts-set i n w j l ys h g b =
     ap (parts n w) (sym (part-splice l (w * i) w j ys b g) ∙ part-back l (w * i) w e s) ∙ parts-replace i n w l e h g s
 
 -- over the action and parameters of entry i
-pub action-over : (i count : ℕ) (s new : List ℕ) → i < count → count ≤ 256 → 56_320 ≤ length s → length new ≡ 72
-    → Left s (splice s (220 * i + 148) new) count (set (entriesIn count s) i (take 148 (getD (entriesIn count s) i []) ++ new))
-action-over i count s new h few room l =
+pub action-over : (i : ℕ) (tables : Tables) (s new : List ℕ) → i < tables .count → tables .count ≤ 256 → 56_320 ≤ length s
+    → length new ≡ 72 → Holds s (splice s (220 * i + 148) new) tables (changedAt i new (entriesIn tables s))
+action-over i tables s new h few room l =
     let old : List ℕ = part (220 * i) 220 s in
     let o : length old ≡ 220 = length-window (220 * i) 220 s (omega arith) in
-    rw (parts-at i count 220 s h) (record {
+    rw (parts-at i (tables .count) 220 s h) (record {
       holds =
-          parts-set i count 220 148 s new h (omega arith) (omega arith)
-          ∙ ap (set (entriesIn count s) i) (splice-end old 148 new (omega arith));
+          parts-set i (tables .count) 220 148 s new h (omega arith) (omega arith)
+          ∙ ap (set (entriesIn tables s) i) (splice-end old 148 new (omega arith));
+      few = few;
       room = length-splice s (220 * i + 148) new (omega arith);
       beyond = drop-splice 56_320 s (220 * i + 148) new (omega arith) (omega arith);
     })

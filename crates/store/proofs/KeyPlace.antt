@@ -15,6 +15,7 @@ use Rattle.rules.specs.Sound.{Distinct}
 use Rattle.rules.proofs.Tests.{or-false, same-true}
 use Rattle.rules.proofs.Formed.{parts-count}
 use Rattle.rules.proofs.Tables.{Free}
+use Rattle.store.specs.declared.Tables.{Tables}
 use Rattle.store.specs.Store.{entriesIn, placeFrom, place, without}
 
 -- entry i is the first that has the key
@@ -67,8 +68,8 @@ unfolding stored
 place-stored k es = (free k 0 es, λ i p. let a = at k es i p in (inside a, is-stored a, has-key a))
 
 -- the place found in a store is that of one of its entries
-pub place-below : (k : List ℕ) (count : ℕ) (store : List ℕ) (i : ℕ) → place k (entriesIn count store) ≡ some i → i < count
-place-below k count store i p = omega (arith, place-stored k (entriesIn count store) .1 i p .0, parts-count count 220 store)
+pub place-below : (k : List ℕ) (tables : Tables) (store : List ℕ) (i : ℕ) → place k (entriesIn tables store) ≡ some i → i < tables .count
+place-below k tables store i p = omega (arith, place-stored k (entriesIn tables store) .1 i p .0, parts-count (tables .count) 220 store)
 
 -- ---- entries without the key
 
