@@ -1,14 +1,13 @@
 -- Right because the key of an entry is its first 148 bytes. Assumes nothing.
 use Prim.Native.Nat.{ℕ}
-use native.Mathlib.Omega.{arith}
 use mathlib.Core.Path.{ap, _∙_}
 use mathlib.Core.List.{List}
 use denote.Ref.{now}
 use Rattle.rules.proofs.Shortest.{key-of-key}
 use Rattle.store.specs.Store.{entriesIn, place}
 use borrow.Author.Needs.{needs}
-use Rattle.updates.proofs.locate.Statement.{statement}
-use Rattle.updates.proofs.locate.Tie as tie
+use Rattle.judging.proofs.locate.Statement.{statement}
+use Rattle.judging.proofs.locate.Tie as tie
 
 sub-look-up : tie.Need-sub-look-up
 sub-look-up c = search needs
@@ -28,8 +27,8 @@ look-up-requires c κs = search needs
 returns : tie.Need-returns
 returns c =
     let a = c .before .before .before .before .before .before .args in
-    c .before .look-up .ensures
-    ∙ ap (λ (k : List ℕ). place k (entriesIn (a .count) (now (a .store)))) (key-of-key (now (a .entry)))
+    let e = c .before .look-up .ensures in
+    (e .0 ∙ ap (λ (k : List ℕ). place k (entriesIn (a .tables) (now (a .store)))) (key-of-key (now (a .entry))), e .1)
 
 pub locate-spec : {M : Type 1} → statement M
 locate-spec =
