@@ -4,21 +4,22 @@ use native.Mathlib.Omega.{arith}
 use mathlib.Core.Path.{_≡_, refl, sym, ap, _∙_}
 use mathlib.Core.List.{List, [], _∷_, _++_}
 use mathlib.Core.Option.{some}
-use lib.ListN.{length, take, drop, getD, set, length-append, length-drop, take-append-drop}
+use lib.ListN.{length, take, drop, getD, set, length-append, length-drop, length-set, take-append-drop}
 use lib.Seq.{take-all, take-at, drop-at, drop-drop, split-at, set-set, set-getD, getD-set-same, length-take-le}
-use borrow.Author.Tests.{lt-ltb, le-ltb, ne-eqb, eqb-false}
+use borrow.Author.Tests.{ne-eqb, eqb-false}
 use Rattle.rules.specs.Bytes.{byte, part}
 use Rattle.rules.specs.Key.{shortKey, keyOf}
+use Rattle.rules.specs.Entry.{shortEntry}
 use Rattle.rules.proofs.Lists.{drop-take}
 use Rattle.rules.proofs.Tests.{same-true}
 use Rattle.rules.proofs.Shortest.{key-length}
-use Rattle.rules.proofs.Formed.{parts-count}
-use Rattle.store.specs.Store.{entriesIn, place, without, Left}
-use Rattle.store.proofs.Parts.{parts-at, parts-fewer}
-use Rattle.store.proofs.Places.{place-stored, place-below}
-use Rattle.updates.specs.Undo.{Note, Added, Changed, Removed, noteOf, noted, undone, Fits, Undone, Undoing, UndoAfterApply}
-use Rattle.updates.specs.Update.{Performed}
-use Rattle.updates.specs.declared.Verdict.the-variants.{Refused, Insert, Modify, Delete}
+use Rattle.store.specs.declared.Tables.{Tables}
+use Rattle.store.specs.Store.{entriesIn, place, without, insertedAt, changedAt, Holds}
+use Rattle.store.proofs.Writes.{parts-at}
+use Rattle.store.proofs.KeyPlace.{place-stored}
+use Rattle.judging.specs.declared.Verdict.the-variants.{Refused, Insert, Modify, Delete}
+use Rattle.changes.specs.Effect.{effect}
+use Rattle.changes.specs.Undo.{Added, Changed, Removed, noteOf, noted, undone, Undoable, Undoing, UndoAfterApply}
 
 -- ---- undo after apply, on the entries
 
@@ -29,7 +30,7 @@ undo-added es e =
 
 -- the key stays under a change, so that the old action behind it is the old entry
 undo-changed : (es : List (List ℕ)) (i : ℕ) (a : List ℕ) → i < length es → length (keyOf (getD es i [])) ≡ 148
-    → undone (Changed i (drop 148 (getD es i []))) (set es i (take 148 (getD es i []) ++ a)) ≡ es
+    → undone (Changed i (drop 148 (getD es i []))) (changedAt i a es) ≡ es
 undo-changed es i a h l =
     let old : List ℕ = getD es i [] in
     rw (getD-set-same es i (take 148 old ++ a) [] h, take-at (take 148 old) a 148 l, take-append-drop 148 old)
@@ -69,17 +70,10 @@ type-written (x ∷ note) kind l = refl
 -- ---- what is noted of a verdict
 
 -- the action and parameters of entry i are its last 72 bytes
-pub action-at : (i count : ℕ) (store : List ℕ) → i < count → drop 148 (getD (entriesIn count store) i []) ≡ part (220 * i + 148) 72 store
-action-at i count store h =
-    ap (drop 148) (parts-at i count 220 store h) ∙ drop-take 148 220 (drop (220 * i) store) ∙ ap (take 72) (drop-drop 148 (220 * i) store)
-
-module _ (count i : ℕ) (store note : List ℕ) where
-  pub noted-inside : i < count → (noted (Modify i) count store note ≡ 2 ∷ i ∷ drop 148 (getD (entriesIn count store) i []))
-      × (noted (Delete i) count store note ≡ 3 ∷ i ∷ drop 148 (getD (entriesIn count store) i []))
-  noted-inside h = (rw (lt-ltb i count h) refl, rw (lt-ltb i count h) refl)
-
-  pub noted-outside : count ≤ i → (noted (Modify i) count store note ≡ note) × (noted (Delete i) count store note ≡ note)
-  noted-outside h = (rw (le-ltb i count h) refl, rw (le-ltb i count h) refl)
+pub action-at : (i : ℕ) (tables : Tables) (store : List ℕ) → i < tables .count
+    → drop 148 (getD (entriesIn tables store) i []) ≡ part (220 * i + 148) 72 store
+action-at i tables store h =
+    ap (drop 148) (parts-at i (tables .count) 220 store h) ∙ drop-take 148 220 (drop (220 * i) store) ∙ ap (take 72) (drop-drop 148 (220 * i) store)
 
 -- ---- undo after apply
 
@@ -92,78 +86,62 @@ entry-found : (k : List ℕ) (es : List (List ℕ)) (i : ℕ) → place k es ≡
 entry-found k es i p =
     ap (λ (x : List ℕ). x ++ drop 148 (getD es i [])) (sym (key-found k es i p)) ∙ take-append-drop 148 (getD es i [])
 
-module _ (u : List ℕ) (count : ℕ) (before after note : List ℕ) (n : ℕ) (few : count ≤ 256) (long : length u ≡ 221) where
-  abbrev es : List (List ℕ)
-  es = entriesIn count before
-
+module _ (u : List ℕ) (es : List (List ℕ)) (note : List ℕ) (few : length es ≤ 256) (long : length u ≡ 221) where
   abbrev key : List ℕ
   key = shortKey (drop 1 u)
 
-  insert-undone : Performed Insert count before after (drop 1 u) n → count < 256
-      → Undoing (noteOf (noted Insert count before note) u) (entriesIn n after) es
-  insert-undone p h =
-      let q = p .0 h in
-      rw (note-one (1 ∷ drop 1 note) u refl) (record {
-        fits = omega (arith, parts-count n 220 after, q .0);
-        back = rw (q .1 .holds) (undo-added es _);
-      })
+  insert-undone : Undoing (noteOf (noted Insert es note) u) (effect Insert (drop 1 u) es) es
+  insert-undone = rw (note-one (1 ∷ drop 1 note) u refl) (record {
+    possible = omega (arith, length-append es (shortEntry (drop 1 u) ∷ []));
+    back = undo-added es _;
+  })
 
-  modify-undone : (i : ℕ) → Performed (Modify i) count before after (drop 1 u) n → place key es ≡ some i
-      → Undoing (noteOf (noted (Modify i) count before note) u) (entriesIn n after) es
-  modify-undone i p f =
-      let h : i < count = place-below key count before i f in
-      let q = p .0 h in
+  modify-undone : (i : ℕ) → place key es ≡ some i → Undoing (noteOf (noted (Modify i) es note) u) (effect (Modify i) (drop 1 u) es) es
+  modify-undone i f =
+      let h : i < length es = place-stored key es .1 i f .0 in
       let l : length (keyOf (getD es i [])) ≡ 148 = ap length (key-found key es i f) ∙ key-length (drop 1 u) (omega (arith, length-drop 1 u)) in
-      rw (noted-inside count i before note h .0, note-two (2 ∷ i ∷ drop 148 (getD es i [])) u refl) (record {
-        fits = omega (arith, h, parts-count n 220 after, q .0);
-        back = rw (q .1 .holds) (undo-changed es i _ (omega (arith, h, parts-count count 220 before)) l);
+      rw (note-two (2 ∷ i ∷ drop 148 (getD es i [])) u refl) (record {
+        possible = simp length-set h;
+        back = undo-changed es i _ h l;
       })
 
-  delete-undone : (i : ℕ) → Performed (Delete i) count before after (drop 1 u) n → place key es ≡ some i
-      → Undoing (noteOf (noted (Delete i) count before note) u) (entriesIn n after) es
-  delete-undone i p f =
-      let h : i < count = place-below key count before i f in
-      let q = p .0 h in
+  delete-undone : (i : ℕ) → place key es ≡ some i → Undoing (noteOf (noted (Delete i) es note) u) (effect (Delete i) (drop 1 u) es) es
+  delete-undone i f =
+      let h : i < length es = place-stored key es .1 i f .0 in
       let b : List ℕ = 3 ∷ i ∷ drop 148 (getD es i []) in
-      rw (noted-inside count i before note h .1, note-other b u (eqb-false 3 1 refl) (eqb-false 3 2 refl), entry-found key es i f) (record {
-        fits = (omega (arith, h, parts-count n 220 after, q .0), omega (arith, few, h, parts-count n 220 after, q .0));
-        back = rw (q .1 .holds) (undo-removed es i (omega (arith, h, parts-count count 220 before)));
+      let a : length (take i es) ≡ i = length-take-le i es (omega arith) in
+      let c : length (without i es) ≡ length (take i es) + length (drop (suc i) es) = length-append (take i es) (drop (suc i) es) in
+      let d : length (drop (suc i) es) ≡ length es - suc i = length-drop (suc i) es in
+      rw (note-other b u (eqb-false 3 1 refl) (eqb-false 3 2 refl), entry-found key es i f) (record {
+        possible = (omega arith, omega arith);
+        back = undo-removed es i h;
       })
 
 pub undo-after-apply : UndoAfterApply
-undo-after-apply (Refused r) type u count before after note n few long z m p = absurd (omega arith)
-undo-after-apply Insert type u count before after note n few long z m p =
-    insert-undone u count before after note n few long p (omega (arith, m .1, parts-count count 220 before))
-undo-after-apply (Modify i) type u count before after note n few long z m p =
-    modify-undone u count before after note n few long i p (m .2)
-undo-after-apply (Delete i) type u count before after note n few long z m p =
-    delete-undone u count before after note n few long i p (m .2)
-
--- ---- what undoing a note that fits leaves
-
-pub undone-left : (note : Note) (count : ℕ) (before after : List ℕ) (n : ℕ) → Fits note count → Undone note count before after n
-    → Left before after n (undone note (entriesIn count before))
-undone-left Added count before after n f u =
-    let l : length (entriesIn count before) ≡ count = parts-count count 220 before in
-    rw (u .0, u .1, l) (record { holds = sym (parts-fewer (count - 1) count 220 before (omega arith)); room = refl; beyond = refl })
-undone-left (Changed i action) count before after n f u = u .0 f .1
-undone-left (Removed i old) count before after n f u = u .0 (f .0) (f .1) .1
+undo-after-apply (Refused r) type u es note few long z j = absurd (omega arith)
+undo-after-apply Insert type u es note few long z j = insert-undone u es note few long
+undo-after-apply (Modify i) type u es note few long z j = modify-undone u es note few long i (j .2)
+undo-after-apply (Delete i) type u es note few long z j = delete-undone u es note few long i (j .2)
 
 -- ---- undoing a note, by its type
 
-module _ (note u before after : List ℕ) (count n : ℕ) where
-  abbrev Done : Type 0
-  Done = Undone (noteOf note u) count before after n
+module _ (note u before after : List ℕ) (tables r : Tables) where
+  abbrev es : List (List ℕ)
+  es = entriesIn tables before
 
-  pub undone-one : byte 0 note ≡ 1 → n ≡ count - 1 → after ≡ before → Done
-  undone-one e r o = rw (note-one note u e) (r, o)
+  abbrev Back : Type 0
+  Back = Undoable (noteOf note u) (tables .count) → Holds before after r (undone (noteOf note u) es)
+
+  pub back-one : byte 0 note ≡ 1 → Holds before after r (take (length es - 1) es) → Back
+  back-one e h = rw (note-one note u e) (λ f. h)
 
   module _ {i : ℕ} (at : i ≡ byte 1 note) where
-    pub undone-two : length note ≡ 74 → byte 0 note ≡ 2 → Undone (Changed i (take 72 (drop 2 note))) count before after n → Done
-    undone-two long e r =
+    pub back-two : length note ≡ 74 → byte 0 note ≡ 2 → (i < tables .count → Holds before after r (changedAt i (take 72 (drop 2 note)) es))
+        → Back
+    back-two long e h =
         let a : take 72 (drop 2 note) ≡ drop 2 note = take-all 72 (drop 2 note) (omega (arith, length-drop 2 note)) in
-        rw (note-two note u e, ← at, ← a) r
+        rw (note-two note u e, ← at, ← a) h
 
-    pub undone-other : (byte 0 note ≡ 1 → ⊥) → (byte 0 note ≡ 2 → ⊥)
-        → Undone (Removed i (shortKey (drop 1 u) ++ drop 2 note)) count before after n → Done
-    undone-other a b r = rw (note-other note u a b, ← at) r
+    pub back-other : (byte 0 note ≡ 1 → ⊥) → (byte 0 note ≡ 2 → ⊥)
+        → (i ≤ tables .count → tables .count < 256 → Holds before after r (insertedAt i (shortKey (drop 1 u) ++ drop 2 note) es)) → Back
+    back-other a b h = rw (note-other note u a b, ← at) (λ f. h (f .0) (f .1))

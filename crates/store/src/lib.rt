@@ -1,7 +1,7 @@
 // Where entries are in the store: key search, counting, deletion, putting back, and gathering for READ.
 ghost use mathlib.Core.Path.{_≡_};
 ghost use mathlib.Core.List.{List};
-ghost use Prim.Native.Nat.{ℕ, _+_, _/_, _≤_, _<_, min};
+ghost use Prim.Native.Nat.{ℕ, _+_, _-_, _/_, _≤_, _<_, min};
 ghost use lib.Dec.{leb};
 ghost use lib.ListN.{length, take};
 ghost use Rattle.rules.specs.Bytes.{keep, concat, part, same};
@@ -22,6 +22,19 @@ impl Tables {
         ensures { λ r. ⌜ ((store : List ℕ) → tablesIn r store ≡ noEntries) ⌝ }
     {
         Tables { count: 0 }
+    }
+
+    // Without the last entry, if there is one.
+    pub fn without_last(self) -> Tables
+        ensures bound { λ r. ⌜ r .count ≤ self .count ⌝ }
+        ensures entries { λ r. ⌜ ((store : List ℕ) → entriesIn r store ≡ take (length (entriesIn self store) - 1) (entriesIn self store)) ⌝ }
+    {
+        if self.count == 0 {
+            return self;
+        }
+        Tables {
+            count: self.count - 1,
+        }
     }
 
     // 24: whether there is no room for one more entry.

@@ -9,10 +9,10 @@ use Rattle.rules.specs.Entry.{shortEntry}
 use Rattle.rules.proofs.Shortest.{entry-length}
 use Rattle.buffers.proofs.Splice.{drop-splice, length-splice}
 use Rattle.values.proofs.Pieces.{rest-back}
-use Rattle.store.proofs.Parts.{parts-append}
+use Rattle.store.proofs.Writes.{parts-append}
 use borrow.Author.Needs.{needs}
-use Rattle.updates.proofs.insert.Statement.{statement}
-use Rattle.updates.proofs.insert.Tie as tie
+use Rattle.changes.proofs.insert.Statement.{statement}
+use Rattle.changes.proofs.insert.Tie as tie
 
 mul-at : tie.Need-mul-at
 mul-at c = search needs
@@ -29,6 +29,9 @@ part-shorten-entry-end c = search needs
 shorten-entry-requires : tie.Need-shorten-entry-requires
 shorten-entry-requires c κs = search needs
 
+add-t8 : tie.Need-add-t8
+add-t8 c = search needs
+
 same-length : tie.Need-same-length
 same-length c = search needs
 
@@ -36,12 +39,13 @@ returns : tie.Need-returns
 returns c =
     let a = c .before .before .before .before .before .before .args in
     let s : List ℕ = now (a .store) in
-    let at : ℕ = 220 * a .count in
+    let at : ℕ = 220 * a .tables .count in
     let new : List ℕ = shortEntry (now (a .entry)) in
     let l : length new ≡ 220 = entry-length (now (a .entry)) (omega arith) in
     let w = c .before .before .shorten-entry in
     rw (rest-back s (w .last .1 .0) new at (w .ensures) (omega arith)) (record {
-      holds = parts-append (a .count) 220 s new (omega arith) l;
+      holds = parts-append (a .tables .count) 220 s new (omega arith) l;
+      few = omega arith;
       room = length-splice s at new (omega arith);
       beyond = drop-splice 56_320 s at new (omega arith) (omega arith);
     })
@@ -55,5 +59,6 @@ insert-spec =
     part-shorten-entry-start
     part-shorten-entry-end
     shorten-entry-requires
+    add-t8
     same-length
     returns)

@@ -8,10 +8,10 @@ use denote.Ref.{now}
 use Rattle.rules.specs.Entry.{shortEntry}
 use Rattle.rules.proofs.Shortest.{entry-length}
 use Rattle.values.proofs.Pieces.{rest-back}
-use Rattle.store.proofs.Parts.{action-over}
+use Rattle.store.proofs.Writes.{action-over}
 use borrow.Author.Needs.{needs}
-use Rattle.updates.proofs.modify.Statement.{statement}
-use Rattle.updates.proofs.modify.Tie as tie
+use Rattle.changes.proofs.modify.Statement.{statement}
+use Rattle.changes.proofs.modify.Tie as tie
 
 mul-at : tie.Need-mul-at
 mul-at c = search needs
@@ -43,7 +43,7 @@ returns c =
     let l : length new ≡ 72 = length-drop 148 e ∙ ap (λ (n : ℕ). n - 148) (entry-length (now (a .entry)) (omega arith)) in
     let w = c .before .before .shorten-action in
     rw (rest-back s (w .last .1 .0) new (220 * a .i + 148) (w .ensures) (omega arith))
-    (action-over (a .i) (a .count) s new (omega arith) (omega arith) (omega arith) l)
+    (action-over (a .i) (a .tables) s new (omega arith) (omega arith) (omega arith) l)
 
 pub modify-spec : {M : Type 1} → statement M
 modify-spec =

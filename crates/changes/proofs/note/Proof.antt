@@ -4,10 +4,10 @@ use Prim.Native.Nat.{ℕ, _<_}
 use denote.Ref.{now}
 use mathlib.Core.Path.{refl, sym, ap, _∙_}
 use mathlib.Core.List.{List, _∷_}
-use Rattle.updates.proofs.Undoing.{action-at, type-written, noted-inside, noted-outside}
+use Rattle.changes.proofs.Undoing.{action-at, type-written}
 use borrow.Author.Needs.{needs}
-use Rattle.updates.proofs.note.Statement.{statement}
-use Rattle.updates.proofs.note.Tie as tie
+use Rattle.changes.proofs.note.Statement.{statement}
+use Rattle.changes.proofs.note.Tie as tie
 
 enum-told : tie.Need-enum-told
 enum-told c = search needs
@@ -21,14 +21,25 @@ slice-write-note c = search needs
 enum-known-verdict : tie.Need-enum-known-verdict
 enum-known-verdict c = search needs
 
+-- the place is that of an entry
+modified : (v : tie.After-verdict) → v .verdict .given .0 .0 < v .before .before .before .before .args .tables .count
+modified v = rw (v .verdict .given .1) at (v .before .before .before .before .pre .0)
+
 note-entry-requires : tie.Need-note-entry-requires
-note-entry-requires c κs = search needs
+note-entry-requires c κs =
+    let h = modified (c .before .before) in
+    (omega (arith, h), omega (arith, h), search needs)
 
 enum-known-verdict-2 : tie.Need-enum-known-verdict-2
 enum-known-verdict-2 c = search needs
 
+deleted : (v : tie.After-verdict2) → v .verdict2 .given .0 .0 < v .before .before .before .before .args .tables .count
+deleted v = rw (v .verdict2 .given .1) at (v .before .before .before .before .pre .0)
+
 note-entry-requires-2 : tie.Need-note-entry-requires-2
-note-entry-requires-2 c κs = search needs
+note-entry-requires-2 c κs =
+    let h = deleted (c .before .before) in
+    (omega (arith, h), omega (arith, h), search needs)
 
 returns : tie.Need-returns
 returns c = rw (c .enum-told .given .1) refl
@@ -44,40 +55,22 @@ same-length-2 c = search needs
 
 returns-3 : tie.Need-returns-3
 returns-3 c =
-    let a = c .before .before .before .before .before .before .before .before .before .before .args in
-    let v = c .before .before .before .before .before .before .verdict in
-    let i : ℕ = v .given .0 .0 in
-    let h : i < a .count = omega arith in
-    rw (v .given .1)
-    (c .before .before .note-entry .ensures
-    ∙ ap (λ (e : List ℕ). 2 ∷ i ∷ e) (sym (action-at i (a .count) (now (a .store)) h))
-    ∙ sym (noted-inside (a .count) i (now (a .store)) (now (a .note)) h .0))
-
-returns-4 : tie.Need-returns-4
-returns-4 c =
-    let a = c .before .before .before .before .before .before .args in
-    let v = c .before .before .verdict in
-    rw (v .given .1) (sym (noted-outside (a .count) (v .given .0 .0) (now (a .store)) (now (a .note)) (omega arith) .0))
+    let v = c .before .before .before .before .before in
+    let a = v .before .before .before .before .args in
+    let i : ℕ = v .verdict .given .0 .0 in
+    rw (v .verdict .given .1)
+    (c .before .before .note-entry .ensures ∙ ap (λ (e : List ℕ). 2 ∷ i ∷ e) (sym (action-at i (a .tables) (now (a .store)) (modified v))))
 
 same-length-3 : tie.Need-same-length-3
 same-length-3 c = search needs
 
-returns-5 : tie.Need-returns-5
-returns-5 c =
-    let a = c .before .before .before .before .before .before .before .before .before .before .args in
-    let v = c .before .before .before .before .before .before .verdict2 in
-    let i : ℕ = v .given .0 .0 in
-    let h : i < a .count = omega arith in
-    rw (v .given .1)
-    (c .before .before .note-entry2 .ensures
-    ∙ ap (λ (e : List ℕ). 3 ∷ i ∷ e) (sym (action-at i (a .count) (now (a .store)) h))
-    ∙ sym (noted-inside (a .count) i (now (a .store)) (now (a .note)) h .1))
-
-returns-6 : tie.Need-returns-6
-returns-6 c =
-    let a = c .before .before .before .before .before .before .args in
-    let v = c .before .before .verdict2 in
-    rw (v .given .1) (sym (noted-outside (a .count) (v .given .0 .0) (now (a .store)) (now (a .note)) (omega arith) .1))
+returns-4 : tie.Need-returns-4
+returns-4 c =
+    let v = c .before .before .before .before .before in
+    let a = v .before .before .before .before .args in
+    let i : ℕ = v .verdict2 .given .0 .0 in
+    rw (v .verdict2 .given .1)
+    (c .before .before .note-entry2 .ensures ∙ ap (λ (e : List ℕ). 3 ∷ i ∷ e) (sym (action-at i (a .tables) (now (a .store)) (deleted v))))
 
 pub note-spec : {M : Type 1} → statement M
 note-spec =
@@ -95,7 +88,5 @@ note-spec =
     returns-2
     same-length-2
     returns-3
-    returns-4
     same-length-3
-    returns-5
-    returns-6)
+    returns-4)

@@ -8,10 +8,10 @@ use borrow.Rule.Slice.PartMut.{same-len-mid}
 use denote.Ref.{now}
 use Rattle.rules.specs.Bytes.{part}
 use Rattle.buffers.proofs.Splice.{part-copied, splice-end, length-window}
-use Rattle.updates.proofs.Undoing.{note-written}
+use Rattle.changes.proofs.Undoing.{note-written}
 use borrow.Author.Needs.{needs}
-use Rattle.updates.proofs.note_entry.Statement.{statement}
-use Rattle.updates.proofs.note_entry.Tie as tie
+use Rattle.changes.proofs.note_entry.Statement.{statement}
+use Rattle.changes.proofs.note_entry.Tie as tie
 
 mul-from : tie.Need-mul-from
 mul-from c = search needs

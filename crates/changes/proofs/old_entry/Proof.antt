@@ -13,8 +13,8 @@ use Rattle.rules.proofs.Shortest.{key-length}
 use Rattle.buffers.specs.Splice.{splice}
 use Rattle.buffers.proofs.Splice.{part-copied, splice-next, splice-end, length-splice}
 use borrow.Author.Needs.{needs}
-use Rattle.updates.proofs.old_entry.Statement.{statement}
-use Rattle.updates.proofs.old_entry.Tie as tie
+use Rattle.changes.proofs.old_entry.Statement.{statement}
+use Rattle.changes.proofs.old_entry.Tie as tie
 
 -- the two pieces, one behind the other: `keyed` has the key, and `piece` comes back as its last 72 bytes
 made : (u note before keyed piece : List ℕ) → length u ≡ 221 → length note ≡ 74 → length before ≡ 220

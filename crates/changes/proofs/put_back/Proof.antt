@@ -1,7 +1,7 @@
 -- Right because the entry that is put in is the one that was deleted. Assumes nothing.
 use borrow.Author.Needs.{needs}
-use Rattle.updates.proofs.put_back.Statement.{statement}
-use Rattle.updates.proofs.put_back.Tie as tie
+use Rattle.changes.proofs.put_back.Statement.{statement}
+use Rattle.changes.proofs.put_back.Tie as tie
 
 slice-aggregate-old-entry : tie.Need-slice-aggregate-old-entry
 slice-aggregate-old-entry c = search needs
