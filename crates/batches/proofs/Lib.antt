@@ -1,3 +1,3 @@
--- Laws of batches.
-pub mod Batches
-pub mod Rollbacks
+-- Laws of batches: of updates that each succeed or fail alone, and of all or none.
+pub mod EachAlone
+pub mod AllOrNone

@@ -7,7 +7,7 @@ use lib.Dec.{eqb}
 use Rattle.rules.specs.Bytes.{every, parts}
 use Rattle.rules.specs.Frame.{Update, updateOf}
 use Rattle.rules.specs.Update.{Batch}
-use Rattle.store.specs.Store.{Left}
+use Rattle.store.specs.Store.{Holds}
 use Rattle.batches.specs.declared.Progress.{Progress}
 use Rattle.batches.specs.declared.Written.{Written}
 
@@ -17,9 +17,9 @@ updatesIn n us = map updateOf (parts n 221 us)
 
 -- what a batch that came to its end leaves
 abbrev pub writtenOf : Progress → Written
-writtenOf a = record { count = a .count; failed = not (eqb (a .reason) 0) }
+writtenOf a = record { tables = a .tables; failed = not (eqb (a .reason) 0) }
 
 -- the store holds what the batch leaves, in its order; free bytes may be any
 pub record BatchApplied (b : Batch) (before after : List ℕ) (w : Written) : Type 0 where
   pub failed : w .failed ≡ not (every (eqb 0) (b .reasons))
-  pub left : Left before after (w .count) (b .tables .entries)
+  pub left : Holds before after (w .tables) (b .tables .entries)

@@ -5,29 +5,39 @@ ghost use Prim.Native.Nat.{ℕ, _+_, _*_, _≤_, _<_};
 ghost use lib.Dec.{eqb};
 ghost use lib.ListN.{length, drop};
 ghost use Rattle.rules.specs.Bytes.{if_then_else_, concat};
-ghost use Rattle.rules.specs.Update.{eachAlone, rolledBack, batch as batchOf};
+ghost use Rattle.rules.specs.Frame.{updateOf};
+ghost use Rattle.rules.specs.Update.{judgeBy, apply, eachAlone, rolledBack, batch as batchOf};
 ghost use Rattle.rules.specs.Call.{pairOf};
+ghost use Rattle.rules.specs.Sound.{Distinct};
 ghost use Rattle.buffers.specs.Splice.{splice};
-ghost use Rattle.rows.specs.Meaning.{rowsOf};
-ghost use Rattle.store.specs.Store.{entriesIn, tablesIn, Left};
-ghost use Rattle.updates.specs.Update.{Tidy};
+ghost use Rattle.rows.specs.Meaning.{rowOf, rowsOf};
+ghost use Rattle.store.specs.Store.{entriesIn, tablesIn, Holds};
+ghost use Rattle.judging.specs.Verdict.{Possible};
 ghost use Rattle.batches.specs.Batch.{updatesIn, writtenOf, BatchApplied};
-ghost use Rattle.batches.specs.Rollback.{notedAt, Undoes, Stopped};
+ghost use Rattle.batches.specs.Rollback.{notedAt, Noted, Undoes, Stopped};
+use judging::Verdict;
 use numbers::integer;
+use rows::Lookup;
 use rows::Rows;
-use updates::Verdict;
+use store::Tables;
 
-// What a batch leaves: the number of entries, and whether an update failed.
+// What a batch leaves, and whether an update failed.
 pub struct Written {
-    pub count: usize,
+    pub tables: Tables,
     pub failed: bool,
 }
 
-// How far a batch came: the number of entries, how many updates were taken before the one that stopped it (all n where none did),
-// and the reason of the last one that failed (0: none did).
+// How far a batch came: what it leaves, how many updates were taken before the one that stopped it (all n where none did), and the
+// reason of the last one that failed (0: none did).
 struct Progress {
-    count: usize,
+    tables: Tables,
     done: usize,
+    reason: u8,
+}
+
+// What one update leaves, and its reason.
+struct Taken {
+    tables: Tables,
     reason: u8,
 }
 
@@ -47,75 +57,112 @@ fn note_update(
     atomicity: u8,
     verdict: Verdict,
     store: &[u8],
-    count: usize,
+    tables: Tables,
     log: &mut [u8],
     i: usize,
 )
-    requires { ⌜ (count ≤ 256) × (56320 ≤ length (now store)) × (atomicity ≡ 1 → 74 * i + 74 ≤ length (now log)) ⌝ }
-    ensures long { λ _. ⌜ (atomicity ≡ 1 → length (notedAt i verdict count (now (store .entry)) (now (log .entry))) ≡ 74) ⌝ }
-    ensures note { λ _. ⌜ (atomicity ≡ 1 → now (log .exit) ≡ splice (now (log .entry)) (74 * i) (notedAt i verdict count (now (store .entry)) (now (log .entry)))) ⌝ }
+    requires { ⌜ Possible verdict tables × (tables .count ≤ 256) × (56320 ≤ length (now store)) × (atomicity ≡ 1 → 74 * i + 74 ≤ length (now log)) ⌝ }
+    ensures long { λ _. ⌜ (atomicity ≡ 1 → length (notedAt i verdict (entriesIn tables (now (store .entry))) (now (log .entry))) ≡ 74) ⌝ }
+    ensures note { λ _. ⌜ (atomicity ≡ 1 → now (log .exit) ≡ splice (now (log .entry)) (74 * i) (notedAt i verdict (entriesIn tables (now (store .entry))) (now (log .entry)))) ⌝ }
 {
     if atomicity != 1 {
         return;
     }
     let at = 74 * i;
     let end = at + 74;
-    updates::note(verdict, store, count, &mut log[at..end]);
+    changes::note(verdict, store, tables, &mut log[at..end]);
 }
 
-// Takes the n updates in order: each is judged, its pair written, and done where nothing refused it. With atomicity 1 what each will
-// do is noted beforehand, and the first that fails stops the batch.
+// Takes update i, of 221 bytes: it is judged by what the rows say of its table, its pair is written, and it is done where nothing refused
+// it. With atomicity 1 what it will do is noted beforehand.
+fn step(
+    found: Lookup,
+    role: u8,
+    atomicity: u8,
+    store: &mut [u8],
+    tables: Tables,
+    update: &[u8],
+    log: &mut [u8],
+    i: usize,
+    answer: &mut [u8],
+) -> Taken
+    requires { ⌜ (tables .count ≤ 256) × (56320 ≤ length (now store)) × (length (now update) ≡ 221) × (atomicity ≡ 1 → 74 * i + 74 ≤ length (now log)) × (2 * i + 2 ≤ length (now answer)) ⌝ }
+    ensures reason { λ r. ⌜ r .reason ≡ judgeBy (found .known) (rowOf (found .row)) role (tablesIn tables (now (store .entry))) (updateOf (now (update .entry))) ⌝ }
+    ensures pair { λ r. ⌜ now (answer .exit) ≡ splice (now (answer .entry)) (2 * i) (pairOf (r .reason)) ⌝ }
+    ensures few { λ r. ⌜ r .tables .count ≤ 256 ⌝ }
+    ensures left { λ r. ⌜ (Distinct (entriesIn tables (now (store .entry))) → Holds (now (store .entry)) (now (store .exit)) (r .tables) (apply (r .reason) (updateOf (now (update .entry))) (tablesIn tables (now (store .entry))) .entries)) ⌝ }
+    ensures noted { λ r. ⌜ (atomicity ≡ 1 → r .reason ≡ 0 → Noted i (now (update .entry)) (entriesIn tables (now (store .entry))) (entriesIn (r .tables) (now (store .exit))) (now (log .entry)) (now (log .exit))) ⌝ }
+    ensures refused { λ r. ⌜ ((r .reason ≡ 0 → ⊥) → (now (store .exit) ≡ now (store .entry)) × (r .tables ≡ tables) × (now (log .exit) ≡ now (log .entry))) ⌝ }
+{
+    let verdict = judging::judge(found, role, store, tables, update);
+    let reason = verdict.reason();
+    let at = 2 * i;
+    write_pair(reason, &mut answer[at..]);
+    if reason != 0 {
+        return Taken { tables, reason };
+    }
+    note_update(atomicity, verdict, store, tables, log, i);
+    let left = changes::apply(verdict, store, tables, update);
+    Taken {
+        tables: left,
+        reason,
+    }
+}
+
+// Takes the n updates in order. With atomicity 1 the first that fails stops the batch.
 fn take(
     rows: Rows,
     role: u8,
     atomicity: u8,
     store: &mut [u8],
-    count: usize,
+    tables: Tables,
     updates: &[u8],
     n: usize,
     log: &mut [u8],
     answer: &mut [u8],
 ) -> Progress
-    requires { ⌜ (count ≤ 256) × (56320 ≤ length (now store)) × (length (now updates) ≡ 221 * n) × (2 * n ≤ length (now answer)) × (atomicity ≡ 1 → 74 * n ≤ length (now log)) ⌝ }
-    ensures bound { λ r. ⌜ (r .count ≤ 256) × (r .done ≤ n) ⌝ }
+    requires { ⌜ (tables .count ≤ 256) × (56320 ≤ length (now store)) × (length (now updates) ≡ 221 * n) × (2 * n ≤ length (now answer)) × (atomicity ≡ 1 → 74 * n ≤ length (now log)) ⌝ }
+    ensures bound { λ r. ⌜ (r .tables .count ≤ 256) × (r .done ≤ n) ⌝ }
     ensures none { λ r. ⌜ (atomicity ≡ 1 → r .done ≡ n → r .reason ≡ 0) ⌝ }
-    ensures left { λ r. ⌜ (r .done ≡ n → Tidy count (now (store .entry)) → BatchApplied (eachAlone (rowsOf rows) role (tablesIn count (now (store .entry))) (updatesIn n (now (updates .entry)))) (now (store .entry)) (now (store .exit)) (writtenOf r)) ⌝ }
-    ensures pairs { λ r. ⌜ (r .done ≡ n → Tidy count (now (store .entry)) → now (answer .exit) ≡ splice (now (answer .entry)) 0 (concat (map pairOf (eachAlone (rowsOf rows) role (tablesIn count (now (store .entry))) (updatesIn n (now (updates .entry))) .reasons)))) ⌝ }
-    ensures stopped { λ r. ⌜ (r .done < n → (atomicity ≡ 1) × (Tidy count (now (store .entry)) → Stopped (rowsOf rows) role count n (now (updates .entry)) (now (store .entry)) (now (store .exit)) (now (log .exit)) r)) ⌝ }
+    ensures left { λ r. ⌜ (r .done ≡ n → Distinct (entriesIn tables (now (store .entry))) → BatchApplied (eachAlone (rowsOf rows) role (tablesIn tables (now (store .entry))) (updatesIn n (now (updates .entry)))) (now (store .entry)) (now (store .exit)) (writtenOf r)) ⌝ }
+    ensures pairs { λ r. ⌜ (r .done ≡ n → Distinct (entriesIn tables (now (store .entry))) → now (answer .exit) ≡ splice (now (answer .entry)) 0 (concat (map pairOf (eachAlone (rowsOf rows) role (tablesIn tables (now (store .entry))) (updatesIn n (now (updates .entry))) .reasons)))) ⌝ }
+    ensures stopped { λ r. ⌜ (r .done < n → (atomicity ≡ 1) × (Distinct (entriesIn tables (now (store .entry))) → Stopped (rowsOf rows) role tables n (now (updates .entry)) (now (store .entry)) (now (store .exit)) (now (log .exit)) r)) ⌝ }
     ensures beyond { λ _. ⌜ drop (2 * n) (now (answer .exit)) ≡ drop (2 * n) (now (answer .entry)) ⌝ }
 {
-    let mut held = count;
+    let mut held = tables;
     let mut failure: u8 = 0;
     let mut i: usize = 0;
     while i < n {
         let from = 221 * i;
         let end = from + 221;
-        // the row alone is handed on: an update that was given the rows would copy them
-        let place = rows.position(integer(updates, from + 1, 4));
-        let within = place % 8;
-        let row = rows.rows[within];
-        let verdict = updates::judge(place < 8, row, role, store, held, &updates[from..end]);
-        let reason = verdict.reason();
-        let at = 2 * i;
-        write_pair(reason, &mut answer[at..]);
-        if reason != 0 {
-            failure = reason;
+        // the row alone is handed on: a step that was given the rows would copy them
+        let found = rows.find(integer(updates, from + 1, 4));
+        let taken = step(
+            found,
+            role,
+            atomicity,
+            store,
+            held,
+            &updates[from..end],
+            log,
+            i,
+            answer,
+        );
+        held = taken.tables;
+        if taken.reason != 0 {
+            failure = taken.reason;
             if atomicity == 1 {
                 return Progress {
-                    count: held,
+                    tables: held,
                     done: i,
-                    reason,
+                    reason: failure,
                 };
             }
-        }
-        if reason == 0 {
-            note_update(atomicity, verdict, store, held, log, i);
-            held = updates::apply(verdict, store, held, &updates[from..end]);
         }
         i += 1;
     }
     Progress {
-        count: held,
+        tables: held,
         done: n,
         reason: failure,
     }
@@ -123,12 +170,12 @@ fn take(
 
 // ---- a batch that was stopped is rolled back
 
-// Undoes the first n updates by their notes, the last one first; the number of entries then.
-fn roll_back(log: &[u8], updates: &[u8], n: usize, store: &mut [u8], count: usize) -> usize
-    requires { ⌜ (count ≤ 256) × (74 * n ≤ length (now log)) × (221 * n ≤ length (now updates)) × (56320 ≤ length (now store)) ⌝ }
-    ensures { λ r. ⌜ ((goal : List (List ℕ)) → Undoes n (now (log .entry)) (now (updates .entry)) (entriesIn count (now (store .entry))) goal → Left (now (store .entry)) (now (store .exit)) r goal) ⌝ }
+// Undoes the first n updates by their notes, the last one first.
+fn roll_back(log: &[u8], updates: &[u8], n: usize, store: &mut [u8], tables: Tables) -> Tables
+    requires { ⌜ (tables .count ≤ 256) × (74 * n ≤ length (now log)) × (221 * n ≤ length (now updates)) × (56320 ≤ length (now store)) ⌝ }
+    ensures { λ r. ⌜ ((goal : List (List ℕ)) → Undoes n (now (log .entry)) (now (updates .entry)) (entriesIn tables (now (store .entry))) goal → Holds (now (store .entry)) (now (store .exit)) r goal) ⌝ }
 {
-    let mut held = count;
+    let mut held = tables;
     let mut i = n;
     while 0 < i {
         i -= 1;
@@ -136,7 +183,7 @@ fn roll_back(log: &[u8], updates: &[u8], n: usize, store: &mut [u8], count: usiz
         let end = at + 74;
         let from = 221 * i;
         let to = from + 221;
-        held = updates::undo(&log[at..end], &updates[from..to], store, held);
+        held = changes::undo(&log[at..end], &updates[from..to], store, held);
     }
     held
 }
@@ -172,24 +219,24 @@ fn batch_in(
     role: u8,
     atomicity: u8,
     store: &mut [u8],
-    count: usize,
+    tables: Tables,
     updates: &[u8],
     n: usize,
     log: &mut [u8],
     answer: &mut [u8],
 ) -> Written
-    requires { ⌜ (count ≤ 256) × (56320 ≤ length (now store)) × (length (now updates) ≡ 221 * n) × (2 * n ≤ length (now answer)) × (atomicity ≡ 1 → 74 * n ≤ length (now log)) ⌝ }
-    ensures left { λ r. ⌜ (Tidy count (now (store .entry)) → BatchApplied (batchOf atomicity (rowsOf rows) role (tablesIn count (now (store .entry))) (updatesIn n (now (updates .entry)))) (now (store .entry)) (now (store .exit)) r) ⌝ }
-    ensures pairs { λ _. ⌜ (Tidy count (now (store .entry)) → now (answer .exit) ≡ splice (now (answer .entry)) 0 (concat (map pairOf (batchOf atomicity (rowsOf rows) role (tablesIn count (now (store .entry))) (updatesIn n (now (updates .entry))) .reasons)))) ⌝ }
+    requires { ⌜ (tables .count ≤ 256) × (56320 ≤ length (now store)) × (length (now updates) ≡ 221 * n) × (2 * n ≤ length (now answer)) × (atomicity ≡ 1 → 74 * n ≤ length (now log)) ⌝ }
+    ensures left { λ r. ⌜ (Distinct (entriesIn tables (now (store .entry))) → BatchApplied (batchOf atomicity (rowsOf rows) role (tablesIn tables (now (store .entry))) (updatesIn n (now (updates .entry)))) (now (store .entry)) (now (store .exit)) r) ⌝ }
+    ensures pairs { λ _. ⌜ (Distinct (entriesIn tables (now (store .entry))) → now (answer .exit) ≡ splice (now (answer .entry)) 0 (concat (map pairOf (batchOf atomicity (rowsOf rows) role (tablesIn tables (now (store .entry))) (updatesIn n (now (updates .entry))) .reasons)))) ⌝ }
 {
-    let came = take(rows, role, atomicity, store, count, updates, n, log, answer);
-    let mut held = came.count;
+    let came = take(rows, role, atomicity, store, tables, updates, n, log, answer);
+    let mut held = came.tables;
     if came.done < n {
         write_outcomes(n, came.done, came.reason, answer);
-        held = roll_back(log, updates, came.done, store, came.count);
+        held = roll_back(log, updates, came.done, store, held);
     }
     Written {
-        count: held,
+        tables: held,
         failed: came.reason != 0,
     }
 }
@@ -200,22 +247,15 @@ pub fn batch(
     role: u8,
     atomicity: u8,
     store: &mut [u8],
-    count: usize,
+    tables: Tables,
     updates: &[u8],
     n: usize,
     answer: &mut [u8],
 ) -> Written
-    requires { ⌜ (56320 ≤ length (now store)) × (length (now updates) ≡ 221 * n) × (n ≤ 64) × (2 * n ≤ length (now answer)) ⌝ }
-    ensures left { λ r. ⌜ (Tidy count (now (store .entry)) → BatchApplied (batchOf atomicity (rowsOf rows) role (tablesIn count (now (store .entry))) (updatesIn n (now (updates .entry)))) (now (store .entry)) (now (store .exit)) r) ⌝ }
-    ensures pairs { λ _. ⌜ (Tidy count (now (store .entry)) → now (answer .exit) ≡ splice (now (answer .entry)) 0 (concat (map pairOf (batchOf atomicity (rowsOf rows) role (tablesIn count (now (store .entry))) (updatesIn n (now (updates .entry))) .reasons)))) ⌝ }
+    requires { ⌜ (tables .count ≤ 256) × (56320 ≤ length (now store)) × (length (now updates) ≡ 221 * n) × (n ≤ 64) × (2 * n ≤ length (now answer)) ⌝ }
+    ensures left { λ r. ⌜ (Distinct (entriesIn tables (now (store .entry))) → BatchApplied (batchOf atomicity (rowsOf rows) role (tablesIn tables (now (store .entry))) (updatesIn n (now (updates .entry)))) (now (store .entry)) (now (store .exit)) r) ⌝ }
+    ensures pairs { λ _. ⌜ (Distinct (entriesIn tables (now (store .entry))) → now (answer .exit) ≡ splice (now (answer .entry)) 0 (concat (map pairOf (batchOf atomicity (rowsOf rows) role (tablesIn tables (now (store .entry))) (updatesIn n (now (updates .entry))) .reasons)))) ⌝ }
 {
-    if 256 < count {
-        // no list of calls leaves such a count
-        return Written {
-            count,
-            failed: true,
-        };
-    }
     if atomicity != 1 {
         // nothing is noted
         let mut none = [0; 1];
@@ -224,7 +264,7 @@ pub fn batch(
             role,
             atomicity,
             store,
-            count,
+            tables,
             updates,
             n,
             &mut none,
@@ -234,8 +274,8 @@ pub fn batch(
     if n <= 4 {
         // the long log would cost so few updates a good part more, being set to zero
         let mut short = [0; 296];
-        return batch_in(rows, role, 1, store, count, updates, n, &mut short, answer);
+        return batch_in(rows, role, 1, store, tables, updates, n, &mut short, answer);
     }
     let mut log = [0; 4736];
-    batch_in(rows, role, 1, store, count, updates, n, &mut log, answer)
+    batch_in(rows, role, 1, store, tables, updates, n, &mut log, answer)
 }

@@ -6,11 +6,11 @@ use mathlib.Core.Path.{_≡_, ap, _∙_}
 use mathlib.Core.List.{List}
 use mathlib.Core.Logic.{⊎-elim}
 use lib.ListN.{length}
-use borrow.Author.Needs.{needs}
 use denote.Ref.{now}
 use Rattle.rules.specs.Update.{rolledBack}
 use Rattle.rows.specs.Meaning.{rowsOf}
-use Rattle.batches.proofs.Rollbacks.{ended, rolled, rolled-reasons, rolled-count, pairs-anew}
+use Rattle.batches.proofs.AllOrNone.{ended, rolled, rolled-reasons, rolled-count, pairs-anew}
+use borrow.Author.Needs.{needs}
 use Rattle.batches.proofs.batch_in.Statement.{statement}
 use Rattle.batches.proofs.batch_in.Tie as tie
 
@@ -22,7 +22,7 @@ write-outcomes-requires c κs = search needs
 
 roll-back-requires : tie.Need-roll-back-requires
 roll-back-requires c κs =
-    let p = c .before .before .before .before .before .before .before .before .before .before .before .before .before .before in
+    let p = c .before .before .before .before .before .before .before .before .before .before .before .before .before .before .before in
     let k = p .take in
     let less = c .before .before .before .before .before .before .if1 .taken in
     let one = k .ensures .1 .1 .1 .1 .0 less .0 in
@@ -36,7 +36,7 @@ roll-back-requires c κs =
 same-length : tie.Need-same-length
 same-length c =
     let j = c .before in
-    let k = j .before .before .before .before .before .before .before .before .take in
+    let k = j .before .before .before .before .before .before .before .before .before .take in
     ⊎-elim
     (λ y. ap length (y .10) ∙ y .7 .kept .1 .1 .1 .0 ∙ k .kept .1 .1 .1 .0)
     (λ y. ap length (y .1) ∙ k .kept .1 .1 .1 .0)
@@ -48,7 +48,7 @@ same-length-2 c = search needs
 same-length-3 : tie.Need-same-length-3
 same-length-3 c =
     let j = c .before in
-    let k = j .before .before .before .before .before .before .before .before .take in
+    let k = j .before .before .before .before .before .before .before .before .before .take in
     ⊎-elim
     (λ y. ap length (y .11) ∙ y .2 .kept .1 .1 .1 .0 ∙ k .kept .1 .1 .1 .1 .1 .1 .1 .1 .0)
     (λ y. ap length (y .2) ∙ k .kept .1 .1 .1 .1 .1 .1 .1 .1 .0)
@@ -57,7 +57,7 @@ same-length-3 c =
 returns : tie.Need-returns
 returns c =
     let j = c .before in
-    let p = j .before .before .before .before .before .before .before .before in
+    let p = j .before .before .before .before .before .before .before .before .before in
     let k = p .take in
     let g = p .before .before .before .before .before .before .before .before .args in
     let us : List ℕ = now (g .updates) in
@@ -66,22 +66,22 @@ returns c =
       λ t. ⊎-elim
           (λ y.
           let h = k .ensures .1 .1 .1 .1 .0 (y .0 .taken) in
-          rw (y .10, y .12) (rolled (rowsOf (g .rows)) (g .role) (g .count) n us s (g .atomicity) (k .result) (h .0) (h .1 t) (y .7 .ensures)))
+          rw (y .10, y .12) (rolled (rowsOf (g .rows)) (g .role) (g .tables) n us s (g .atomicity) (k .result) (h .0) (h .1 t) (y .7 .ensures)))
           (λ y.
           let z : k .result .done ≡ n = omega (arith, k .ensures .0 .1, y .0 .left) in
           let l = k .ensures .1 .1 .0 z t in
-          rw (y .1, y .3, ended (rowsOf (g .rows)) (g .role) (g .count) n us s (g .atomicity) (k .result) l (λ e. k .ensures .1 .0 e z)) l)
+          rw (y .1, y .3, ended (rowsOf (g .rows)) (g .role) (g .tables) n us s (g .atomicity) (k .result) l (λ e. k .ensures .1 .0 e z)) l)
           (j .if1 .came),
       λ t. ⊎-elim
           (λ y.
           let h = k .ensures .1 .1 .1 .1 .0 (y .0 .taken) in
-          rw (y .11, rolled-reasons (rowsOf (g .rows)) (g .role) (g .count) n us s (g .atomicity) (k .result) (h .0) (h .1 t)) (
+          rw (y .11, rolled-reasons (rowsOf (g .rows)) (g .role) (g .tables) n us s (g .atomicity) (k .result) (h .0) (h .1 t)) (
           y .2 .ensures
           ∙ pairs-anew n (rolledBack n (k .result .done, k .result .reason)) (now (g .answer)) _ (rolled-count n (k .result .done) (k .result .reason)) (k .ensures .1 .1 .1 .1 .1)))
           (λ y.
           let z : k .result .done ≡ n = omega (arith, k .ensures .0 .1, y .0 .left) in
           let l = k .ensures .1 .1 .0 z t in
-          rw (y .2, ended (rowsOf (g .rows)) (g .role) (g .count) n us s (g .atomicity) (k .result) l (λ e. k .ensures .1 .0 e z)) (k .ensures .1 .1 .1 .0 z t))
+          rw (y .2, ended (rowsOf (g .rows)) (g .role) (g .tables) n us s (g .atomicity) (k .result) l (λ e. k .ensures .1 .0 e z)) (k .ensures .1 .1 .1 .0 z t))
           (j .if1 .came),
     )
 

@@ -17,7 +17,7 @@ returns c = (λ e. absurd (c .if1 .taken e), λ e. absurd (c .if1 .taken e))
 room : (c : tie.Else1)
     → let a = c .before .before .before .args in
     74 * a .i + 74 ≤ length (now (a .log))
-room c = c .before .before .before .pre .2 (c .if1 .left)
+room c = c .before .before .before .pre .3 (c .if1 .left)
 
 mul-at : tie.Need-mul-at
 mul-at c = search (needs, room c)

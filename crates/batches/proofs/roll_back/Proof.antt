@@ -6,20 +6,20 @@ use mathlib.Core.List.{List}
 use lib.ListN.{length}
 use Rattle.store.specs.Store.{entriesIn}
 use Rattle.batches.specs.Rollback.{Undoes}
-use Rattle.batches.proofs.Rollbacks.{Backing, back-next, back-end}
+use Rattle.batches.proofs.AllOrNone.{UndoneSoFar, back-next, back-end}
 use borrow.Author.Needs.{needs}
 use Rattle.batches.proofs.roll_back.Statement.{statement}
 use Rattle.batches.proofs.roll_back.Tie as tie
 
 abbrev Inv-loop : tie.InvT-loop
-Inv-loop log updates n store₀ count held₀ i₀ store held i =
+Inv-loop log updates n store₀ held₀ i₀ store held i =
     (i ≤ n)
-    × (held ≤ 256)
+    × (held .count ≤ 256)
     × (length store ≡ length store₀)
-    × ((goal : List (List ℕ)) → Undoes n log updates (entriesIn count store₀) goal → Backing goal log updates store₀ store held i)
+    × ((goal : List (List ℕ)) → Undoes n log updates (entriesIn held₀ store₀) goal → UndoneSoFar goal log updates store₀ store held i)
 
 abbrev μ-loop : tie.MeasureT-loop
-μ-loop log updates n store₀ count held₀ i₀ store held i = i
+μ-loop log updates n store₀ held₀ i₀ store held i = i
 
 loop-holds : tie.Need-loop-holds Inv-loop μ-loop
 loop-holds c = (omega arith, omega arith, refl, λ goal u. record { room = refl; beyond = refl; undoes = u })
@@ -83,7 +83,7 @@ same-length c = search needs
 returns : tie.Need-returns Inv-loop μ-loop
 returns c =
     let z : c .before .loop .i ≡ 0 = omega arith in
-    λ goal u. back-end (c .before .loop .inv .3 goal u) z
+    λ goal u. back-end (c .before .loop .inv .3 goal u) z (c .before .loop .inv .1)
 
 pub roll-back-spec : {M : Type 1} → statement M
 roll-back-spec =

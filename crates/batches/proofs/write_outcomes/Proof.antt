@@ -10,7 +10,7 @@ use Rattle.rules.specs.Call.{pairOf}
 use Rattle.rules.specs.Update.{rolledBack}
 use Rattle.buffers.proofs.Splice.{part-copied}
 use Rattle.buffers.proofs.Written.{Written, written-none, written-next, written-all}
-use Rattle.batches.proofs.Rollbacks.{rolled-count, outcomes-from}
+use Rattle.batches.proofs.AllOrNone.{rolled-count, outcomes-from}
 use borrow.Author.Needs.{needs}
 use Rattle.batches.proofs.write_outcomes.Statement.{statement}
 use Rattle.batches.proofs.write_outcomes.Tie as tie

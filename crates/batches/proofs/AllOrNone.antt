@@ -21,14 +21,12 @@ use Rattle.rules.proofs.Rollback.{Told, told, failure-at, alone-snoc}
 use Rattle.rules.proofs.Tests.{clash, every-append}
 use Rattle.buffers.specs.Splice.{splice}
 use Rattle.buffers.proofs.Splice.{part-before, splice-front, window-splice}
-use Rattle.store.specs.Store.{entriesIn, tablesIn, Left}
-use Rattle.updates.specs.Undo.{noteOf, undone, Fits, Undone, Undoing}
-use Rattle.updates.specs.Update.{Tidy}
-use Rattle.updates.proofs.Undoing.{undone-left}
+use Rattle.store.specs.Store.{entriesIn, tablesIn, Holds}
+use Rattle.store.specs.declared.Tables.{Tables as Held}
+use Rattle.changes.specs.Undo.{noteOf, undone, Undoable, Undoing}
 use Rattle.batches.specs.Batch.{updatesIn, writtenOf, BatchApplied}
-use Rattle.batches.specs.Rollback.{noteAt, Undoes, Stopped}
+use Rattle.batches.specs.Rollback.{noteAt, Noted, Undoes, Stopped}
 use Rattle.batches.specs.declared.Progress.{Progress}
-use Rattle.batches.proofs.Batches.{still-tidy}
 
 -- ---- the notes
 
@@ -48,31 +46,32 @@ unfolding Undoes
 undoes-next k log us note es after goal l h u n =
     let here : part (74 * k) 74 (splice log (74 * k) note) ≡ note =
     ap (take 74) (window-splice log (74 * k) note (omega arith)) ∙ take-at note _ 74 l in
-    rw (add-one k, here, n .back) (n .fits, undoes-behind k (74 * k) log us note es goal (omega arith) (omega arith) u)
+    rw (add-one k, here, n .back) (n .possible, undoes-behind k (74 * k) log us note es goal (omega arith) (omega arith) u)
 
 -- the last note undone
 undoes-last : (k n : ℕ) (log us : List ℕ) (es goal : List (List ℕ)) → n ≡ k + 1 → Undoes n log us es goal
-    → Fits (noteAt k log us) (length es) × Undoes k log us (undone (noteAt k log us) es) goal
+    → Undoable (noteAt k log us) (length es) × Undoes k log us (undone (noteAt k log us) es) goal
 unfolding Undoes
 undoes-last k n log us es goal e u = rw (e, add-one k) at u
 
 -- rolling back with i notes left: the store is as long as at the start, and as it was from 56,320 on
-pub record Backing (goal : List (List ℕ)) (log us start store : List ℕ) (held i : ℕ) : Type 0 where
+pub record UndoneSoFar (goal : List (List ℕ)) (log us start store : List ℕ) (held : Held) (i : ℕ) : Type 0 where
   pub room : length store ≡ length start
   pub beyond : drop 56_320 store ≡ drop 56_320 start
   pub undoes : Undoes i log us (entriesIn held store) goal
 
-module _ {goal : List (List ℕ)} {log us start store : List ℕ} {held i : ℕ} (b : Backing goal log us start store held i) where
-  pub back-next : {k r : ℕ} {after : List ℕ} → i ≡ k + 1 → Undone (noteAt k log us) held store after r
-      → Backing goal log us start after r k
+module _ {goal : List (List ℕ)} {log us start store : List ℕ} {held : Held} {i : ℕ} (b : UndoneSoFar goal log us start store held i) where
+  pub back-next : {k : ℕ} {r : Held} {after : List ℕ} → i ≡ k + 1
+      → (Undoable (noteAt k log us) (held .count) → Holds store after r (undone (noteAt k log us) (entriesIn held store)))
+      → UndoneSoFar goal log us start after r k
   back-next {k} {r} {after} e l =
       let u = undoes-last k i log us (entriesIn held store) goal e (b .undoes) in
-      let a = undone-left (noteAt k log us) held store after r (rw (parts-count held 220 store) at (u .0)) l in
+      let a = l (rw (parts-count (held .count) 220 store) at (u .0)) in
       record { room = a .room ∙ b .room; beyond = a .beyond ∙ b .beyond; undoes = rw (a .holds) (u .1) }
 
-  pub back-end : i ≡ 0 → Left start store held goal
+  pub back-end : i ≡ 0 → held .count ≤ 256 → Holds start store held goal
   unfolding Undoes
-  back-end e = record { holds = rw e at (b .undoes); room = b .room; beyond = b .beyond }
+  back-end e few = record { holds = rw e at (b .undoes); few = few; room = b .room; beyond = b .beyond }
 
 -- ---- the batch up to the first update that fails
 
@@ -88,44 +87,40 @@ module _ (rows : List Row) (role : ℕ) where
       go (some f) h = clash e (h .0)
 
   -- The updates before update i have taken effect and are noted; `later` are those left.
-  pub record Attempting (count n : ℕ) (us start : List ℕ) (later : List Update) (store log : List ℕ) (held i : ℕ)
+  pub record PassedSoFar (tables : Held) (n : ℕ) (us start : List ℕ) (later : List Update) (store log : List ℕ) (held : Held) (i : ℕ)
       : Type 0 where
     pub earlier : List Update
     pub split : updatesIn n us ≡ earlier ++ later
     pub many : length earlier ≡ i
-    pub passed : passes (tablesIn count start) earlier ≡ true
-    pub tidy : Tidy held store
-    pub left : Left start store held (eachAlone rows role (tablesIn count start) earlier .tables .entries)
-    pub undoes : Undoes i log us (entriesIn held store) (entriesIn count start)
+    pub passed : passes (tablesIn tables start) earlier ≡ true
+    pub left : Holds start store held (eachAlone rows role (tablesIn tables start) earlier .tables .entries)
+    pub undoes : Undoes i log us (entriesIn held store) (entriesIn tables start)
 
-  pub attempt-start : (count n : ℕ) (us start log : List ℕ) → Tidy count start
-      → Attempting count n us start (updatesIn n us) start log count 0
+  pub passed-start : (tables : Held) (n : ℕ) (us start log : List ℕ) → tables .count ≤ 256
+      → PassedSoFar tables n us start (updatesIn n us) start log tables 0
   unfolding Undoes eachAlone
-  attempt-start count n us start log t = record {
+  passed-start tables n us start log few = record {
     earlier = [];
     split = refl;
     many = refl;
     passed = refl;
-    tidy = t;
-    left = record { holds = refl; room = refl; beyond = refl };
+    left = record { holds = refl; few = few; room = refl; beyond = refl };
     undoes = refl;
   }
 
-  module _ {count n : ℕ} {us start store log : List ℕ} {held i : ℕ} where
-    module _ {u : Update} {later : List Update} (b : Attempting count n us start (u ∷ later) store log held i) where
+  module _ {tables : Held} {n : ℕ} {us start store log : List ℕ} {held : Held} {i : ℕ} where
+    module _ {u : Update} {later : List Update} (b : PassedSoFar tables n us start (u ∷ later) store log held i) where
       -- the tables now
-      now-is : tablesIn held store ≡ eachAlone rows role (tablesIn count start) (b .earlier) .tables
+      now-is : tablesIn held store ≡ eachAlone rows role (tablesIn tables start) (b .earlier) .tables
       now-is = ap (λ (es : List (List ℕ)). let x : Tables = record { entries = es } in x) (b .left .holds)
 
       -- an update that takes effect
-      pub attempt-next : {after log′ : List ℕ} {reason m : ℕ} (note : List ℕ) → length (u .entry) ≡ 220
-          → reason ≡ judge rows role (tablesIn held store) u → reason ≡ 0
-          → Left store after m (apply reason u (tablesIn held store) .entries)
-          → log′ ≡ splice log (74 * i) note → length note ≡ 74 → 74 * i + 74 ≤ length log
-          → Undoing (noteOf note (part (221 * i) 221 us)) (entriesIn m after) (entriesIn held store)
-          → Attempting count n us start later after log′ m (i + 1)
-      attempt-next {after} {m = m} note l e z a w k h d =
-          let t : Tables = tablesIn count start in
+      pub passed-next : {after log′ : List ℕ} {reason : ℕ} {m : Held} → reason ≡ judge rows role (tablesIn held store) u → reason ≡ 0
+          → Holds store after m (apply reason u (tablesIn held store) .entries) → 74 * i + 74 ≤ length log
+          → Noted i (part (221 * i) 221 us) (entriesIn held store) (entriesIn m after) log log′
+          → PassedSoFar tables n us start later after log′ m (i + 1)
+      passed-next {after} {m = m} e z a h d =
+          let t : Tables = tablesIn tables start in
           let snoc : eachAlone rows role t (b .earlier ++ (u ∷ []))
           ≡ (let x : Batch = record {
             tables = apply (judge rows role (tablesIn held store) u) u (tablesIn held store);
@@ -137,20 +132,21 @@ module _ (rows : List Row) (role : ℕ) where
             split = b .split ∙ sym (append-assoc (b .earlier) (u ∷ []) later);
             many = length-append (b .earlier) (u ∷ []) ∙ ap (λ (k : ℕ). k + 1) (b .many);
             passed = rw (snoc, ← e, z) (every-append (eqb 0) (eachAlone rows role t (b .earlier) .reasons) (0 ∷ []) (b .passed) refl);
-            tidy = still-tidy rows role u m after l (b .tidy) (rw e at (a .holds));
             left = record {
               holds = rw (snoc, ← e) (a .holds);
+              few = a .few;
               room = a .room ∙ b .left .room;
               beyond = a .beyond ∙ b .left .beyond;
             };
-            undoes = rw w (undoes-next i log us note (entriesIn held store) (entriesIn m after) (entriesIn count start) k h (b .undoes) d);
+            undoes = rw (d .bytes)
+                (undoes-next i log us (d .note) (entriesIn held store) (entriesIn m after) (entriesIn tables start) (d .size) h (b .undoes) (d .undoing));
           }
 
       -- one that fails
-      pub attempt-stop : {reason : ℕ} → reason ≡ judge rows role (tablesIn held store) u → (reason ≡ 0 → ⊥)
-          → Stopped rows role count n us start store log (record { count = held; done = i; reason = reason })
-      attempt-stop {reason} e f =
-          let t : Tables = tablesIn count start in
+      pub passed-stop : {reason : ℕ} → reason ≡ judge rows role (tablesIn held store) u → (reason ≡ 0 → ⊥)
+          → Stopped rows role tables n us start store log (record { tables = held; done = i; reason = reason })
+      passed-stop {reason} e f =
+          let t : Tables = tablesIn tables start in
           let fails : judge rows role (eachAlone rows role t (b .earlier) .tables) u ≡ 0 → ⊥ = λ z. f (e ∙ rw now-is z) in
           record {
             own = f;
@@ -164,12 +160,12 @@ module _ (rows : List Row) (role : ℕ) where
 pub rolled-count : (n at own : ℕ) → length (rolledBack n (at, own)) ≡ n
 rolled-count n at own = length-set (replicate n 25) at own ∙ length-replicate n 25
 
-module _ (rows : List Row) (role count n : ℕ) (us before : List ℕ) where
+module _ (rows : List Row) (role : ℕ) (tables : Held) (n : ℕ) (us before : List ℕ) where
   abbrev each : Batch
-  each = eachAlone rows role (tablesIn count before) (updatesIn n us)
+  each = eachAlone rows role (tablesIn tables before) (updatesIn n us)
 
   abbrev all : ℕ → Batch
-  all atomicity = batch atomicity rows role (tablesIn count before) (updatesIn n us)
+  all atomicity = batch atomicity rows role (tablesIn tables before) (updatesIn n us)
 
   module _ (atomicity : ℕ) (a : Progress) where
     -- a batch that came to its end, with atomicity 1 without a failure
@@ -182,28 +178,28 @@ module _ (rows : List Row) (role count n : ℕ) (us before : List ℕ) where
         passed true e = refl
         passed false e = e
 
-        go : (x : Bool) → eqb atomicity 1 ≡ x → (if x then allOrNone rows role (tablesIn count before) (updatesIn n us) else each) ≡ each
+        go : (x : Bool) → eqb atomicity 1 ≡ x → (if x then allOrNone rows role (tablesIn tables before) (updatesIn n us) else each) ≡ each
         go false q = refl
         go true q =
             let e : false ≡ not (every (eqb 0) (each .reasons)) = rw (z (eqb-true atomicity 1 q)) at (w .failed) in
-            rw (no-failure rows role (tablesIn count before) (updatesIn n us) (passed _ e)) refl
+            rw (no-failure rows role (tablesIn tables before) (updatesIn n us) (passed _ e)) refl
 
-    module _ {mid log : List ℕ} (one : atomicity ≡ 1) (h : Stopped rows role count n us before mid log a) where
-      all-rolled : all atomicity ≡ unlessFailed (some (a .done, a .reason)) (tablesIn count before) (updatesIn n us) each
+    module _ {mid log : List ℕ} (one : atomicity ≡ 1) (h : Stopped rows role tables n us before mid log a) where
+      all-rolled : all atomicity ≡ unlessFailed (some (a .done, a .reason)) (tablesIn tables before) (updatesIn n us) each
       unfolding batch allOrNone
       all-rolled = rw (one, h .failed) refl
 
       failing : every (eqb 0) (rolledBack (length (updatesIn n us)) (a .done, a .reason)) ≡ false
-      failing = (rw (h .failed) at (told rows role (tablesIn count before) (updatesIn n us))) .1
+      failing = (rw (h .failed) at (told rows role (tablesIn tables before) (updatesIn n us))) .1
 
-      pub rolled : {after : List ℕ} {m : ℕ}
-          → ((goal : List (List ℕ)) → Undoes (a .done) log us (entriesIn (a .count) mid) goal → Left mid after m goal)
-          → BatchApplied (all atomicity) before after (record { count = m; failed = not (eqb (a .reason) 0) })
+      pub rolled : {after : List ℕ} {m : Held}
+          → ((goal : List (List ℕ)) → Undoes (a .done) log us (entriesIn (a .tables) mid) goal → Holds mid after m goal)
+          → BatchApplied (all atomicity) before after (record { tables = m; failed = not (eqb (a .reason) 0) })
       rolled back =
-          let u = back (entriesIn count before) (h .undoes) in
+          let u = back (entriesIn tables before) (h .undoes) in
           rw all-rolled (record {
             failed = rw (ne-eqb (a .reason) 0 (h .own), failing) refl;
-            left = record { holds = u .holds; room = u .room ∙ h .left .room; beyond = u .beyond ∙ h .left .beyond };
+            left = record { holds = u .holds; few = u .few; room = u .room ∙ h .left .room; beyond = u .beyond ∙ h .left .beyond };
           })
 
       pub rolled-reasons : all atomicity .reasons ≡ rolledBack n (a .done, a .reason)
