@@ -229,7 +229,17 @@ fn batch_in(
     ensures left { λ r. ⌜ (Distinct (entriesIn tables (now (store .entry))) → BatchApplied (batchOf atomicity (rowsOf rows) role (tablesIn tables (now (store .entry))) (updatesIn n (now (updates .entry)))) (now (store .entry)) (now (store .exit)) r) ⌝ }
     ensures pairs { λ _. ⌜ (Distinct (entriesIn tables (now (store .entry))) → now (answer .exit) ≡ splice (now (answer .entry)) 0 (concat (map pairOf (batchOf atomicity (rowsOf rows) role (tablesIn tables (now (store .entry))) (updatesIn n (now (updates .entry))) .reasons)))) ⌝ }
 {
-    let came = take(rows, role, atomicity, store, tables, updates, n, log, answer);
+    let came = take(
+        rows,
+        role,
+        atomicity,
+        store,
+        tables,
+        updates,
+        n,
+        log,
+        answer,
+    );
     let mut held = came.tables;
     if came.done < n {
         write_outcomes(n, came.done, came.reason, answer);

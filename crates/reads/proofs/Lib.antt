@@ -1,3 +1,3 @@
--- Laws of reads.
-pub mod Queries
-pub mod Reading
+-- Laws of READ: the order of its reasons, and the records that it writes.
+pub mod QueryOrder
+pub mod Records

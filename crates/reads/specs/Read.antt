@@ -1,14 +1,14 @@
 -- What the functions of a READ are held to, in the rules' terms. Assumes nothing.
 use mathlib.Core.Path.{_≡_}
-use mathlib.Core.Bool.{_&&_, not}
-use mathlib.Core.List.{List, [], _∷_, _++_}
+use mathlib.Core.Bool.{Bool, not}
+use mathlib.Core.List.{List, _++_}
 use Prim.Native.Nat.{ℕ, _/_, min}
 use lib.Dec.{eqb}
 use lib.ListN.{length, take}
 use Rattle.rules.specs.Bytes.{if_then_else_, keep, concat, part}
-use Rattle.rules.specs.Reason.{first}
-use Rattle.rules.specs.Row.{Row, known, rowFor, mayWrite}
-use Rattle.rules.specs.Key.{keyFormed, keyFits, keyRules, shortKey, hasKey}
+use Rattle.rules.specs.Reason.{when}
+use Rattle.rules.specs.Row.{Row, known, rowFor, tableOrder}
+use Rattle.rules.specs.Key.{keyOrder, shortKey, hasKey}
 use Rattle.rules.specs.Update.{Tables}
 use Rattle.rules.specs.Call.{gathered}
 use Rattle.buffers.specs.Splice.{splice}
@@ -17,21 +17,11 @@ use Rattle.buffers.specs.Splice.{splice}
 abbrev pub keyIn : List ℕ → List ℕ
 keyIn b = part 0 4 b ++ part 5 144 b
 
--- 17 to 19 of a key
-unfoldable pub keyReason : Row → List ℕ → ℕ
-keyReason row k = first ((not (keyFormed row k), 17) ∷ (not (keyFits row k), 18) ∷ (not (keyRules row k), 19) ∷ [])
-
--- 15 and 16 of a READ of a table; 0 names none
-abbrev pub tableReason : List Row → ℕ → ℕ → ℕ
-tableReason rows role table =
-    let named = not (eqb table 0) in
-    first ((named && not (known table rows), 15) ∷ (named && not (mayWrite role (rowFor table rows)), 16) ∷ [])
-
--- 15 to 19 of a READ
-unfoldable pub queryReason : List Row → ℕ → ℕ → ℕ → List ℕ → ℕ
-queryReason rows role table only k =
-    if eqb (tableReason rows role table) 0 then (if eqb only 1 then keyReason (rowFor table rows) k else 0) else
-    tableReason rows role table
+-- Order: 15 and 16 of a named table and, with only 1, 17 to 19 of its key
+abbrev pub queryOrder : List Row → ℕ → ℕ → ℕ → List ℕ → List (Bool × ℕ)
+queryOrder rows role table only k =
+    let row = rowFor table rows in
+    when (not (eqb table 0)) (tableOrder (known table rows) row role) ++ when (eqb only 1) (keyOrder row k)
 
 -- the entries that a READ asks for: with only 1 that of the key
 unfoldable pub readIn : List Row → ℕ → ℕ → ℕ → List ℕ → Tables → List (List ℕ)

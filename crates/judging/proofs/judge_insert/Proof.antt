@@ -58,9 +58,11 @@ returns-2 c =
     let h = g .before in
     let a = h .before .before .before .before .before .before .before .before .args in
     let s = now (a .store) in
-    let f = c .before .are-full in
-    (sym (insert-store-full (rowOf (a .row)) (now (a .entry)) (entriesIn (a .tables) s) (absent h) (sym (h .holds .ensures) ∙ g .if1 .left)
-    (sym (f .ensures s) ∙ c .if2 .taken)), (omega arith, tt))
+    let f = c .before .are-full in (
+      sym (insert-store-full (rowOf (a .row)) (now (a .entry)) (entriesIn (a .tables) s) (absent h) (sym (h .holds .ensures) ∙ g .if1 .left)
+          (sym (f .ensures s) ∙ c .if2 .taken)),
+      (omega arith, tt),
+    )
 
 returns-3 : tie.Need-returns-3
 returns-3 c =

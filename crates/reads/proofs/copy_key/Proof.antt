@@ -7,7 +7,7 @@ use Rattle.rules.specs.Bytes.{part}
 use Rattle.rules.proofs.Shortest.{part-length}
 use Rattle.values.proofs.Pieces.{rest-after}
 use Rattle.reads.specs.Read.{keyIn}
-use Rattle.reads.proofs.Queries.{key-length}
+use Rattle.reads.proofs.QueryOrder.{key-length}
 use borrow.Author.Needs.{needs}
 use Rattle.reads.proofs.copy_key.Statement.{statement}
 use Rattle.reads.proofs.copy_key.Tie as tie

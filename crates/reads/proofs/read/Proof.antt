@@ -1,9 +1,6 @@
 -- Right because with only 1 the entry of the key is written, and otherwise the entries of the rows asked for. Assumes nothing.
-use native.Mathlib.Omega.{arith}
-use denote.Ref.{now}
-use Rattle.rows.specs.Meaning.{rowsOf}
-use Rattle.reads.specs.Read.{keyIn}
-use Rattle.reads.proofs.Queries.{key-read, all-read}
+use borrow.Author.Tests.{eq-eqb, ne-eqb}
+use Rattle.reads.specs.Read.{readIn}
 use borrow.Author.Needs.{needs}
 use Rattle.reads.proofs.read.Statement.{statement}
 use Rattle.reads.proofs.read.Tie as tie
@@ -15,10 +12,8 @@ same-length : tie.Need-same-length
 same-length c = search needs
 
 returns : tie.Need-returns
-returns c =
-    let a = c .before .before .before .before .before .before .before .before .args in
-    let e = c .before .before .read-key .ensures in
-    key-read (rowsOf (a .rows)) (a .role) (a .table) (keyIn (now (a .query))) (now (a .answer)) (c .before .before .before .before .if1 .taken) (omega arith) (e .0) (e .1)
+unfolding readIn
+returns c = rw (eq-eqb (c .before .before .before .before .before .before .before .before .args .only) 1 (c .before .before .before .before .if1 .taken)) (c .before .before .read-key .ensures)
 
 read-all-requires : tie.Need-read-all-requires
 read-all-requires c κs = search needs
@@ -27,9 +22,8 @@ same-length-2 : tie.Need-same-length-2
 same-length-2 c = search needs
 
 returns-2 : tie.Need-returns-2
-returns-2 c =
-    let a = c .before .before .before .before .before .before .before .before .args in
-    all-read (rowsOf (a .rows)) (a .role) (a .table) (keyIn (now (a .query))) (now (a .answer)) (c .before .before .before .before .if1 .left) (c .before .before .read-all .ensures)
+unfolding readIn
+returns-2 c = rw (ne-eqb (c .before .before .before .before .before .before .before .before .args .only) 1 (c .before .before .before .before .if1 .left)) (λ d. c .before .before .read-all .ensures)
 
 pub read-spec : {M : Type 1} → statement M
 read-spec =

@@ -6,23 +6,23 @@ use mathlib.Core.List.{List}
 use mathlib.Core.Logic.{⊎-elim}
 use lib.ListN.{length, getD}
 use denote.Ref.{now}
-use borrow.Author.Needs.{needs}
 use Rattle.rules.specs.Call.{gathered}
 use Rattle.rows.specs.Meaning.{rowOf, rowsOf}
 use Rattle.rules.proofs.Lists.{length-mapped}
 use Rattle.rows.proofs.Counted.{blank}
 use Rattle.store.specs.Store.{tablesIn}
 use Rattle.reads.specs.Read.{Reads}
-use Rattle.reads.proofs.Reading.{Reading, reading-start, reading-gather, reading-end, unread, unread-hit, unread-miss, unread-none}
+use Rattle.reads.proofs.Records.{ReadSoFar, reading-start, reading-gather, reading-end, unread, unread-hit, unread-miss, unread-none}
+use borrow.Author.Needs.{needs}
 use Rattle.reads.proofs.read_all.Statement.{statement}
 use Rattle.reads.proofs.read_all.Tie as tie
 
 abbrev Inv-loop : tie.InvT-loop
-Inv-loop role table store count answer₀ rows t n₀ i₀ answer n i =
-    Reading (gathered role table (rowsOf rows) (tablesIn count store)) (unread role table rows count store i) answer₀ answer n
+Inv-loop role table store tables answer₀ rows t n₀ i₀ answer n i =
+    ReadSoFar (gathered role table (rowsOf rows) (tablesIn tables store)) (unread role table rows tables store i) answer₀ answer n
 
 abbrev μ-loop : tie.MeasureT-loop
-μ-loop role table store count answer₀ rows t n₀ i₀ answer n i = t - i
+μ-loop role table store tables answer₀ rows t n₀ i₀ answer n i = t - i
 
 size : (c : tie.At-loop Inv-loop μ-loop) → length (c .before .before .before .args .t1 .rows) ≡ 8
 size c = search (needs, length-mapped)
@@ -30,11 +30,11 @@ size c = search (needs, length-mapped)
 -- nothing is left
 ended : (c : tie.At-loop Inv-loop μ-loop) →
     let a = c .before .before .before .args in
-    let all = gathered (a .role) (a .table) (rowsOf (a .t1)) (tablesIn (a .count) (now (a .store))) in
+    let all = gathered (a .role) (a .table) (rowsOf (a .t1)) (tablesIn (a .tables) (now (a .store))) in
     min (a .t1 .count) 8 ≤ c .loop .i → Reads all (now (a .answer)) (c .loop .answer) (c .loop .n)
 ended c h =
     let a = c .before .before .before .args in
-    reading-end (c .loop .inv) (unread-none (a .role) (a .table) (a .t1) (a .count) (now (a .store)) (c .loop .i) (size c) h)
+    reading-end (c .loop .inv) (unread-none (a .role) (a .table) (a .t1) (a .tables) (now (a .store)) (c .loop .i) (size c) h)
 
 cast-t : tie.Need-cast-t Inv-loop μ-loop
 cast-t c = search needs
@@ -95,12 +95,12 @@ loop-again c =
     let e = c .before .asks .ensures in
     ⊎-elim
     (λ w.
-    let u = unread-hit (a .role) (a .table) (a .t1) (a .count) s i (size l) (omega arith) (omega arith) (sym e ∙ w .0 .taken) in
+    let u = unread-hit (a .role) (a .table) (a .t1) (a .tables) s i (size l) (omega arith) (omega arith) (sym e ∙ w .0 .taken) in
     rw (w .6, w .7)
-    (reading-gather (l .loop .inv) (row .table) (a .count) s _ (w .3 .last .1 .1 .1 .0) (w .3 .result) u (omega arith)
+    (reading-gather (l .loop .inv) (row .table) (a .tables) s _ (w .3 .last .1 .1 .1 .0) (w .3 .result) u (omega arith)
     (w .3 .ensures .0) (w .3 .ensures .1)))
     (λ w.
-    let u = unread-miss (a .role) (a .table) (a .t1) (a .count) s i (size l) (omega arith) (omega arith) (sym e ∙ w .0 .left) in
+    let u = unread-miss (a .role) (a .table) (a .t1) (a .tables) s i (size l) (omega arith) (omega arith) (sym e ∙ w .0 .left) in
     rw (w .1, w .2, ← u) (l .loop .inv))
     (c .if2 .came)
 

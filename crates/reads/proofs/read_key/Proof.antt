@@ -7,7 +7,7 @@ use Rattle.rules.specs.Key.{shortKey}
 use Rattle.rules.proofs.Shortest.{key-length}
 use Rattle.buffers.proofs.Splice.{splice-end}
 use Rattle.reads.specs.Read.{keyIn}
-use Rattle.reads.proofs.Queries as queries
+use Rattle.reads.proofs.QueryOrder as queries
 use borrow.Author.Needs.{needs}
 use Rattle.reads.proofs.read_key.Statement.{statement}
 use Rattle.reads.proofs.read_key.Tie as tie

@@ -16,42 +16,35 @@ use Rattle.rules.specs.Key.{hasKey}
 use Rattle.rules.specs.Update.{inTable, held}
 use Rattle.rules.specs.Call.{asked, gathered}
 use Rattle.rules.proofs.Lists.{concat-append}
-use Rattle.rules.proofs.Formed.{EveryLength, parts-count, parts-lengths}
+use Rattle.rules.proofs.Formed.{EveryLength, parts-lengths}
 use Rattle.rules.proofs.Sizes.{keep-lengths}
 use Rattle.buffers.specs.Splice.{splice}
 use Rattle.buffers.proofs.Splice.{splice-none, splice-next, length-splice, length-window, part-copied}
 use Rattle.rows.specs.declared.Rows.{Rows}
 use Rattle.rows.specs.Meaning.{rowOf, rowsOf}
 use Rattle.rows.proofs.Counted.{blank, rows-next, rows-none}
+use Rattle.rules.specs.Sound.{Distinct}
+use Rattle.store.specs.declared.Tables.{Tables as Held}
 use Rattle.store.specs.Store.{entriesIn, tablesIn, place}
-use Rattle.store.proofs.Parts.{parts-at}
-use Rattle.store.proofs.Places.{place-stored, keep-place, keep-absent}
-use Rattle.updates.specs.Update.{Tidy}
+use Rattle.store.proofs.Writes.{parts-at}
+use Rattle.store.proofs.KeyPlace.{keep-place, keep-absent}
 use Rattle.reads.specs.Read.{Reads}
 
 -- ---- the entry of a key
 
--- n records were written, which make `before` into `after`: those of the entries that have the key
-abbrev pub Shown : ℕ → List ℕ → List ℕ → List ℕ → List ℕ → ℕ → Type 0
-Shown count s k before after n =
-    (Tidy count s → n ≡ length (keep (hasKey k) (entriesIn count s)))
-    × (Tidy count s → after ≡ splice before 0 (concat (keep (hasKey k) (entriesIn count s))))
+module _ (tables : Held) (s k before : List ℕ) where
+  abbrev es : List (List ℕ)
+  es = entriesIn tables s
 
--- what is found is below the count
-pub shown-below : (count : ℕ) (s k : List ℕ) (i : ℕ) → some i ≡ place k (entriesIn count s) → i < count
-shown-below count s k i p = omega (arith, place-stored k (entriesIn count s) .1 i (sym p) .0, parts-count count 220 s)
+  pub none-read : none ≡ place k es → Reads (keep (hasKey k) es) before before 0
+  none-read p = rw (keep-absent k es (sym p)) (omega arith, splice-none before 0)
 
-module _ (count : ℕ) (s k before : List ℕ) where
-  pub shown-none : none ≡ place k (entriesIn count s) → Shown count s k before before 0
-  shown-none p = rw (keep-absent k (entriesIn count s) (sym p)) (λ t. refl, λ t. splice-none before 0)
-
-  pub shown-one : (i : ℕ) (after : List ℕ) → some i ≡ place k (entriesIn count s) → i < count
-      → after ≡ splice before 0 (part (220 * i) 220 s) → Shown count s k before after 1
-  shown-one i after p h a =
-      let e : Tidy count s → keep (hasKey k) (entriesIn count s) ≡ part (220 * i) 220 s ∷ [] = λ t.
-      keep-place k (entriesIn count s) i (t .distinct) (sym p) ∙ ap (λ (x : List ℕ). x ∷ []) (parts-at i count 220 s h) in
-      let q : after ≡ splice before 0 (concat (part (220 * i) 220 s ∷ [])) = rw append-nil a in
-      (λ t. ap length (sym (e t)), λ t. q ∙ ap (λ (l : List (List ℕ)). splice before 0 (concat l)) (sym (e t)))
+  pub one-read : (i : ℕ) (after : List ℕ) → some i ≡ place k es → i < tables .count → 220 ≤ length before
+      → after ≡ splice before 0 (part (220 * i) 220 s) → Distinct es → Reads (keep (hasKey k) es) before after 1
+  one-read i after p h l a d =
+      let e : keep (hasKey k) es ≡ part (220 * i) 220 s ∷ [] =
+      keep-place k es i d (sym p) ∙ ap (λ (x : List ℕ). x ∷ []) (parts-at i (tables .count) 220 s h) in
+      rw e (omega arith, rw append-nil a)
 
 -- ---- the entries of the rows asked for
 
@@ -64,7 +57,7 @@ first-length (suc r) (x ∷ xs) w h =
 
 -- Of all the records the first n are written to the start of `before`, which gives `after`; those that are left are the next, or
 -- there is no room for one more.
-pub record Reading (all left : List (List ℕ)) (before after : List ℕ) (n : ℕ) : Type 0 where
+pub record ReadSoFar (all left : List (List ℕ)) (before after : List ℕ) (n : ℕ) : Type 0 where
   pub room : 220 * n ≤ length before
   pub long : length after ≡ length before
   pub few : n ≤ length all
@@ -72,7 +65,7 @@ pub record Reading (all left : List (List ℕ)) (before after : List ℕ) (n : �
   pub bytes : after ≡ splice before 0 (concat (take n all))
   pub next : (drop n all ≡ left) ⊎ (length before < 220 * n + 220)
 
-pub reading-start : (all : List (List ℕ)) (before : List ℕ) → Reading all all before before 0
+pub reading-start : (all : List (List ℕ)) (before : List ℕ) → ReadSoFar all all before before 0
 reading-start all before = record {
   room = omega arith;
   long = refl;
@@ -82,7 +75,7 @@ reading-start all before = record {
   next = inl refl;
 }
 
-module _ {all left : List (List ℕ)} {before after : List ℕ} {n : ℕ} (g : Reading all left before after n) where
+module _ {all left : List (List ℕ)} {before after : List ℕ} {n : ℕ} (g : ReadSoFar all left before after n) where
   pub reading-end : left ≡ [] → Reads all before after n
   reading-end e = (
     ⊎-elim (λ d. omega (arith, g .room, g .few, ap length (d ∙ e), length-drop n all)) (λ f. omega (arith, g .room, g .few)) (g .next),
@@ -92,7 +85,7 @@ module _ {all left : List (List ℕ)} {before after : List ℕ} {n : ℕ} (g : R
   -- the first r of the next records, all of them or as many as there is room for
   reading-next : (xs more : List (List ℕ)) (r : ℕ) → left ≡ xs ++ more → EveryLength 220 xs
       → r ≡ min (length xs) ((length before - 220 * n) / 220)
-      → Reading all more before (splice after (220 * n) (concat (take r xs))) (n + r)
+      → ReadSoFar all more before (splice after (220 * n) (concat (take r xs))) (n + r)
   reading-next xs more r e w m =
       let ys : List (List ℕ) = take r xs in
       let y : length (concat ys) ≡ 220 * r = first-length r xs w (omega arith) in
@@ -122,33 +115,33 @@ module _ {all left : List (List ℕ)} {before after : List ℕ} {n : ℕ} (g : R
       }
 
   -- the entries of a table, gathered into what is left of `after`, which comes back as p
-  pub reading-gather : (table count : ℕ) (s : List ℕ) (more : List (List ℕ)) (p : List ℕ) (r : ℕ) →
+  pub reading-gather : (table : ℕ) (tables : Held) (s : List ℕ) (more : List (List ℕ)) (p : List ℕ) (r : ℕ) →
       let lent : List ℕ = take (length after - 220 * n) (drop (220 * n) after) in
-      let xs : List (List ℕ) = keep (inTable table) (entriesIn count s) in
-      left ≡ xs ++ more → 220 * count ≤ length s
-      → r ≡ min (held table (tablesIn count s)) (length lent / 220) → p ≡ splice lent 0 (concat (take r xs))
-      → Reading all more before (putMid (220 * n) (length after - 220 * n) after p) (n + r)
+      let xs : List (List ℕ) = keep (inTable table) (entriesIn tables s) in
+      left ≡ xs ++ more → 220 * tables .count ≤ length s
+      → r ≡ min (held table (tablesIn tables s)) (length lent / 220) → p ≡ splice lent 0 (concat (take r xs))
+      → ReadSoFar all more before (putMid (220 * n) (length after - 220 * n) after p) (n + r)
   unfolding held
-  reading-gather table count s more p r e h number bytes =
+  reading-gather table tables s more p r e h number bytes =
       let at : ℕ = 220 * n in
       let k : ℕ = length after - at in
-      let xs : List (List ℕ) = keep (inTable table) (entriesIn count s) in
+      let xs : List (List ℕ) = keep (inTable table) (entriesIn tables s) in
       let l : length after ≡ length before = g .long in
       let o : at ≤ length before = g .room in
       let lent : length (take k (drop at after)) ≡ k = length-window at k after (omega arith) in
-      let w : EveryLength 220 xs = keep-lengths 220 (inTable table) (entriesIn count s) (parts-lengths count 220 s (omega arith)) in
+      let w : EveryLength 220 xs = keep-lengths 220 (inTable table) (entriesIn tables s) (parts-lengths (tables .count) 220 s (omega arith)) in
       let y : length (concat (take r xs)) ≡ 220 * r = first-length r xs w (omega arith) in
       rw (part-copied after p (concat (take r xs)) at k bytes (omega arith) (omega arith))
       (reading-next xs more r e w (rw (lent, l) at number))
 
 -- what is left of a READ before the row at i
-module _ (role table : ℕ) (rows : Rows) (count : ℕ) (s : List ℕ) where
+module _ (role table : ℕ) (rows : Rows) (tables : Held) (s : List ℕ) where
   abbrev pub unread : ℕ → List (List ℕ)
-  unread i = gathered role table (drop i (rowsOf rows)) (tablesIn count s)
+  unread i = gathered role table (drop i (rowsOf rows)) (tablesIn tables s)
 
   module _ (i : ℕ) (e : length (rows .rows) ≡ 8) (h : i < rows .count) (g : i < 8) where
     pub unread-hit : asked role table (rowOf (getD (rows .rows) i blank)) ≡ true
-        → unread i ≡ keep (inTable (rowOf (getD (rows .rows) i blank) .table)) (entriesIn count s) ++ unread (i + 1)
+        → unread i ≡ keep (inTable (rowOf (getD (rows .rows) i blank) .table)) (entriesIn tables s) ++ unread (i + 1)
     unread-hit a = rw (rows-next rows i e h g, a)
 
     pub unread-miss : asked role table (rowOf (getD (rows .rows) i blank)) ≡ false → unread i ≡ unread (i + 1)
