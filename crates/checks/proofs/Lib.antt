@@ -1,2 +1,3 @@
 -- Laws of the checks.
 pub mod Alongside
+pub mod Asked

@@ -1,1 +1,2 @@
--- This crate's contracts cite the rules' definitions alone.
+-- The order of a whole entry; the other contracts cite the rules' definitions alone.
+pub mod Orders

@@ -1,24 +1,43 @@
-// Checks of a key and of a whole entry against a row: reasons 17, 18 and 19 (document 01, "Configuration and entries").
+// Checks of a table, a key and a whole entry against a row: reasons 15 to 19, in their order (document 01, "The maker of an update").
 ghost use mathlib.Core.Path.{_≡_};
 ghost use mathlib.Core.Bool.{_&&_};
-ghost use Prim.Native.Nat.{_+_};
-ghost use lib.ListN.{length, take};
-ghost use Rattle.rules.specs.Bytes.{between, some-of, parts};
-ghost use Rattle.rules.specs.Key.{slotFormed, slotFits, slotRule, alongside, alongsideAll, priorityRule};
-ghost use Rattle.rules.specs.Entry.{hasAction, widthsOf, actionFormed, actionFits};
+ghost use mathlib.Core.List.{List};
+ghost use Prim.Native.Nat.{ℕ};
+ghost use lib.ListN.{length, take, drop};
+ghost use Rattle.rules.specs.Bytes.{between, some-of, part, parts};
+ghost use Rattle.rules.specs.Reason.{first};
+ghost use Rattle.rules.specs.Row.{tableOrder};
+ghost use Rattle.rules.specs.Value.{isValue, fits};
+ghost use Rattle.rules.specs.Key.{slotFormed, slotFits, slotRule, alongside, alongsideAll, priorityRule, keyOrder};
+ghost use Rattle.rules.specs.Entry.{hasAction, widthsOf};
+ghost use Rattle.rules.specs.Update.{entryOrder};
 ghost use Rattle.rows.specs.Meaning.{rowOf};
-use numbers::Number;
+ghost use Rattle.checks.specs.Orders.{wholeOrder};
 use numbers::integer;
-use rows::Field;
+use rows::Lookup;
 use rows::Row;
 use slots::slot_fits;
 use slots::slot_formed;
 use slots::slot_rule;
 
+// 15 and 16 of an update or a READ, by what the rows say of its table.
+pub fn table_reason(found: Lookup, role: u8) -> u8
+    ensures { λ r. ⌜ r ≡ first (tableOrder (found .known) (rowOf (found .row)) role) ⌝ }
+{
+    if !found.known {
+        return 15;
+    }
+    let row = found.row;
+    if !row.may_write(role) {
+        return 16;
+    }
+    0
+}
+
 // ---- a key: its four slots, 140 bytes, and its priority
 
 // 17 of a key: each field's slot, and zeros past the fields.
-pub fn key_formed(row: Row, slots: &[u8]) -> bool
+fn key_formed(row: Row, slots: &[u8]) -> bool
     requires { ⌜ length (now slots) ≡ 140 ⌝ }
     ensures { λ r. ⌜ r ≡ alongsideAll slotFormed (rowOf row .fields) (parts 4 35 (now (slots .entry))) ⌝ }
 {
@@ -43,7 +62,7 @@ pub fn key_formed(row: Row, slots: &[u8]) -> bool
 }
 
 // 18 of a key.
-pub fn key_fits(row: Row, slots: &[u8]) -> bool
+fn key_fits(row: Row, slots: &[u8]) -> bool
     requires { ⌜ length (now slots) ≡ 140 ⌝ }
     ensures { λ r. ⌜ r ≡ alongside slotFits (rowOf row .fields) (parts 4 35 (now (slots .entry))) ⌝ }
 {
@@ -138,23 +157,49 @@ fn priority_rule(row: Row, priority: u64) -> bool
 }
 
 // 19 of a key, with its priority.
-pub fn key_rules(row: Row, priority: u64, slots: &[u8]) -> bool
+fn key_rules(row: Row, priority: u64, slots: &[u8]) -> bool
     requires { ⌜ length (now slots) ≡ 140 ⌝ }
     ensures { λ r. ⌜ r ≡ (alongside slotRule (rowOf row .fields) (parts 4 35 (now (slots .entry))) && priorityRule (rowOf row .fields) priority) ⌝ }
 {
     slots_rule(row, slots) && priority_rule(row, priority)
 }
 
+// 17, 18 and 19 of a key. Here it stands without its table: priority 4, slots 140.
+pub fn key_reason(row: Row, key: &[u8]) -> u8
+    requires { ⌜ length (now key) ≡ 144 ⌝ }
+    ensures { λ r. ⌜ ((k : List ℕ) → part 4 144 k ≡ now (key .entry) → r ≡ first (keyOrder (rowOf row) k)) ⌝ }
+{
+    if !key_formed(row, &key[4..144]) {
+        return 17;
+    }
+    if !key_fits(row, &key[4..144]) {
+        return 18;
+    }
+    if !key_rules(row, integer(key, 0, 4), &key[4..144]) {
+        return 19;
+    }
+    0
+}
+
 // ---- the action and parameters of an entry
 
-// An action of a row, if it is there; one without parameters where it is not.
-struct Chosen {
+// The widths of an action's parameters, if a row has the action; none where it has not.
+struct Parameters {
     known: bool,
     count: u8,
     widths: [u8; 4],
 }
 
-fn choose(row: Row, id: u64) -> Chosen
+impl Parameters {
+    const NONE: Parameters = Parameters {
+        known: false,
+        count: 0,
+        widths: [0, 0, 0, 0],
+    };
+}
+
+// The parameters of the row's action of an id.
+fn parameters_of(row: Row, id: u64) -> Parameters
     ensures known { λ r. ⌜ r .known ≡ hasAction id (rowOf row .actions) ⌝ }
     ensures widths { λ r. ⌜ take (r .count) (r .widths) ≡ widthsOf id (rowOf row .actions) ⌝ }
 {
@@ -162,16 +207,12 @@ fn choose(row: Row, id: u64) -> Chosen
     let mut i: usize = 0;
     while i < 4 {
         if n <= i {
-            return Chosen {
-                known: false,
-                count: 0,
-                widths: [0, 0, 0, 0],
-            };
+            return Parameters::NONE;
         }
         let action = row.actions[i];
         if action.id as u64 == id {
             let widths = action.widths;
-            return Chosen {
+            return Parameters {
                 known: true,
                 count: action.count,
                 widths,
@@ -179,23 +220,15 @@ fn choose(row: Row, id: u64) -> Chosen
         }
         i += 1;
     }
-    Chosen {
-        known: false,
-        count: 0,
-        widths: [0, 0, 0, 0],
-    }
+    Parameters::NONE
 }
 
-// 17 of an entry's action: it is the row's, its parameters are values, and those past their count are 0.
-pub fn action_formed(row: Row, entry: &[u8]) -> bool
+// 17 of an entry's parameters: as many values as their action has, and zeros past them.
+fn action_formed(action: Parameters, entry: &[u8]) -> bool
     requires { ⌜ length (now entry) ≡ 220 ⌝ }
-    ensures { λ r. ⌜ r ≡ actionFormed (rowOf row) (now (entry .entry)) ⌝ }
+    ensures { λ r. ⌜ r ≡ alongsideAll (λ _. isValue) (take (action .count) (action .widths)) (parts 4 17 (drop 152 (now (entry .entry)))) ⌝ }
 {
-    let chosen = choose(row, integer(entry, 148, 4));
-    if !chosen.known {
-        return false;
-    }
-    let n = chosen.count as usize;
+    let n = action.count as usize;
     let mut i: usize = 0;
     while i < 4 {
         let at = 152 + 17 * i;
@@ -215,12 +248,11 @@ pub fn action_formed(row: Row, entry: &[u8]) -> bool
 }
 
 // 18 of an entry's parameters.
-pub fn action_fits(row: Row, entry: &[u8]) -> bool
+fn action_fits(action: Parameters, entry: &[u8]) -> bool
     requires { ⌜ length (now entry) ≡ 220 ⌝ }
-    ensures { λ r. ⌜ r ≡ actionFits (rowOf row) (now (entry .entry)) ⌝ }
+    ensures { λ r. ⌜ r ≡ alongside fits (take (action .count) (action .widths)) (parts 4 17 (drop 152 (now (entry .entry)))) ⌝ }
 {
-    let chosen = choose(row, integer(entry, 148, 4));
-    let n = chosen.count as usize;
+    let n = action.count as usize;
     let mut i: usize = 0;
     while i < 4 {
         if n <= i {
@@ -228,11 +260,51 @@ pub fn action_fits(row: Row, entry: &[u8]) -> bool
         }
         let at = 152 + 17 * i;
         let end = at + 17;
-        let width = chosen.widths[i];
+        let width = action.widths[i];
         if !values::fits(&entry[at..end], width) {
             return false;
         }
         i += 1;
     }
     true
+}
+
+// ---- an entry
+
+// 17, 18 and 19 of a whole entry.
+fn whole_reason(row: Row, entry: &[u8]) -> u8
+    requires { ⌜ length (now entry) ≡ 220 ⌝ }
+    ensures { λ r. ⌜ r ≡ first (wholeOrder (rowOf row) (now (entry .entry))) ⌝ }
+{
+    let action = parameters_of(row, integer(entry, 148, 4));
+    if !key_formed(row, &entry[8..148]) {
+        return 17;
+    }
+    if !action.known {
+        return 17;
+    }
+    if !action_formed(action, entry) {
+        return 17;
+    }
+    if !key_fits(row, &entry[8..148]) {
+        return 18;
+    }
+    if !action_fits(action, entry) {
+        return 18;
+    }
+    if !key_rules(row, integer(entry, 4, 4), &entry[8..148]) {
+        return 19;
+    }
+    0
+}
+
+// 17, 18 and 19 of an update's entry, by its type. Of a DELETE's only the key is looked at.
+pub fn entry_reason(row: Row, kind: u8, entry: &[u8]) -> u8
+    requires { ⌜ length (now entry) ≡ 220 ⌝ }
+    ensures { λ r. ⌜ r ≡ first (entryOrder (rowOf row) kind (now (entry .entry))) ⌝ }
+{
+    if kind == 3 {
+        return key_reason(row, &entry[4..148]);
+    }
+    whole_reason(row, entry)
 }

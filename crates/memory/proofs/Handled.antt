@@ -13,7 +13,7 @@ use Rattle.rules.specs.Sound.{Sound}
 use Rattle.rules.proofs.Formed.{parts-count}
 use Rattle.buffers.specs.Splice.{splice}
 use Rattle.answers.proofs.Answers.{replies, fills}
-use Rattle.entries.specs.Store.{tablesIn}
+use Rattle.store.specs.Store.{tablesIn}
 use Rattle.calls.specs.Contract.{Result, Represents, Correct}
 use Rattle.memory.specs.declared.Agent.{Agent}
 use Rattle.memory.specs.Layout.{Flat, memory, result}
@@ -21,7 +21,7 @@ use Rattle.memory.specs.Handles.{atTables, Invariant, Handles}
 
 -- the one state that a memory of the flat layout represents
 abbrev pub flat : Agent → List ℕ → State
-flat a store = atTables a (tablesIn (a .tables .count) store)
+flat a store = atTables a (tablesIn (a .tables) store)
 
 pub flat-handles : (a : Agent) (c : Command) (store d : List ℕ) {r : Result Agent}
     → (Sound (flat a store) → Correct Flat (flat a store) c (memory a store) d r) → Handles (memory a store) c d r

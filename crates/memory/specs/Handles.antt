@@ -6,7 +6,7 @@ use Rattle.rules.specs.Update as rules
 use Rattle.rules.specs.Call.{State}
 use Rattle.rules.specs.Sound.{Sound}
 use Rattle.arbitration.specs.declared.Streams.{Streams}
-use Rattle.entries.specs.declared.Tables.{Tables}
+use Rattle.store.specs.declared.Tables.{Tables}
 use Rattle.memory.specs.declared.Configuration.{Configuration}
 use Rattle.memory.specs.declared.Agent.{Agent}
 use Rattle.calls.specs.Contract.{Memory, Result, Correct}

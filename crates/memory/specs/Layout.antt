@@ -9,7 +9,7 @@ use Rattle.rules.specs.Call.{Control}
 use Rattle.arbitration.specs.declared.Streams.{Streams}
 use Rattle.arbitration.specs.Meaning.{streamsOf}
 use Rattle.rows.specs.Meaning.{rowsOf}
-use Rattle.entries.specs.Store.{tablesIn}
+use Rattle.store.specs.Store.{tablesIn}
 use Rattle.memory.specs.declared.Device.{Device}
 use Rattle.memory.specs.declared.Configuration.{Configuration}
 use Rattle.memory.specs.declared.Agent.{Agent}
@@ -26,7 +26,7 @@ controlOf a = controlIn (a .device) (a .streams) (a .configuration)
 abbrev pub Flat : Layout Agent
 Flat = record {
   control = controlOf;
-  holds = λ (m : Memory Agent) (t : rules.Tables). tablesIn (m .agent .tables .count) (m .store) ≡ t;
+  holds = λ (m : Memory Agent) (t : rules.Tables). tablesIn (m .agent .tables) (m .store) ≡ t;
   used = λ (m : Memory Agent). take (m .agent .tables .count * entrySize) (m .store) ∷ [];
 }
 

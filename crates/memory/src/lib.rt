@@ -2,7 +2,7 @@
 ghost use Rattle.calls.specs.Contract.{Fresh};
 ghost use Rattle.memory.specs.Layout.{Flat};
 use arbitration::Streams;
-use entries::Tables;
+use store::Tables;
 use rows::Rows;
 
 // The device that the agent controls.
@@ -37,7 +37,7 @@ impl Agent {
             configuration: Configuration {
                 rows: Rows::fresh(),
             },
-            tables: Tables { count: 0 },
+            tables: Tables::none(),
         }
     }
 }

@@ -16,7 +16,7 @@ ghost use Rattle.memory.specs.Layout.{controlIn};
 ghost use Rattle.pipeline.specs.Pipeline.{Refuses, CarriesOut};
 use arbitration::Streams;
 use election::Head;
-use entries::Tables;
+use store::Tables;
 use frames::PipelineCommand;
 use memory::Configuration;
 use memory::Device;

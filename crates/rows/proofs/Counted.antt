@@ -1,20 +1,18 @@
 -- The rows in force, walked from the front: what is left begins with the row at the index, and is nothing past the count or
 -- the eighth. Assumes nothing.
-use Prim.Native.Nat.{ℕ, zero, suc, _+_, _%_, min, _≤_, _<_}
+use Prim.Native.Nat.{ℕ, zero, suc, _+_, min, _≤_, _<_}
 use native.Mathlib.Numerals.{add-one}
 use native.Mathlib.Omega.{arith}
-use mathlib.Core.Path.{_≡_, refl, sym, ap, _∙_}
-use mathlib.Core.Bool.{true}
+use mathlib.Core.Path.{_≡_, refl, ap, _∙_}
 use mathlib.Core.List.{List, [], _∷_, map}
-use lib.ListN.{length, take, drop, getD, length-map, length-take, drop-of-length-le, List·getD-map, List·getD-eq-default}
+use lib.ListN.{length, take, drop, getD, length-map, length-take, drop-of-length-le, List·getD-map}
 use lib.Seq.{drop-cons, getD-take}
-use lib.Dec.{eqb, ltb, eqb·suc-zero}
-use borrow.Author.Tests.{ltb-true}
+use lib.Dec.{eqb, eqb·suc-zero}
 use Rattle.rules.specs.Call.{unconfigured}
 use Rattle.rules.specs.Row as rules
 use Rattle.rows.specs.declared.Row.{Row}
 use Rattle.rows.specs.declared.Rows.{Rows}
-use Rattle.rows.specs.Meaning.{rowOf, rowsOf, rowAt}
+use Rattle.rows.specs.Meaning.{rowOf, rowsOf}
 
 -- there is none exactly where the count is 0
 pub none-within : (n : ℕ) (l : List Row) → 0 < length l → eqb n 0 ≡ unconfigured (map rowOf (take n l))
@@ -45,18 +43,3 @@ rows-next c j e h g =
 pub rows-none : (c : Rows) (j : ℕ) → length (c .rows) ≡ 8 → min (c .count) 8 ≤ j → drop j (rowsOf c) ≡ []
 unfolding rowsOf
 rows-none c j e h = drop-of-length-le (map rowOf (take (c .count) (c .rows))) {i = j} (rw (length-map, length-take, e) h)
-
--- a place within the array, and past it
-pub row-at : (c : Rows) (i : ℕ) → rowAt c i ≡ rowOf (getD (c .rows) i blank)
-unfolding rowAt rowOf
-row-at c i = List·getD-map rowOf (c .rows) i blank
-
-pub row-past : (c : Rows) (i : ℕ) → length (c .rows) ≡ 8 → 8 ≤ i → rowAt c i ≡ rules.noRow
-unfolding rowAt
-row-past c i e h = List·getD-eq-default (map rowOf (c .rows)) rules.noRow {n = i} (rw (length-map, e) h)
-
--- what the code reads at a place that was found is the row there
-pub row-there : (c : Rows) (at : ℕ) → ltb at 8 ≡ true → rowOf (getD (c .rows) (at % 8) blank) ≡ rowAt c at
-row-there c at h =
-    let here : at % 8 ≡ at = omega (arith, ltb-true at 8 h) in
-    ap (λ (n : ℕ). rowOf (getD (c .rows) n blank)) here ∙ sym (row-at c at)

@@ -1,9 +1,9 @@
 -- What the values of this crate mean in the rules' terms. Assumes nothing.
 use mathlib.Core.Bool.{Bool, _&&_}
-use mathlib.Core.List.{List, [], _∷_, map}
-use Prim.Native.Nat.{ℕ, _+_}
-use lib.Dec.{leb, eqb}
-use lib.ListN.{take, getD}
+use mathlib.Core.List.{List, [], map}
+use Prim.Native.Nat.{ℕ}
+use lib.Dec.{leb}
+use lib.ListN.{take}
 use Rattle.rules.specs.Bytes.{if_then_else_, every, parts}
 use Rattle.rules.specs.Row as rules
 use Rattle.rows.specs.declared.Field.{Field}
@@ -30,15 +30,6 @@ rowOf r = record {
 -- the rows in force
 unfoldable pub rowsOf : Rows → List rules.Row
 rowsOf c = map rowOf (take (c .count) (c .rows))
-
--- the row at place i, also past the count; an empty one past the eighth
-unfoldable pub rowAt : Rows → ℕ → rules.Row
-rowAt c i = getD (map rowOf (c .rows)) i rules.noRow
-
--- the place of the table's row, the first of these rows being at i; 8 where the table is not known
-unfoldable pub placeFrom : ℕ → ℕ → List rules.Row → ℕ
-placeFrom i table [] = 8
-placeFrom i table (row ∷ rows) = if eqb (row .table) table then i else placeFrom (i + 1) table rows
 
 -- of a row's 53 bytes: no count is over 4, so that nothing is left out when it is read
 unfoldable pub countsFit : List ℕ → Bool

@@ -4,11 +4,10 @@ ghost use mathlib.Core.Bool.{true, _&&_};
 ghost use mathlib.Core.List.{[]};
 ghost use Prim.Native.Nat.{_+_, _*_, _≤_, _<_};
 ghost use lib.ListN.{length};
-ghost use lib.Dec.{ltb};
 ghost use Rattle.rules.specs.Bytes.{part, parts};
 ghost use Rattle.rules.specs.Call.{unconfigured};
 ghost use Rattle.rules.specs.Row as rules;
-ghost use Rattle.rows.specs.Meaning.{fieldOf, actionOf, rowOf, rowsOf, rowAt, placeFrom, rowsIn, countsFit};
+ghost use Rattle.rows.specs.Meaning.{fieldOf, actionOf, rowOf, rowsOf, rowsIn, countsFit};
 use numbers::integer;
 
 // A match field: a kind and a width in bits.
@@ -43,6 +42,13 @@ pub struct Row {
 pub struct Rows {
     pub rows: [Row; 8],
     pub count: u8,
+}
+
+// What the rows say of a table: whether it is known, and its row, an empty one where it is not.
+#[repr(C)]
+pub struct Lookup {
+    pub known: bool,
+    pub row: Row,
 }
 
 impl Field {
@@ -156,6 +162,14 @@ impl Row {
     }
 }
 
+impl Lookup {
+    // Of an unknown table.
+    const NONE: Lookup = Lookup {
+        known: false,
+        row: Row::NONE,
+    };
+}
+
 // Whether no count of a row is over 4, so that nothing is left out when it is read.
 fn counts_fit(b: &[u8]) -> bool
     requires { ⌜ length (now b) ≡ 53 ⌝ }
@@ -204,24 +218,23 @@ impl Rows {
         }
     }
 
-    // The place of a table's row, 8 where the table is not known.
-    pub fn position(self, table: u64) -> usize
-        ensures known { λ r. ⌜ ltb r 8 ≡ rules.known table (rowsOf self) ⌝ }
-        ensures row { λ r. ⌜ rowAt self r ≡ rules.rowFor table (rowsOf self) ⌝ }
-        ensures place { λ r. ⌜ r ≡ placeFrom 0 table (rowsOf self) ⌝ }
+    // The row of a table.
+    pub fn find(self, table: u64) -> Lookup
+        ensures known { λ r. ⌜ r .known ≡ rules.known table (rowsOf self) ⌝ }
+        ensures row { λ r. ⌜ rowOf (r .row) ≡ rules.rowFor table (rowsOf self) ⌝ }
     {
         let n = self.count as usize;
         let mut i: usize = 0;
         while i < 8 {
             if n <= i {
-                return 8;
+                return Lookup::NONE;
             }
             let row = self.rows[i];
             if row.table as u64 == table {
-                return i;
+                return Lookup { known: true, row };
             }
             i += 1;
         }
-        8
+        Lookup::NONE
     }
 }

@@ -26,7 +26,7 @@ use Rattle.buffers.specs.Splice.{splice}
 use Rattle.frames.specs.declared.Query.{Query}
 use Rattle.frames.specs.declared.TableCommand.the-variants.{Read}
 use Rattle.frames.specs.Meaning.{queryRead, OperandsThere}
-use Rattle.entries.specs.Store.{tablesIn}
+use Rattle.store.specs.Store.{tablesIn}
 use Rattle.entry_store.specs.Read.{keyIn, keyReason, queryReason, readIn, Reads}
 use Rattle.calls.specs.Contract.{Correct}
 use Rattle.memory.specs.declared.Agent.{Agent}
@@ -81,17 +81,17 @@ module _ (a : Agent) (q : rules.Query) where
       → Correct Flat (flat a store) (onTables (READ q)) (memory a store) d (result a 0 store out)
   unfolding next nextControl nextTables answer refusal
   was-read store d out e o =
-      store-stays a (onTables (READ q)) store d out (λ z. let w : _≡_ {A = ℕ} 0 1 = cc in omega arith) (tablesIn (a .tables .count) store)
+      store-stays a (onTables (READ q)) store d out (λ z. let w : _≡_ {A = ℕ} 0 1 = cc in omega arith) (tablesIn (a .tables) store)
       (record { reason = 0; records = shown (flat a store) q }) (rw e) (record { control = refl; tables = refl }) refl o
 
   -- the entries that the store's reader takes are those shown
   pub taken : (store : List ℕ) → Formed (onTables (READ q)) → Sound (flat a store) → readReason (controlOf a) q ≡ 0
-      → readIn (controlOf a .rows) (q .role) (q .table) (q .only) (q .key) (tablesIn (a .tables .count) store) ≡ shown (flat a store) q
+      → readIn (controlOf a .rows) (q .role) (q .table) (q .only) (q .key) (tablesIn (a .tables) store) ≡ shown (flat a store) q
   unfolding readIn shown refusal
   taken store f k e = go (eqb (q .only) 1) refl
     where
       go : (b : Bool) → eqb (q .only) 1 ≡ b
-          → readIn (controlOf a .rows) (q .role) (q .table) (q .only) (q .key) (tablesIn (a .tables .count) store) ≡ shown (flat a store) q
+          → readIn (controlOf a .rows) (q .role) (q .table) (q .only) (q .key) (tablesIn (a .tables) store) ≡ shown (flat a store) q
       go true o = rw o (sym (one-key (flat a store) q f k (eq-eqb (readReason (controlOf a) q) 0 e) (eqb-true (q .only) 1 o)) ∙ (rw o))
       go false o = rw o
 

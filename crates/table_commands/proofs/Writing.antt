@@ -16,7 +16,7 @@ use Rattle.rules.specs.Sound.{Sound}
 use Rattle.rules.specs.Update.{Batch}
 use Rattle.rules.proofs.Formed.{parts-count}
 use Rattle.buffers.specs.Splice.{splice}
-use Rattle.entries.specs.Store.{entriesIn}
+use Rattle.store.specs.Store.{entriesIn}
 use Rattle.updates.specs.Update.{Tidy}
 use Rattle.entry_store.specs.declared.Written.{Written}
 use Rattle.entry_store.specs.Batch.{BatchApplied}

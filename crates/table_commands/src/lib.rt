@@ -14,7 +14,7 @@ ghost use Rattle.frames.specs.Meaning.{tableRead, OperandsThere};
 ghost use Rattle.memory.specs.Layout.{memory, result};
 ghost use Rattle.memory.specs.Handles.{Handles, withTables};
 use election::Head;
-use entries::Tables;
+use store::Tables;
 use frames::Query;
 use frames::TableCommand;
 use memory::Agent;

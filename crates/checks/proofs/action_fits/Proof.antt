@@ -6,67 +6,52 @@ use mathlib.Core.Bool.{Bool, true, _&&_}
 use mathlib.Core.List.{List}
 use lib.ListN.{length, take, drop}
 use denote.Ref.{now}
-use borrow.Author.Needs.{needs}
 use borrow.Author.Tests.{not-true, not-false}
 use Rattle.rules.specs.Bytes.{parts}
 use Rattle.rules.specs.Value.{fits}
 use Rattle.rules.specs.Key.{alongside}
-use Rattle.rules.specs.Entry.{actionFits}
-use Rattle.rows.specs.Meaning.{rowOf}
 use Rattle.rules.proofs.Lists.{length-mapped}
 use Rattle.checks.proofs.Alongside.{counted-next, counted-none, left, left-next, left-none}
+use borrow.Author.Needs.{needs}
 use Rattle.checks.proofs.action_fits.Statement.{statement}
 use Rattle.checks.proofs.action_fits.Tie as tie
 
 abbrev Inv-loop : tie.InvT-loop
-Inv-loop entry chosen n i₀ i =
-    alongside fits (take (chosen .count) (chosen .widths)) (parts 4 17 (drop 152 entry))
-    ≡ left fits (take (chosen .count) (chosen .widths)) 17 152 entry i
+Inv-loop entry action n i₀ i =
+    alongside fits (take (action .count) (action .widths)) (parts 4 17 (drop 152 entry))
+    ≡ left fits (take (action .count) (action .widths)) 17 152 entry i
 
 abbrev μ-loop : tie.MeasureT-loop
-μ-loop entry chosen n i₀ i = 4 - i
+μ-loop entry action n i₀ i = 4 - i
 
 abbrev entry : tie.At-loop Inv-loop μ-loop → List ℕ
-entry c = now (c .before .before .before .before .args .entry)
+entry c = now (c .before .before .args .entry)
 
--- the chosen action's widths
+-- the action's widths
 abbrev widths : tie.At-loop Inv-loop μ-loop → List ℕ
-widths c = take (c .before .choose .result .count) (c .before .choose .result .widths)
+widths c = take (c .before .before .args .t1 .count) (c .before .before .args .t1 .widths)
 
-size : (c : tie.At-loop Inv-loop μ-loop) → length (c .before .choose .result .widths) ≡ 4
+size : (c : tie.At-loop Inv-loop μ-loop) → length (c .before .before .args .t1 .widths) ≡ 4
 size c = search (needs, length-mapped)
 
--- what is asked is asked over them
-asked : (c : tie.At-loop Inv-loop μ-loop)
-    → actionFits (rowOf (c .before .before .before .before .args .row)) (entry c)
-    ≡ left fits (widths c) 17 152 (entry c) (c .loop .i)
-unfolding actionFits
-asked c = rw (← c .before .before .integer .ensures, ← c .before .choose .ensures .1) (c .loop .inv)
-
 -- no width is left
-ended : (c : tie.At-loop Inv-loop μ-loop) → min (c .before .choose .result .count) 4 ≤ c .loop .i
-    → true ≡ actionFits (rowOf (c .before .before .before .before .args .row)) (entry c)
+ended : (c : tie.At-loop Inv-loop μ-loop) → min (c .before .before .args .t1 .count) 4 ≤ c .loop .i
+    → true ≡ alongside fits (widths c) (parts 4 17 (drop 152 (entry c)))
 ended c h =
-    let w = c .before .choose .result in
+    let w = c .before .before .args .t1 in
     let none = counted-none (w .count) (c .loop .i) (w .widths) (rw (size c) h) in
-    sym (asked c ∙ left-none fits (widths c) 17 152 (entry c) (c .loop .i) none)
+    sym (c .loop .inv ∙ left-none fits (widths c) 17 152 (entry c) (c .loop .i) none)
 
 -- the parameter at the index came out so
 next : (c : tie.After-fits2 Inv-loop μ-loop) {b : Bool} → c .fits2 .result ≡ b →
     let l = c .before .before .before .before .before in
-    left fits (widths l) 17 152 (entry l) (l .loop .i) ≡ b && left fits (widths l) 17 152 (entry l) (l .loop .i + 1)
+    alongside fits (widths l) (parts 4 17 (drop 152 (entry l))) ≡ b && left fits (widths l) 17 152 (entry l) (l .loop .i + 1)
 next c q =
     let l = c .before .before .before .before .before in
-    let w = l .before .choose .result in
+    let w = l .before .before .args .t1 in
     let i : ℕ = l .loop .i in
     let first = counted-next (w .count) i (w .widths) 0 (omega arith) (omega (arith, size l)) in
-    left-next fits (widths l) 17 152 (entry l) i (152 + 17 * i) (omega arith) refl q first (c .fits2 .ensures)
-
-integer-requires : tie.Need-integer-requires Inv-loop μ-loop
-integer-requires c κs = search needs
-
-choose-requires : tie.Need-choose-requires Inv-loop μ-loop
-choose-requires c κs = search needs
+    l .loop .inv ∙ left-next fits (widths l) 17 152 (entry l) i (152 + 17 * i) (omega arith) refl q first (c .fits2 .ensures)
 
 cast-n : tie.Need-cast-n Inv-loop μ-loop
 cast-n c = search needs
@@ -102,9 +87,7 @@ fits-requires : tie.Need-fits-requires Inv-loop μ-loop
 fits-requires c κs = search needs
 
 returns-2 : tie.Need-returns-2 Inv-loop μ-loop
-returns-2 c =
-    let r = c .before .fits2 .result in
-    sym (asked (c .before .before .before .before .before .before) ∙ next (c .before) (not-true r (c .if2 .taken)))
+returns-2 c = sym (next (c .before) (not-true (c .before .fits2 .result) (c .if2 .taken)))
 
 add-i : tie.Need-add-i Inv-loop μ-loop
 add-i c = search needs
@@ -113,9 +96,7 @@ loop-less : tie.Need-loop-less Inv-loop μ-loop
 loop-less c = search needs
 
 loop-again : tie.Need-loop-again Inv-loop μ-loop
-loop-again c =
-    let r = c .before .fits2 .result in
-    c .before .before .before .before .before .before .loop .inv ∙ next (c .before) (not-false r (c .if2 .left))
+loop-again c = next (c .before) (not-false (c .before .fits2 .result) (c .if2 .left))
 
 returns-3 : tie.Need-returns-3 Inv-loop μ-loop
 returns-3 c = ended (c .before) (omega arith)
@@ -126,8 +107,6 @@ action-fits-spec =
     (tie.spec
     Inv-loop
     μ-loop
-    integer-requires
-    choose-requires
     cast-n
     loop-holds
     returns

@@ -7,15 +7,13 @@ use mathlib.Core.List.{List}
 use mathlib.Core.Logic.{⊎-elim}
 use lib.ListN.{length, take, drop}
 use denote.Ref.{now}
-use borrow.Author.Needs.{needs}
 use borrow.Author.Tests.{not-true, not-false}
 use Rattle.rules.specs.Bytes.{parts, allZero}
 use Rattle.rules.specs.Value.{isValue}
 use Rattle.rules.specs.Key.{alongsideAll}
-use Rattle.rules.specs.Entry.{actionFormed}
-use Rattle.rows.specs.Meaning.{rowOf}
 use Rattle.rules.proofs.Lists.{length-mapped}
 use Rattle.checks.proofs.Alongside.{counted-next, counted-none, leftAll, leftAll-next, leftAll-unused, leftAll-none}
+use borrow.Author.Needs.{needs}
 use Rattle.checks.proofs.action_formed.Statement.{statement}
 use Rattle.checks.proofs.action_formed.Tie as tie
 
@@ -23,7 +21,6 @@ use Rattle.checks.proofs.action_formed.Tie as tie
 abbrev value : ℕ → List ℕ → Bool
 value width = isValue
 
--- what is left of the chosen action is the number of its widths, so this is said of any four
 abbrev Inv-loop : tie.InvT-loop
 Inv-loop entry n i₀ i =
     (ws : List ℕ) → length ws ≡ 4
@@ -33,14 +30,14 @@ abbrev μ-loop : tie.MeasureT-loop
 μ-loop entry n i₀ i = 4 - i
 
 abbrev entry : tie.At-loop Inv-loop μ-loop → List ℕ
-entry c = now (c .before .before .before .before .before .before .before .args .entry)
+entry c = now (c .before .before .before .args .entry)
 
--- of the chosen action
+-- of the action
 abbrev count : tie.At-loop Inv-loop μ-loop → ℕ
-count c = c .before .before .before .before .choose .result .count
+count c = c .before .before .before .args .action .count
 
 abbrev widths : tie.At-loop Inv-loop μ-loop → List ℕ
-widths c = c .before .before .before .before .choose .result .widths
+widths c = c .before .before .before .args .action .widths
 
 size : (c : tie.At-loop Inv-loop μ-loop) → length (widths c) ≡ 4
 size c = search (needs, length-mapped)
@@ -48,16 +45,6 @@ size c = search (needs, length-mapped)
 -- what is asked from a parameter on
 abbrev leftOf : tie.At-loop Inv-loop μ-loop → List ℕ → ℕ → Bool
 leftOf c ws i = leftAll value (take (count c) ws) 17 152 (entry c) i
-
--- the action is the row's, so what is asked is asked of its parameters
-asked : (c : tie.At-loop Inv-loop μ-loop)
-    → actionFormed (rowOf (c .before .before .before .before .before .before .before .args .row)) (entry c)
-    ≡ leftOf c (widths c) (c .loop .i)
-unfolding actionFormed
-asked c =
-    let d = c .before .before .before .before in
-    let known = sym (d .choose .ensures .0) ∙ not-false (d .choose .result .known) (c .before .before .if1 .left) in
-    rw (← d .before .integer .ensures, known, ← d .choose .ensures .1) (c .loop .inv (widths c) (size c))
 
 -- the parameter at the index, whose test came out as b
 abbrev parameter : tie.At-loop Inv-loop μ-loop → List ℕ
@@ -76,19 +63,6 @@ unused c ws e g h r q =
     let i : ℕ = c .loop .i in
     let none = counted-none (count c) i ws (omega arith) in
     leftAll-unused value (take (count c) ws) 17 152 (entry c) i (152 + 17 * i) g refl q none r
-
-integer-requires : tie.Need-integer-requires Inv-loop μ-loop
-integer-requires c κs = search needs
-
-choose-requires : tie.Need-choose-requires Inv-loop μ-loop
-choose-requires c κs = search needs
-
-returns : tie.Need-returns Inv-loop μ-loop
-unfolding actionFormed
-returns c =
-    let d = c .before .before in
-    let foreign = sym (d .choose .ensures .0) ∙ not-true (d .choose .result .known) (c .if1 .taken) in
-    rw (← d .before .integer .ensures, foreign)
 
 cast-n : tie.Need-cast-n Inv-loop μ-loop
 cast-n c = search needs
@@ -117,12 +91,12 @@ part-formed-end c = search needs
 formed-requires : tie.Need-formed-requires Inv-loop μ-loop
 formed-requires c κs = search needs
 
-returns-2 : tie.Need-returns-2 Inv-loop μ-loop
-returns-2 c =
+returns : tie.Need-returns Inv-loop μ-loop
+returns c =
     let l = c .before .before .before .before .before in
     let r = c .before .formed in
-    let q = not-true (r .result) (c .if3 .taken) in
-    sym (asked l ∙ used l (widths l) (size l) (omega arith) (omega arith) (r .ensures) q)
+    let q = not-true (r .result) (c .if2 .taken) in
+    sym (l .loop .inv (widths l) (size l) ∙ used l (widths l) (size l) (omega arith) (omega arith) (r .ensures) q)
 
 sub-all-zero : tie.Need-sub-all-zero Inv-loop μ-loop
 sub-all-zero c = search needs
@@ -136,12 +110,12 @@ part-all-zero-end c = search needs
 all-zero-requires : tie.Need-all-zero-requires Inv-loop μ-loop
 all-zero-requires c κs = search needs
 
-returns-3 : tie.Need-returns-3 Inv-loop μ-loop
-returns-3 c =
+returns-2 : tie.Need-returns-2 Inv-loop μ-loop
+returns-2 c =
     let l = c .before .before .before .before .before in
     let r = c .before .all-zero in
-    let q = not-true (r .result) (c .if4 .taken) in
-    sym (asked l ∙ unused l (widths l) (size l) (omega arith) (omega arith) (r .ensures) q)
+    let q = not-true (r .result) (c .if3 .taken) in
+    sym (l .loop .inv (widths l) (size l) ∙ unused l (widths l) (size l) (omega arith) (omega arith) (r .ensures) q)
 
 add-i : tie.Need-add-i Inv-loop μ-loop
 add-i c = search needs
@@ -155,14 +129,14 @@ loop-again c ws e =
     let h : l .loop .i < 4 = omega arith in
     l .loop .inv ws e
     ∙ ⊎-elim (λ w. used l ws e h (w .0 .taken) (w .2 .ensures) (not-false (w .2 .result) (w .3 .left)))
-    (λ w. unused l ws e h (w .0 .left) (w .2 .ensures) (not-false (w .2 .result) (w .3 .left))) (c .if2 .came)
+    (λ w. unused l ws e h (w .0 .left) (w .2 .ensures) (not-false (w .2 .result) (w .3 .left))) (c .if1 .came)
 
-returns-4 : tie.Need-returns-4 Inv-loop μ-loop
-returns-4 c =
+returns-3 : tie.Need-returns-3 Inv-loop μ-loop
+returns-3 c =
     let l = c .before in
     let i : ℕ = l .loop .i in
     let none = counted-none (count l) i (widths l) (omega (arith, size l)) in
-    sym (asked l ∙ leftAll-none value (take (count l) (widths l)) 17 152 (entry l) i (omega arith) none)
+    sym (l .loop .inv (widths l) (size l) ∙ leftAll-none value (take (count l) (widths l)) 17 152 (entry l) i (omega arith) none)
 
 pub action-formed-spec : {M : Type 1} → statement M
 action-formed-spec =
@@ -170,9 +144,6 @@ action-formed-spec =
     (tie.spec
     Inv-loop
     μ-loop
-    integer-requires
-    choose-requires
-    returns
     cast-n
     loop-holds
     mul-at
@@ -182,13 +153,13 @@ action-formed-spec =
     part-formed-start
     part-formed-end
     formed-requires
-    returns-2
+    returns
     sub-all-zero
     part-all-zero-start
     part-all-zero-end
     all-zero-requires
-    returns-3
+    returns-2
     add-i
     loop-less
     loop-again
-    returns-4)
+    returns-3)

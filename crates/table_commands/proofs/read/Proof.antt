@@ -15,7 +15,7 @@ use Rattle.rules.proofs.Refused.{table-refused}
 use Rattle.rules.proofs.Sizes.{shown-sized}
 use Rattle.buffers.proofs.Splice.{length-window}
 use Rattle.frames.specs.Meaning.{queryRead}
-use Rattle.entries.specs.Store.{tablesIn}
+use Rattle.store.specs.Store.{tablesIn}
 use Rattle.entry_store.specs.Read.{queryReason, readIn, Reads}
 use Rattle.memory.specs.Layout.{controlOf}
 use Rattle.memory.specs.Handles.{atTables}
@@ -145,7 +145,7 @@ returns-3 c =
     let w : length (take (length d - 4) (drop 4 d)) ≡ length d - 4 = length-window 4 (length d - 4) d (omega (arith, p .3)) in
     let t : Reads es (take (length d - 4) (drop 4 d)) (r .last .1 .1 .1 .1 .1 .1 .1 .0) (r .result) =
     subst (λ (x : List (List ℕ)). Reads x (take (length d - 4) (drop 4 d)) (r .last .1 .1 .1 .1 .1 .1 .1 .0) (r .result))
-    (ap (λ (key : List ℕ). readIn (controlOf (a .agent) .rows) (q .role) (q .table) (q .only) key (tablesIn (a .agent .tables .count) s)) (key-there (a .query) f (whole f (p .0 .0)))
+    (ap (λ (key : List ℕ). readIn (controlOf (a .agent) .rows) (q .role) (q .table) (q .only) key (tablesIn (a .agent .tables) s)) (key-there (a .query) f (whole f (p .0 .0)))
     ∙ taken (a .agent) q s formed k e) (r .ensures (tidy (a .agent) s k)) in
     let n = reads-all es (take (length d - 4) (drop 4 d)) (omega (arith, z .1, p .3)) t in
     was-read (a .agent) q s d (h .last .1 .1 .0) e

@@ -15,7 +15,7 @@ use Rattle.rules.proofs.Sizes.{reasons-count}
 use Rattle.buffers.specs.Splice.{splice}
 use Rattle.election.specs.Meaning.{headOf}
 use Rattle.rows.specs.Meaning.{rowsOf}
-use Rattle.entries.specs.Store.{tablesIn}
+use Rattle.store.specs.Store.{tablesIn}
 use Rattle.entry_store.specs.Batch.{updatesIn, BatchApplied}
 use Rattle.memory.specs.Layout.{controlOf}
 use Rattle.memory.specs.Handles.{atTables}
@@ -103,7 +103,7 @@ returns-2 c =
     let rs = batchOf (flat (a .agent) s) (headOf (a .head)) (a .atomicity) us .reasons in
     let lent = rest-all 29 f in
     let n : a .n ≡ length (map pairOf rs) =
-    sym (length-map rs pairOf ∙ reasons-count (a .atomicity) (rowsOf (a .agent .configuration .rows)) (a .head .role) (tablesIn (a .agent .tables .count) s) us
+    sym (length-map rs pairOf ∙ reasons-count (a .atomicity) (rowsOf (a .agent .configuration .rows)) (a .head .role) (tablesIn (a .agent .tables) s) us
     ∙ length-map (parts (a .n) 221 (drop 29 f)) updateOf ∙ parts-count (a .n) 221 (drop 29 f)) in
     flat-handles (a .agent) _ s (now (a .answer)) (λ k.
     let t = tidy (a .agent) s k in

@@ -1,0 +1,3 @@
+-- What a batch leaves, and how far one that rolls back came.
+pub mod Batch
+pub mod Rollback

@@ -1,0 +1,291 @@
+// Batches of updates, rolled back or not (document 01, "The maker of an update"; document 02, request Two).
+ghost use mathlib.Core.Path.{_≡_};
+ghost use mathlib.Core.List.{List, map};
+ghost use Prim.Native.Nat.{ℕ, _+_, _*_, _≤_, _<_};
+ghost use lib.Dec.{eqb};
+ghost use lib.ListN.{length, drop};
+ghost use Rattle.rules.specs.Bytes.{if_then_else_, concat};
+ghost use Rattle.rules.specs.Frame.{updateOf};
+ghost use Rattle.rules.specs.Update.{judgeBy, apply, eachAlone, rolledBack, batch as batchOf};
+ghost use Rattle.rules.specs.Call.{pairOf};
+ghost use Rattle.rules.specs.Sound.{Distinct};
+ghost use Rattle.buffers.specs.Splice.{splice};
+ghost use Rattle.rows.specs.Meaning.{rowOf, rowsOf};
+ghost use Rattle.store.specs.Store.{entriesIn, tablesIn, Holds};
+ghost use Rattle.judging.specs.Verdict.{Possible};
+ghost use Rattle.batches.specs.Batch.{updatesIn, writtenOf, BatchApplied};
+ghost use Rattle.batches.specs.Rollback.{notedAt, Noted, Undoes, Stopped};
+use judging::Verdict;
+use numbers::integer;
+use rows::Lookup;
+use rows::Rows;
+use store::Tables;
+
+// What a batch leaves, and whether an update failed.
+pub struct Written {
+    pub tables: Tables,
+    pub failed: bool,
+}
+
+// How far a batch came: what it leaves, how many updates were taken before the one that stopped it (all n where none did), and the
+// reason of the last one that failed (0: none did).
+struct Progress {
+    tables: Tables,
+    done: usize,
+    reason: u8,
+}
+
+// What one update leaves, and its reason.
+struct Taken {
+    tables: Tables,
+    reason: u8,
+}
+
+// ---- the updates in order
+
+// Writes the pair of an update: a record of 2 bytes.
+fn write_pair(reason: u8, out: &mut [u8])
+    requires { ⌜ 2 ≤ length (now out) ⌝ }
+    ensures { λ _. ⌜ now (out .exit) ≡ splice (now (out .entry)) 0 (pairOf reason) ⌝ }
+{
+    out[0] = reason;
+    out[1] = rules::code(reason);
+}
+
+// Notes what doing the verdict of update i will do, with atomicity 1: note i of the log.
+fn note_update(
+    atomicity: u8,
+    verdict: Verdict,
+    store: &[u8],
+    tables: Tables,
+    log: &mut [u8],
+    i: usize,
+)
+    requires { ⌜ Possible verdict tables × (tables .count ≤ 256) × (56320 ≤ length (now store)) × (atomicity ≡ 1 → 74 * i + 74 ≤ length (now log)) ⌝ }
+    ensures long { λ _. ⌜ (atomicity ≡ 1 → length (notedAt i verdict (entriesIn tables (now (store .entry))) (now (log .entry))) ≡ 74) ⌝ }
+    ensures note { λ _. ⌜ (atomicity ≡ 1 → now (log .exit) ≡ splice (now (log .entry)) (74 * i) (notedAt i verdict (entriesIn tables (now (store .entry))) (now (log .entry)))) ⌝ }
+{
+    if atomicity != 1 {
+        return;
+    }
+    let at = 74 * i;
+    let end = at + 74;
+    changes::note(verdict, store, tables, &mut log[at..end]);
+}
+
+// Takes update i, of 221 bytes: it is judged by what the rows say of its table, its pair is written, and it is done where nothing refused
+// it. With atomicity 1 what it will do is noted beforehand.
+fn step(
+    found: Lookup,
+    role: u8,
+    atomicity: u8,
+    store: &mut [u8],
+    tables: Tables,
+    update: &[u8],
+    log: &mut [u8],
+    i: usize,
+    answer: &mut [u8],
+) -> Taken
+    requires { ⌜ (tables .count ≤ 256) × (56320 ≤ length (now store)) × (length (now update) ≡ 221) × (atomicity ≡ 1 → 74 * i + 74 ≤ length (now log)) × (2 * i + 2 ≤ length (now answer)) ⌝ }
+    ensures reason { λ r. ⌜ r .reason ≡ judgeBy (found .known) (rowOf (found .row)) role (tablesIn tables (now (store .entry))) (updateOf (now (update .entry))) ⌝ }
+    ensures pair { λ r. ⌜ now (answer .exit) ≡ splice (now (answer .entry)) (2 * i) (pairOf (r .reason)) ⌝ }
+    ensures few { λ r. ⌜ r .tables .count ≤ 256 ⌝ }
+    ensures left { λ r. ⌜ (Distinct (entriesIn tables (now (store .entry))) → Holds (now (store .entry)) (now (store .exit)) (r .tables) (apply (r .reason) (updateOf (now (update .entry))) (tablesIn tables (now (store .entry))) .entries)) ⌝ }
+    ensures noted { λ r. ⌜ (atomicity ≡ 1 → r .reason ≡ 0 → Noted i (now (update .entry)) (entriesIn tables (now (store .entry))) (entriesIn (r .tables) (now (store .exit))) (now (log .entry)) (now (log .exit))) ⌝ }
+    ensures refused { λ r. ⌜ ((r .reason ≡ 0 → ⊥) → (now (store .exit) ≡ now (store .entry)) × (r .tables ≡ tables) × (now (log .exit) ≡ now (log .entry))) ⌝ }
+{
+    let verdict = judging::judge(found, role, store, tables, update);
+    let reason = verdict.reason();
+    let at = 2 * i;
+    write_pair(reason, &mut answer[at..]);
+    if reason != 0 {
+        return Taken { tables, reason };
+    }
+    note_update(atomicity, verdict, store, tables, log, i);
+    let left = changes::apply(verdict, store, tables, update);
+    Taken {
+        tables: left,
+        reason,
+    }
+}
+
+// Takes the n updates in order. With atomicity 1 the first that fails stops the batch.
+fn take(
+    rows: Rows,
+    role: u8,
+    atomicity: u8,
+    store: &mut [u8],
+    tables: Tables,
+    updates: &[u8],
+    n: usize,
+    log: &mut [u8],
+    answer: &mut [u8],
+) -> Progress
+    requires { ⌜ (tables .count ≤ 256) × (56320 ≤ length (now store)) × (length (now updates) ≡ 221 * n) × (2 * n ≤ length (now answer)) × (atomicity ≡ 1 → 74 * n ≤ length (now log)) ⌝ }
+    ensures bound { λ r. ⌜ (r .tables .count ≤ 256) × (r .done ≤ n) ⌝ }
+    ensures none { λ r. ⌜ (atomicity ≡ 1 → r .done ≡ n → r .reason ≡ 0) ⌝ }
+    ensures left { λ r. ⌜ (r .done ≡ n → Distinct (entriesIn tables (now (store .entry))) → BatchApplied (eachAlone (rowsOf rows) role (tablesIn tables (now (store .entry))) (updatesIn n (now (updates .entry)))) (now (store .entry)) (now (store .exit)) (writtenOf r)) ⌝ }
+    ensures pairs { λ r. ⌜ (r .done ≡ n → Distinct (entriesIn tables (now (store .entry))) → now (answer .exit) ≡ splice (now (answer .entry)) 0 (concat (map pairOf (eachAlone (rowsOf rows) role (tablesIn tables (now (store .entry))) (updatesIn n (now (updates .entry))) .reasons)))) ⌝ }
+    ensures stopped { λ r. ⌜ (r .done < n → (atomicity ≡ 1) × (Distinct (entriesIn tables (now (store .entry))) → Stopped (rowsOf rows) role tables n (now (updates .entry)) (now (store .entry)) (now (store .exit)) (now (log .exit)) r)) ⌝ }
+    ensures beyond { λ _. ⌜ drop (2 * n) (now (answer .exit)) ≡ drop (2 * n) (now (answer .entry)) ⌝ }
+{
+    let mut held = tables;
+    let mut failure: u8 = 0;
+    let mut i: usize = 0;
+    while i < n {
+        let from = 221 * i;
+        let end = from + 221;
+        // the row alone is handed on: a step that was given the rows would copy them
+        let found = rows.find(integer(updates, from + 1, 4));
+        let taken = step(
+            found,
+            role,
+            atomicity,
+            store,
+            held,
+            &updates[from..end],
+            log,
+            i,
+            answer,
+        );
+        held = taken.tables;
+        if taken.reason != 0 {
+            failure = taken.reason;
+            if atomicity == 1 {
+                return Progress {
+                    tables: held,
+                    done: i,
+                    reason: failure,
+                };
+            }
+        }
+        i += 1;
+    }
+    Progress {
+        tables: held,
+        done: n,
+        reason: failure,
+    }
+}
+
+// ---- a batch that was stopped is rolled back
+
+// Undoes the first n updates by their notes, the last one first.
+fn roll_back(log: &[u8], updates: &[u8], n: usize, store: &mut [u8], tables: Tables) -> Tables
+    requires { ⌜ (tables .count ≤ 256) × (74 * n ≤ length (now log)) × (221 * n ≤ length (now updates)) × (56320 ≤ length (now store)) ⌝ }
+    ensures { λ r. ⌜ ((goal : List (List ℕ)) → Undoes n (now (log .entry)) (now (updates .entry)) (entriesIn tables (now (store .entry))) goal → Holds (now (store .entry)) (now (store .exit)) r goal) ⌝ }
+{
+    let mut held = tables;
+    let mut i = n;
+    while 0 < i {
+        i -= 1;
+        let at = 74 * i;
+        let end = at + 74;
+        let from = 221 * i;
+        let to = from + 221;
+        held = changes::undo(&log[at..end], &updates[from..to], store, held);
+    }
+    held
+}
+
+// The reason that update i is answered with where update `at` failed with a reason of its own.
+fn outcome(i: usize, at: usize, own: u8) -> u8
+    ensures { λ r. ⌜ r ≡ (if eqb i at then own else 25) ⌝ }
+{
+    if i == at {
+        return own;
+    }
+    25
+}
+
+// Writes the pairs of n updates of which update `at` failed with a reason of its own.
+fn write_outcomes(n: usize, at: usize, own: u8, answer: &mut [u8])
+    requires { ⌜ 2 * n ≤ length (now answer) ⌝ }
+    ensures { λ _. ⌜ now (answer .exit) ≡ splice (now (answer .entry)) 0 (concat (map pairOf (rolledBack n (at, own)))) ⌝ }
+{
+    let mut k: usize = 0;
+    while k < n {
+        let to = 2 * k;
+        write_pair(outcome(k, at, own), &mut answer[to..]);
+        k += 1;
+    }
+}
+
+// ---- a batch
+
+// The n updates of a batch by its atomicity, each pair written; what is left. With atomicity 1 the log has room for n notes.
+fn batch_in(
+    rows: Rows,
+    role: u8,
+    atomicity: u8,
+    store: &mut [u8],
+    tables: Tables,
+    updates: &[u8],
+    n: usize,
+    log: &mut [u8],
+    answer: &mut [u8],
+) -> Written
+    requires { ⌜ (tables .count ≤ 256) × (56320 ≤ length (now store)) × (length (now updates) ≡ 221 * n) × (2 * n ≤ length (now answer)) × (atomicity ≡ 1 → 74 * n ≤ length (now log)) ⌝ }
+    ensures left { λ r. ⌜ (Distinct (entriesIn tables (now (store .entry))) → BatchApplied (batchOf atomicity (rowsOf rows) role (tablesIn tables (now (store .entry))) (updatesIn n (now (updates .entry)))) (now (store .entry)) (now (store .exit)) r) ⌝ }
+    ensures pairs { λ _. ⌜ (Distinct (entriesIn tables (now (store .entry))) → now (answer .exit) ≡ splice (now (answer .entry)) 0 (concat (map pairOf (batchOf atomicity (rowsOf rows) role (tablesIn tables (now (store .entry))) (updatesIn n (now (updates .entry))) .reasons)))) ⌝ }
+{
+    let came = take(
+        rows,
+        role,
+        atomicity,
+        store,
+        tables,
+        updates,
+        n,
+        log,
+        answer,
+    );
+    let mut held = came.tables;
+    if came.done < n {
+        write_outcomes(n, came.done, came.reason, answer);
+        held = roll_back(log, updates, came.done, store, held);
+    }
+    Written {
+        tables: held,
+        failed: came.reason != 0,
+    }
+}
+
+// The n updates of a batch by its atomicity, each pair written; what is left.
+pub fn batch(
+    rows: Rows,
+    role: u8,
+    atomicity: u8,
+    store: &mut [u8],
+    tables: Tables,
+    updates: &[u8],
+    n: usize,
+    answer: &mut [u8],
+) -> Written
+    requires { ⌜ (tables .count ≤ 256) × (56320 ≤ length (now store)) × (length (now updates) ≡ 221 * n) × (n ≤ 64) × (2 * n ≤ length (now answer)) ⌝ }
+    ensures left { λ r. ⌜ (Distinct (entriesIn tables (now (store .entry))) → BatchApplied (batchOf atomicity (rowsOf rows) role (tablesIn tables (now (store .entry))) (updatesIn n (now (updates .entry)))) (now (store .entry)) (now (store .exit)) r) ⌝ }
+    ensures pairs { λ _. ⌜ (Distinct (entriesIn tables (now (store .entry))) → now (answer .exit) ≡ splice (now (answer .entry)) 0 (concat (map pairOf (batchOf atomicity (rowsOf rows) role (tablesIn tables (now (store .entry))) (updatesIn n (now (updates .entry))) .reasons)))) ⌝ }
+{
+    if atomicity != 1 {
+        // nothing is noted
+        let mut none = [0; 1];
+        return batch_in(
+            rows,
+            role,
+            atomicity,
+            store,
+            tables,
+            updates,
+            n,
+            &mut none,
+            answer,
+        );
+    }
+    if n <= 4 {
+        // the long log would cost so few updates a good part more, being set to zero
+        let mut short = [0; 296];
+        return batch_in(rows, role, 1, store, tables, updates, n, &mut short, answer);
+    }
+    let mut log = [0; 4736];
+    batch_in(rows, role, 1, store, tables, updates, n, &mut log, answer)
+}

@@ -1,0 +1,59 @@
+-- Right because the action is written behind the key of entry i, up to its end. Assumes nothing.
+use Prim.Native.Nat.{ℕ, _+_, _*_, _-_}
+use native.Mathlib.Omega.{arith}
+use mathlib.Core.Path.{_≡_, ap, _∙_}
+use mathlib.Core.List.{List}
+use lib.ListN.{length, drop, length-drop}
+use denote.Ref.{now}
+use Rattle.rules.specs.Entry.{shortEntry}
+use Rattle.rules.proofs.Shortest.{entry-length}
+use Rattle.values.proofs.Pieces.{rest-back}
+use Rattle.store.proofs.Writes.{action-over}
+use borrow.Author.Needs.{needs}
+use Rattle.changes.proofs.modify.Statement.{statement}
+use Rattle.changes.proofs.modify.Tie as tie
+
+mul-at : tie.Need-mul-at
+mul-at c = search needs
+
+add-at : tie.Need-add-at
+add-at c = search needs
+
+sub-shorten-action : tie.Need-sub-shorten-action
+sub-shorten-action c = search needs
+
+part-shorten-action-start : tie.Need-part-shorten-action-start
+part-shorten-action-start c = search needs
+
+part-shorten-action-end : tie.Need-part-shorten-action-end
+part-shorten-action-end c = search needs
+
+shorten-action-requires : tie.Need-shorten-action-requires
+shorten-action-requires c κs = search needs
+
+same-length : tie.Need-same-length
+same-length c = search needs
+
+returns : tie.Need-returns
+returns c =
+    let a = c .before .before .before .before .before .before .args in
+    let s : List ℕ = now (a .store) in
+    let e : List ℕ = shortEntry (now (a .entry)) in
+    let new : List ℕ = drop 148 e in
+    let l : length new ≡ 72 = length-drop 148 e ∙ ap (λ (n : ℕ). n - 148) (entry-length (now (a .entry)) (omega arith)) in
+    let w = c .before .before .shorten-action in
+    rw (rest-back s (w .last .1 .0) new (220 * a .i + 148) (w .ensures) (omega arith))
+    (action-over (a .i) (a .tables) s new (omega arith) (omega arith) (omega arith) l)
+
+pub modify-spec : {M : Type 1} → statement M
+modify-spec =
+    tie.close
+    (tie.spec
+    mul-at
+    add-at
+    sub-shorten-action
+    part-shorten-action-start
+    part-shorten-action-end
+    shorten-action-requires
+    same-length
+    returns)

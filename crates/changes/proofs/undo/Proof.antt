@@ -1,0 +1,130 @@
+-- Right because each type of note is undone by the function that leaves what it says. Assumes nothing.
+use native.Mathlib.Omega.{arith}
+use Prim.Native.Nat.{ℕ}
+use mathlib.Core.Path.{_≡_, refl}
+use mathlib.Core.List.{List}
+use lib.ListN.{length}
+use denote.Ref.{now}
+use Rattle.rules.specs.Bytes.{byte}
+use Rattle.changes.proofs.Undoing.{back-one, back-two, back-other}
+use borrow.Author.Needs.{needs}
+use Rattle.changes.proofs.undo.Statement.{statement}
+use Rattle.changes.proofs.undo.Tie as tie
+
+shared-slice-read-kind : tie.Need-shared-slice-read-kind
+shared-slice-read-kind c = search needs
+
+shared-slice-read-wide : tie.Need-shared-slice-read-wide
+shared-slice-read-wide c = search needs
+
+wide-requires : tie.Need-wide-requires
+wide-requires c κs = search needs
+
+without-last-requires : tie.Need-without-last-requires
+without-last-requires c κs = search needs
+
+returns : tie.Need-returns
+returns c =
+    let a = c .before .before .before .before .before .before .before .before .args in
+    let note : List ℕ = now (a .note) in
+    let s : List ℕ = now (a .store) in
+    let e : byte 0 note ≡ 1 = search needs in
+    let w = c .without-last in (
+      omega arith,
+      back-one note (now (a .update)) s s (a .tables) (w .result) e
+          (record { holds = w .ensures .1 s; few = omega arith; room = refl; beyond = refl }),
+    )
+
+sub-replace-action : tie.Need-sub-replace-action
+sub-replace-action c = search needs
+
+part-replace-action-start : tie.Need-part-replace-action-start
+part-replace-action-start c = search needs
+
+part-replace-action-end : tie.Need-part-replace-action-end
+part-replace-action-end c = search needs
+
+replace-action-requires : tie.Need-replace-action-requires
+replace-action-requires c κs = search needs
+
+same-length : tie.Need-same-length
+same-length c = search needs
+
+returns-2 : tie.Need-returns-2
+returns-2 c =
+    let a = c .before .before .before .before .before .before .before .before .before .before .before .before .before .before .args in
+    let note : List ℕ = now (a .note) in
+    let s : List ℕ = now (a .store) in
+    let w = c .before .before .before .before .before .before .before .before .wide .ensures .0 in
+    let e : byte 0 note ≡ 2 = search needs in
+    let l : length note ≡ 74 = search needs in
+    (omega arith, back-two note (now (a .update)) s (c .before .before .replace-action .last .0) (a .tables) (a .tables) w l e (λ h. c .before .before .replace-action .ensures))
+
+returns-3 : tie.Need-returns-3
+returns-3 c =
+    let a = c .before .before .before .before .before .before .before .before .before .args in
+    let note : List ℕ = now (a .note) in
+    let s : List ℕ = now (a .store) in
+    let w = c .before .before .before .wide .ensures .0 in
+    let e : byte 0 note ≡ 2 = search needs in
+    let l : length note ≡ 74 = search needs in
+    (omega arith, back-two note (now (a .update)) s s (a .tables) (a .tables) w l e (λ h. absurd (omega arith)))
+
+returns-4 : tie.Need-returns-4
+returns-4 c =
+    let a = c .before .before .before .before .before .before .before .before .before .args in
+    let note : List ℕ = now (a .note) in
+    let s : List ℕ = now (a .store) in
+    let w = c .before .before .before .wide .ensures .0 in
+    let n : byte 0 note ≡ 1 → ⊥ = search needs in
+    let m : byte 0 note ≡ 2 → ⊥ = search needs in
+    (omega arith, back-other note (now (a .update)) s s (a .tables) (a .tables) w n m (λ h g. absurd (omega arith)))
+
+returns-5 : tie.Need-returns-5
+returns-5 c =
+    let a = c .before .before .before .before .before .before .before .before .before .before .args in
+    let note : List ℕ = now (a .note) in
+    let s : List ℕ = now (a .store) in
+    let w = c .before .before .before .before .wide .ensures .0 in
+    let n : byte 0 note ≡ 1 → ⊥ = search needs in
+    let m : byte 0 note ≡ 2 → ⊥ = search needs in
+    (omega arith, back-other note (now (a .update)) s s (a .tables) (a .tables) w n m (λ h g. absurd (omega arith)))
+
+put-back-requires : tie.Need-put-back-requires
+put-back-requires c κs = search needs
+
+same-length-2 : tie.Need-same-length-2
+same-length-2 c = search needs
+
+returns-6 : tie.Need-returns-6
+returns-6 c =
+    let a = c .before .before .before .before .before .before .before .before .before .before .before .before .before .before .args in
+    let note : List ℕ = now (a .note) in
+    let s : List ℕ = now (a .store) in
+    let w = c .before .before .before .before .before .before .before .before .wide .ensures .0 in
+    let p = c .before .before .put-back in
+    let n : byte 0 note ≡ 1 → ⊥ = search needs in
+    let m : byte 0 note ≡ 2 → ⊥ = search needs in
+    (p .ensures .few, back-other note (now (a .update)) s (p .last .1 .1 .0) (a .tables) (p .result) w n m (λ h g. p .ensures))
+
+pub undo-spec : {M : Type 1} → statement M
+undo-spec =
+    tie.close
+    (tie.spec
+    shared-slice-read-kind
+    shared-slice-read-wide
+    wide-requires
+    without-last-requires
+    returns
+    sub-replace-action
+    part-replace-action-start
+    part-replace-action-end
+    replace-action-requires
+    same-length
+    returns-2
+    returns-3
+    returns-4
+    returns-5
+    put-back-requires
+    same-length-2
+    returns-6)

@@ -1,0 +1,142 @@
+// Doing what was judged of one update (document 01, "The maker of an update"), noting it beforehand, and undoing it by its note
+// (document 02, request Two).
+ghost use mathlib.Core.Path.{_≡_};
+ghost use mathlib.Core.List.{[], _∷_, _++_};
+ghost use Prim.Native.Nat.{_+_, _*_, _≤_, _<_};
+ghost use lib.ListN.{length, drop};
+ghost use Rattle.rules.specs.Bytes.{byte, part};
+ghost use Rattle.rules.specs.Frame.{updateOf};
+ghost use Rattle.rules.specs.Key.{shortKey};
+ghost use Rattle.rules.specs.Entry.{shortEntry};
+ghost use Rattle.rules.specs.Update.{apply as applyOf};
+ghost use Rattle.rules.specs.Sound.{Distinct};
+ghost use Rattle.store.specs.Store.{entriesIn, tablesIn, insertedAt, changedAt, Holds};
+ghost use Rattle.judging.specs.Verdict.{reasonOf, Justified, Possible};
+ghost use Rattle.changes.specs.Effect.{effect};
+ghost use Rattle.changes.specs.Undo.{noteOf, noted, Undoable, undone};
+use judging::Verdict;
+use store::Tables;
+
+// Writes an entry after the last one, in shortest form.
+fn insert(store: &mut [u8], tables: Tables, entry: &[u8]) -> Tables
+    requires { ⌜ (tables .count < 256) × (56320 ≤ length (now store)) × (length (now entry) ≡ 220) ⌝ }
+    ensures { λ r. ⌜ Holds (now (store .entry)) (now (store .exit)) r (entriesIn tables (now (store .entry)) ++ (shortEntry (now (entry .entry)) ∷ [])) ⌝ }
+{
+    let count = tables.count;
+    let at = 220 * count;
+    values::shorten_entry(entry, &mut store[at..]);
+    Tables { count: count + 1 }
+}
+
+// Writes the action and parameters of an entry over those of entry i, in shortest form.
+fn modify(store: &mut [u8], tables: Tables, i: usize, entry: &[u8])
+    requires { ⌜ (i < tables .count) × (tables .count ≤ 256) × (56320 ≤ length (now store)) × (length (now entry) ≡ 220) ⌝ }
+    ensures { λ _. ⌜ Holds (now (store .entry)) (now (store .exit)) tables (changedAt i (drop 148 (shortEntry (now (entry .entry)))) (entriesIn tables (now (store .entry)))) ⌝ }
+{
+    let at = 220 * i + 148;
+    values::shorten_action(entry, &mut store[at..]);
+}
+
+// Does what a verdict says with an entry.
+fn perform(verdict: Verdict, store: &mut [u8], tables: Tables, entry: &[u8]) -> Tables
+    requires { ⌜ Possible verdict tables × (tables .count ≤ 256) × (56320 ≤ length (now store)) × (length (now entry) ≡ 220) ⌝ }
+    ensures { λ r. ⌜ Holds (now (store .entry)) (now (store .exit)) r (effect verdict (now (entry .entry)) (entriesIn tables (now (store .entry)))) ⌝ }
+{
+    match verdict {
+        Verdict::Refused(_) => tables,
+        Verdict::Insert => insert(store, tables, entry),
+        Verdict::Modify(i) => {
+            modify(store, tables, i, entry);
+            tables
+        }
+        Verdict::Delete(i) => store::remove(store, tables, i),
+    }
+}
+
+// Does what was judged of an update of 221 bytes.
+pub fn apply(verdict: Verdict, store: &mut [u8], tables: Tables, update: &[u8]) -> Tables
+    requires { ⌜ Possible verdict tables × (tables .count ≤ 256) × (56320 ≤ length (now store)) × (length (now update) ≡ 221) ⌝ }
+    ensures done { λ r. ⌜ Holds (now (store .entry)) (now (store .exit)) r (effect verdict (drop 1 (now (update .entry))) (entriesIn tables (now (store .entry)))) ⌝ }
+    ensures left { λ r. ⌜ (Distinct (entriesIn tables (now (store .entry))) → Justified verdict (byte 0 (now (update .entry))) (drop 1 (now (update .entry))) (entriesIn tables (now (store .entry))) → Holds (now (store .entry)) (now (store .exit)) r (applyOf (reasonOf verdict) (updateOf (now (update .entry))) (tablesIn tables (now (store .entry))) .entries)) ⌝ }
+{
+    perform(verdict, store, tables, &update[1..])
+}
+
+// ---- undoing
+
+// Notes the action and parameters of entry i as they are: a note of 74 bytes.
+fn note_entry(kind: u8, store: &[u8], i: usize, note: &mut [u8])
+    requires { ⌜ (i < 256) × (220 * i + 220 ≤ length (now store)) × (length (now note) ≡ 74) ⌝ }
+    ensures { λ _. ⌜ now (note .exit) ≡ kind ∷ i ∷ part (220 * i + 148) 72 (now (store .entry)) ⌝ }
+{
+    let from = 220 * i + 148;
+    let end = from + 72;
+    note[0] = kind;
+    note[1] = i as u8;
+    buffers::copy(&store[from..end], &mut note[2..74]);
+}
+
+// Notes what doing a verdict will do, so that it can be undone.
+pub fn note(verdict: Verdict, store: &[u8], tables: Tables, note: &mut [u8])
+    requires { ⌜ Possible verdict tables × (tables .count ≤ 256) × (56320 ≤ length (now store)) × (length (now note) ≡ 74) ⌝ }
+    ensures { λ _. ⌜ now (note .exit) ≡ noted verdict (entriesIn tables (now (store .entry))) (now (note .entry)) ⌝ }
+{
+    match verdict {
+        Verdict::Refused(_) => {}
+        Verdict::Insert => {
+            note[0] = 1;
+        }
+        Verdict::Modify(i) => {
+            note_entry(2, store, i, note);
+        }
+        Verdict::Delete(i) => {
+            note_entry(3, store, i, note);
+        }
+    }
+}
+
+// Makes the entry that was deleted: its key is the update's in shortest form, its action and parameters were noted.
+fn old_entry(note: &[u8], update: &[u8], out: &mut [u8])
+    requires { ⌜ (length (now note) ≡ 74) × (length (now update) ≡ 221) × (length (now out) ≡ 220) ⌝ }
+    ensures { λ _. ⌜ now (out .exit) ≡ shortKey (drop 1 (now (update .entry))) ++ drop 2 (now (note .entry)) ⌝ }
+{
+    values::shorten_key(&update[1..], out);
+    buffers::copy(&note[2..74], &mut out[148..220]);
+}
+
+// Puts the entry that was deleted back at its place.
+fn put_back(note: &[u8], update: &[u8], store: &mut [u8], tables: Tables, i: usize) -> Tables
+    requires { ⌜ (i ≤ tables .count) × (tables .count < 256) × (56320 ≤ length (now store)) × (length (now note) ≡ 74) × (length (now update) ≡ 221) ⌝ }
+    ensures { λ r. ⌜ Holds (now (store .entry)) (now (store .exit)) r (insertedAt i (shortKey (drop 1 (now (update .entry))) ++ drop 2 (now (note .entry))) (entriesIn tables (now (store .entry)))) ⌝ }
+{
+    let mut old = [0; 220];
+    old_entry(note, update, &mut old);
+    store::put_back(store, tables, i, &old)
+}
+
+// Undoes what was noted last of an update of 221 bytes. A note that cannot be undone, which none is that was made, changes nothing.
+pub fn undo(note: &[u8], update: &[u8], store: &mut [u8], tables: Tables) -> Tables
+    requires { ⌜ (tables .count ≤ 256) × (56320 ≤ length (now store)) × (length (now note) ≡ 74) × (length (now update) ≡ 221) ⌝ }
+    ensures bound { λ r. ⌜ r .count ≤ 256 ⌝ }
+    ensures left { λ r. ⌜ (Undoable (noteOf (now (note .entry)) (now (update .entry))) (tables .count) → Holds (now (store .entry)) (now (store .exit)) r (undone (noteOf (now (note .entry)) (now (update .entry))) (entriesIn tables (now (store .entry))))) ⌝ }
+{
+    let kind = note[0];
+    let i = buffers::wide(note[1]) as usize;
+    let count = tables.count;
+    if kind == 1 {
+        return tables.without_last();
+    }
+    if kind == 2 {
+        if i < count {
+            store::replace_action(store, tables, i, &note[2..74]);
+        }
+        return tables;
+    }
+    if 256 <= count {
+        return tables;
+    }
+    if count < i {
+        return tables;
+    }
+    put_back(note, update, store, tables, i)
+}

@@ -1,0 +1,62 @@
+-- The order of an update's reasons is that of its table, its entry and its place, one after the other. Assumes nothing.
+use Prim.Native.Nat.{ℕ}
+use mathlib.Core.Path.{_≡_, refl, sym, _∙_}
+use mathlib.Core.Bool.{Bool, true}
+use mathlib.Core.List.{List}
+use lib.ListN.{drop}
+use lib.Dec.{eqb}
+use borrow.Author.Tests.{ne-eqb}
+use Rattle.rules.specs.Bytes.{if_then_else_, between, byte}
+use Rattle.rules.specs.Reason.{first}
+use Rattle.rules.specs.Frame.{Update, updateOf}
+use Rattle.rules.specs.Row.{Row, known, rowFor, tableOrder}
+use Rattle.rules.specs.Key.{tableOf}
+use Rattle.rules.specs.Update.{Tables, entryOrder, placeOrder, judgeBy, judge}
+use Rattle.rules.proofs.Orders.{first-more}
+use Rattle.judging.specs.Verdict.{rowOrder, Justified}
+use Rattle.judging.specs.declared.Verdict.{Verdict}
+
+module _ (isKnown : Bool) (row : Row) (role : ℕ) where
+  -- of a type that there is, the table's reasons and then the entry's
+  module _ (type : ℕ) (e : List ℕ) (typed : between 1 3 type ≡ true) where
+    by-table : first (rowOrder isKnown row role type e)
+        ≡ (if eqb (first (tableOrder isKnown row role)) 0 then first (entryOrder row type e) else first (tableOrder isKnown row role))
+    unfolding first
+    by-table = rw typed (first-more (tableOrder isKnown row role) (entryOrder row type e) refl)
+
+    pub table-refused : {r : ℕ} → r ≡ first (tableOrder isKnown row role) → (r ≡ 0 → ⊥) → r ≡ first (rowOrder isKnown row role type e)
+    table-refused {r} q n = sym (by-table ∙ (rw (← q, ne-eqb r 0 n)))
+
+    pub entry-judged : {r : ℕ} → 0 ≡ first (tableOrder isKnown row role) → r ≡ first (entryOrder row type e)
+        → r ≡ first (rowOrder isKnown row role type e)
+    entry-judged q p = p ∙ sym (by-table ∙ (rw (← q)))
+
+  -- those by the row and then those by the entries stored
+  module _ (t : Tables) (u : List ℕ) where
+    abbrev byRow : List (Bool × ℕ)
+    byRow = rowOrder isKnown row role (byte 0 u) (drop 1 u)
+
+    in-turn : judgeBy isKnown row role t (updateOf u)
+        ≡ (if eqb (first byRow) 0 then first (placeOrder row (byte 0 u) (drop 1 u) t) else first byRow)
+    unfolding judgeBy
+    in-turn = first-more byRow (placeOrder row (byte 0 u) (drop 1 u) t) refl
+
+    pub row-refused : {r : ℕ} → r ≡ first byRow → (r ≡ 0 → ⊥) → r ≡ judgeBy isKnown row role t (updateOf u)
+    row-refused {r} q n = sym (in-turn ∙ (rw (← q, ne-eqb r 0 n)))
+
+    -- of the type and the entry as they are lent
+    pub place-judged : {r : ℕ} (type : ℕ) (e : List ℕ) → type ≡ byte 0 u → e ≡ drop 1 u → 0 ≡ first byRow
+        → r ≡ first (placeOrder row type e t) → r ≡ judgeBy isKnown row role t (updateOf u)
+    place-judged type e k w q p = rw (k, w) at p ∙ sym (in-turn ∙ (rw (← q)))
+
+-- what is right of the type and the entry as they are lent is right of the update's
+pub place-justified : (u : List ℕ) (es : List (List ℕ)) {type : ℕ} {e : List ℕ} (v : Verdict) → type ≡ byte 0 u → e ≡ drop 1 u
+    → Justified v type e es → Justified v (byte 0 u) (drop 1 u) es
+place-justified u es v k w j = rw (k, w) at j
+
+-- by the rows in force: whether the table is known there, and its row
+pub judged-by-rows : (rows : List Row) (role : ℕ) (t : Tables) (u : Update) {isKnown : Bool} {row : Row}
+    → isKnown ≡ known (tableOf (u .entry)) rows → row ≡ rowFor (tableOf (u .entry)) rows
+    → judgeBy isKnown row role t u ≡ judge rows role t u
+unfolding judge
+judged-by-rows rows role t u e f = rw (e, f)

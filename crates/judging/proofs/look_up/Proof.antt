@@ -1,0 +1,46 @@
+-- Right because the key that is searched for is the shortest form of the one given. Assumes nothing.
+use Prim.Native.Nat.{ℕ}
+use native.Mathlib.Omega.{arith}
+use mathlib.Core.Path.{_≡_, ap, _∙_}
+use mathlib.Core.List.{List}
+use lib.ListN.{length}
+use denote.Ref.{now}
+use Rattle.rules.specs.Key.{shortKey}
+use Rattle.rules.proofs.Shortest.{key-length}
+use Rattle.buffers.specs.Splice.{splice}
+use Rattle.buffers.proofs.Splice.{splice-end}
+use Rattle.store.specs.declared.Tables.{Tables}
+use Rattle.store.specs.Store.{entriesIn, place, placeOf}
+use Rattle.store.specs.declared.Found.{Found}
+use borrow.Author.Needs.{needs}
+use Rattle.judging.proofs.look_up.Statement.{statement}
+use Rattle.judging.proofs.look_up.Tie as tie
+
+-- what was found of a key in shortest form was found of the key
+short-found : (r : Found) (k before short : List ℕ) (tables : Tables) (s : List ℕ) → short ≡ splice before 0 (shortKey k) → length k ≡ 148
+    → length before ≡ 148 → placeOf r ≡ place short (entriesIn tables s) → placeOf r ≡ place (shortKey k) (entriesIn tables s)
+short-found r k before short tables s w l m p =
+    let n : length (shortKey k) ≡ 148 = key-length k (omega arith) in
+    p ∙ ap (λ (y : List ℕ). place y (entriesIn tables s)) (w ∙ splice-end before 0 (shortKey k) (omega arith))
+
+shorten-key-requires : tie.Need-shorten-key-requires
+shorten-key-requires c κs = search needs
+
+find-requires : tie.Need-find-requires
+find-requires c κs = search needs
+
+same-length : tie.Need-same-length
+same-length c = search needs
+
+returns : tie.Need-returns
+returns c =
+    let k = c .before .before .before .before in
+    let a = k .before .before .before .before .before .args in
+    let f = c .find in (
+      short-found (f .result) (now (a .key)) (now (a .short)) (k .shorten-key .last .1 .0) (a .tables) (now (a .store)) (k .shorten-key .ensures)
+          (omega arith) (omega arith) (f .ensures .0),
+      f .ensures .1,
+    )
+
+pub look-up-spec : {M : Type 1} → statement M
+look-up-spec = tie.close (tie.spec shorten-key-requires find-requires same-length returns)

@@ -1,0 +1,2 @@
+-- What an update is judged by.
+pub mod Verdict

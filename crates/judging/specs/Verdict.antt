@@ -1,0 +1,40 @@
+-- Verdicts on an update, in the rules' terms. Assumes nothing.
+use mathlib.Core.Path.{_≡_}
+use mathlib.Core.Bool.{Bool, true, false, not}
+use mathlib.Core.List.{List, _∷_, _++_}
+use mathlib.Core.Option.{some}
+use Prim.Native.Nat.{ℕ, _<_}
+use Rattle.rules.specs.Bytes.{between}
+use Rattle.rules.specs.Row.{Row, tableOrder}
+use Rattle.rules.specs.Key.{shortKey}
+use Rattle.rules.specs.Update.{isInsert, isModify, entryOrder}
+use Rattle.store.specs.declared.Tables.{Tables}
+use Rattle.store.specs.Store.{place}
+use Rattle.judging.specs.declared.Verdict.{Verdict}
+use Rattle.judging.specs.declared.Verdict.the-variants.{Refused, Insert, Modify, Delete}
+
+-- 17 of a type that is none, 15, 16, and 17 to 19 of an update of a type with entry e: the order of `judgeBy` up to 20
+abbrev pub rowOrder : Bool → Row → ℕ → ℕ → List ℕ → List (Bool × ℕ)
+rowOrder isKnown row role type e = (not (between 1 3 type), 17) ∷ tableOrder isKnown row role ++ entryOrder row type e
+
+-- the reason of a verdict, 0 where the update takes effect
+abbrev pub reasonOf : Verdict → ℕ
+reasonOf (Refused r) = r
+reasonOf Insert = 0
+reasonOf (Modify i) = 0
+reasonOf (Delete i) = 0
+
+-- A verdict on an update of a type with entry e, where es are stored, is right: a refusal has a reason, any other is for the update's
+-- type and names the place of its key.
+abbrev pub Justified : Verdict → ℕ → List ℕ → List (List ℕ) → Type 0
+Justified (Refused r) type e es = 0 < r
+Justified Insert type e es = isInsert type ≡ true
+Justified (Modify i) type e es = (isInsert type ≡ false) × (isModify type ≡ true) × (place (shortKey e) es ≡ some i)
+Justified (Delete i) type e es = (isInsert type ≡ false) × (isModify type ≡ false) × (place (shortKey e) es ≡ some i)
+
+-- a verdict can be carried out: there is room for one more entry, or the place is that of an entry
+abbrev pub Possible : Verdict → Tables → Type 0
+Possible (Refused r) tables = Unit {0}
+Possible Insert tables = tables .count < 256
+Possible (Modify i) tables = i < tables .count
+Possible (Delete i) tables = i < tables .count

@@ -1,0 +1,137 @@
+// Judging one update: why it is refused, or what is to be done (document 01, "The maker of an update"; document 02, request One).
+ghost use mathlib.Core.Path.{_≡_};
+ghost use mathlib.Core.Bool.{false};
+ghost use lib.ListN.{length, drop};
+ghost use Rattle.rules.specs.Bytes.{byte};
+ghost use Rattle.rules.specs.Reason.{first};
+ghost use Rattle.rules.specs.Frame.{updateOf};
+ghost use Rattle.rules.specs.Row as rules;
+ghost use Rattle.rules.specs.Key.{shortKey};
+ghost use Rattle.rules.specs.Update.{isInsert, placeOrder, judgeBy};
+ghost use Rattle.rows.specs.Meaning.{rowOf};
+ghost use Rattle.store.specs.Store.{entriesIn, tablesIn, InStore, InRange, place, placeOf};
+ghost use Rattle.judging.specs.Verdict.{rowOrder, reasonOf, Justified, Possible};
+use rows::Lookup;
+use rows::Row;
+use store::Found;
+use store::Tables;
+
+// What is to become of an update.
+pub enum Verdict {
+    Refused(u8),
+    Insert,
+    Modify(usize),
+    Delete(usize),
+}
+
+impl Verdict {
+    // The reason of a verdict, 0 where the update takes effect.
+    pub fn reason(self) -> u8
+        ensures { λ r. ⌜ r ≡ reasonOf self ⌝ }
+    {
+        match self {
+            Verdict::Refused(r) => r,
+            Verdict::Insert => 0,
+            Verdict::Modify(_) => 0,
+            Verdict::Delete(_) => 0,
+        }
+    }
+}
+
+// Where the entry of a key of 148 bytes is. Keys are compared in shortest form, into which this one is brought at `short`.
+fn look_up(store: &[u8], tables: Tables, key: &[u8], short: &mut [u8]) -> Found
+    requires { ⌜ InStore tables (now store) × (length (now key) ≡ 148) × (length (now short) ≡ 148) ⌝ }
+    ensures place { λ r. ⌜ placeOf r ≡ place (shortKey (now (key .entry))) (entriesIn tables (now (store .entry))) ⌝ }
+    ensures range { λ r. ⌜ InRange r tables ⌝ }
+{
+    values::shorten_key(key, short);
+    store::find(store, tables, short)
+}
+
+// Where the entry of an update's key is.
+fn locate(store: &[u8], tables: Tables, entry: &[u8]) -> Found
+    requires { ⌜ InStore tables (now store) × (length (now entry) ≡ 220) ⌝ }
+    ensures place { λ r. ⌜ placeOf r ≡ place (shortKey (now (entry .entry))) (entriesIn tables (now (store .entry))) ⌝ }
+    ensures range { λ r. ⌜ InRange r tables ⌝ }
+{
+    let mut short = [0; 148];
+    look_up(store, tables, &entry[0..148], &mut short)
+}
+
+// 20, 22 and 24 of an INSERT.
+fn judge_insert(row: Row, store: &[u8], tables: Tables, entry: &[u8]) -> Verdict
+    requires { ⌜ InStore tables (now store) × (length (now entry) ≡ 220) ⌝ }
+    ensures reason { λ r. ⌜ reasonOf r ≡ first (placeOrder (rowOf row) 1 (now (entry .entry)) (tablesIn tables (now (store .entry)))) ⌝ }
+    ensures justified { λ r. ⌜ Justified r 1 (now (entry .entry)) (entriesIn tables (now (store .entry))) ⌝ }
+    ensures possible { λ r. ⌜ Possible r tables ⌝ }
+{
+    let found = locate(store, tables, entry);
+    match found {
+        Found::At(_) => Verdict::Refused(20),
+        Found::Absent => {
+            if store::holds(store, tables, row.table as u64, row.size as usize) {
+                return Verdict::Refused(22);
+            }
+            if tables.are_full() {
+                return Verdict::Refused(24);
+            }
+            Verdict::Insert
+        }
+    }
+}
+
+// 21 of a MODIFY or a DELETE.
+fn judge_change(kind: u8, store: &[u8], tables: Tables, entry: &[u8]) -> Verdict
+    requires { ⌜ InStore tables (now store) × (length (now entry) ≡ 220) × (isInsert kind ≡ false) ⌝ }
+    ensures reason { λ r. ⌜ ((row : rules.Row) → reasonOf r ≡ first (placeOrder row kind (now (entry .entry)) (tablesIn tables (now (store .entry))))) ⌝ }
+    ensures justified { λ r. ⌜ Justified r kind (now (entry .entry)) (entriesIn tables (now (store .entry))) ⌝ }
+    ensures possible { λ r. ⌜ Possible r tables ⌝ }
+{
+    let found = locate(store, tables, entry);
+    match found {
+        Found::At(i) => {
+            if kind == 2 {
+                return Verdict::Modify(i);
+            }
+            Verdict::Delete(i)
+        }
+        Found::Absent => Verdict::Refused(21),
+    }
+}
+
+// 15 to 19 of an update of 221 bytes: what is asked of it by its table's row, before the entries stored.
+fn row_reason(found: Lookup, role: u8, update: &[u8]) -> u8
+    requires { ⌜ length (now update) ≡ 221 ⌝ }
+    ensures { λ r. ⌜ r ≡ first (rowOrder (found .known) (rowOf (found .row)) role (byte 0 (now (update .entry))) (drop 1 (now (update .entry)))) ⌝ }
+{
+    let kind = update[0];
+    if kind == 0 {
+        return 17;
+    }
+    if 3 < kind {
+        return 17;
+    }
+    let barred = checks::table_reason(found, role);
+    if barred != 0 {
+        return barred;
+    }
+    checks::entry_reason(found.row, kind, &update[1..])
+}
+
+// Judges an update of 221 bytes by what the rows say of its table, the role and the entries stored.
+pub fn judge(found: Lookup, role: u8, store: &[u8], tables: Tables, update: &[u8]) -> Verdict
+    requires { ⌜ InStore tables (now store) × (length (now update) ≡ 221) ⌝ }
+    ensures reason { λ r. ⌜ reasonOf r ≡ judgeBy (found .known) (rowOf (found .row)) role (tablesIn tables (now (store .entry))) (updateOf (now (update .entry))) ⌝ }
+    ensures justified { λ r. ⌜ Justified r (byte 0 (now (update .entry))) (drop 1 (now (update .entry))) (entriesIn tables (now (store .entry))) ⌝ }
+    ensures possible { λ r. ⌜ Possible r tables ⌝ }
+{
+    let wrong = row_reason(found, role, update);
+    if wrong != 0 {
+        return Verdict::Refused(wrong);
+    }
+    let kind = update[0];
+    if kind == 1 {
+        return judge_insert(found.row, store, tables, &update[1..]);
+    }
+    judge_change(kind, store, tables, &update[1..])
+}

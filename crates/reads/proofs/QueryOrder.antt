@@ -1,0 +1,56 @@
+-- The order of a READ's reasons is that of its table and then that of its key, which stands behind `only`. Assumes nothing.
+use Prim.Native.Nat.{ℕ, _+_}
+use native.Mathlib.Omega.{arith}
+use mathlib.Core.Path.{_≡_, refl, sym, ap, _∙_}
+use mathlib.Core.Bool.{Bool, not}
+use mathlib.Core.List.{List}
+use lib.Dec.{eqb}
+use lib.ListN.{length, take, drop}
+use lib.Seq.{drop-append-add}
+use borrow.Author.Tests.{ne-eqb}
+use Rattle.rules.specs.Bytes.{if_then_else_, part}
+use Rattle.rules.specs.Reason.{when, first}
+use Rattle.rules.specs.Row.{Row, known, rowFor, tableOrder}
+use Rattle.rules.specs.Key.{keyOrder}
+use Rattle.rules.proofs.Lists.{part-part}
+use Rattle.rules.proofs.Orders.{first-more}
+use Rattle.rules.proofs.Shortest.{part-length, joined-length}
+use Rattle.reads.specs.Read.{keyIn, queryOrder}
+
+-- ---- the key
+
+pub key-length : (b : List ℕ) → length b ≡ 149 → length (keyIn b) ≡ 148
+key-length b l = joined-length 0 4 5 144 b (omega arith) (omega arith)
+
+-- behind its table it is what follows `only`
+pub key-behind : (b : List ℕ) → length b ≡ 149 → part 4 144 (keyIn b) ≡ part 5 144 b
+key-behind b l =
+    let e : length (part 0 4 b) ≡ 4 = part-length 0 4 b (omega arith) in
+    ap (take 144) (ap (λ (m : ℕ). drop (m + 0) (keyIn b)) (sym e) ∙ drop-append-add (part 0 4 b) (part 5 144 b) 0)
+    ∙ part-part 5 144 0 144 b (omega arith)
+
+-- ---- the order
+
+-- where the rows say this of the table, and r is the table's reason
+module _ (rows : List Row) (role table only : ℕ) (k : List ℕ) {isKnown : Bool} {row : Row} {r : ℕ}
+    (found : isKnown ≡ known table rows) (its : row ≡ rowFor table rows)
+    (barred : r ≡ first (when (not (eqb table 0)) (tableOrder isKnown row role))) where
+  abbrev byTable : List (Bool × ℕ)
+  byTable = when (not (eqb table 0)) (tableOrder (known table rows) (rowFor table rows) role)
+
+  abbrev byKey : List (Bool × ℕ)
+  byKey = when (eqb only 1) (keyOrder (rowFor table rows) k)
+
+  in-turn : first (queryOrder rows role table only k) ≡ (if eqb r 0 then first byKey else r)
+  in-turn = first-more byTable byKey refl ∙ (rw (← found, ← its, ← barred))
+
+  pub by-table : (r ≡ 0 → ⊥) → r ≡ first (queryOrder rows role table only k)
+  by-table n = sym (in-turn ∙ (rw (ne-eqb r 0 n)))
+
+  module _ (z : r ≡ 0) where
+    pub by-nothing : (only ≡ 1 → ⊥) → 0 ≡ first (queryOrder rows role table only k)
+    unfolding first
+    by-nothing n = sym (in-turn ∙ (rw (z, ne-eqb only 1 n)))
+
+    pub by-key : {x : ℕ} → only ≡ 1 → x ≡ first (keyOrder row k) → x ≡ first (queryOrder rows role table only k)
+    by-key o e = e ∙ (rw its (sym (in-turn ∙ (rw (z, o)))))

@@ -1,0 +1,25 @@
+-- What the functions of a READ are held to, in the rules' terms. Assumes nothing.
+use mathlib.Core.Path.{_≡_}
+use mathlib.Core.List.{List, _++_}
+use Prim.Native.Nat.{ℕ, _/_, min}
+use lib.Dec.{eqb}
+use lib.ListN.{length, take}
+use Rattle.rules.specs.Bytes.{if_then_else_, keep, concat, part}
+use Rattle.rules.specs.Row.{Row}
+use Rattle.rules.specs.Key.{shortKey, hasKey}
+use Rattle.rules.specs.Update.{Tables}
+use Rattle.rules.specs.Call.{gathered}
+use Rattle.buffers.specs.Splice.{splice}
+
+-- the key of a READ in its 149 bytes from the table on: table 4, only 1, key 144
+abbrev pub keyIn : List ℕ → List ℕ
+keyIn b = part 0 4 b ++ part 5 144 b
+
+-- the entries that a READ asks for: with only 1 that of the key
+unfoldable pub readIn : List Row → ℕ → ℕ → ℕ → List ℕ → Tables → List (List ℕ)
+readIn rows role table only k t =
+    if eqb only 1 then keep (hasKey (shortKey k)) (t .entries) else gathered role table rows t
+
+-- the first n of these entries are written to the start of an answer: all of them, or as many as it has room for
+abbrev pub Reads : List (List ℕ) → List ℕ → List ℕ → ℕ → Type 0
+Reads es before after n = (n ≡ min (length es) (length before / 220)) × (after ≡ splice before 0 (concat (take n es)))

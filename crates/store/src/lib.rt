@@ -1,0 +1,186 @@
+// Where entries are in the store: key search, counting, deletion, putting back, and gathering for READ.
+ghost use mathlib.Core.Path.{_≡_};
+ghost use mathlib.Core.List.{List};
+ghost use Prim.Native.Nat.{ℕ, _+_, _-_, _/_, _≤_, _<_, min};
+ghost use lib.Dec.{leb};
+ghost use lib.ListN.{length, take};
+ghost use Rattle.rules.specs.Bytes.{keep, concat, part, same};
+ghost use Rattle.rules.specs.Update.{noEntries, inTable, held as heldIn};
+ghost use Rattle.buffers.specs.Splice.{splice};
+ghost use Rattle.store.specs.Store.{entriesIn, tablesIn, InStore, place, placeOf, InRange, without, insertedAt, changedAt, Holds};
+use numbers::integer;
+
+// What the record knows of a store: how many entries stand in it.
+#[repr(C)]
+pub struct Tables {
+    pub count: usize,
+}
+
+impl Tables {
+    // No entries.
+    pub fn none() -> Tables
+        ensures { λ r. ⌜ ((store : List ℕ) → tablesIn r store ≡ noEntries) ⌝ }
+    {
+        Tables { count: 0 }
+    }
+
+    // Without the last entry, if there is one.
+    pub fn without_last(self) -> Tables
+        ensures bound { λ r. ⌜ r .count ≤ self .count ⌝ }
+        ensures entries { λ r. ⌜ ((store : List ℕ) → entriesIn r store ≡ take (length (entriesIn self store) - 1) (entriesIn self store)) ⌝ }
+    {
+        if self.count == 0 {
+            return self;
+        }
+        Tables {
+            count: self.count - 1,
+        }
+    }
+
+    // 24: whether there is no room for one more entry.
+    pub fn are_full(self) -> bool
+        ensures { λ r. ⌜ ((store : List ℕ) → r ≡ leb 256 (length (entriesIn self store))) ⌝ }
+    {
+        256 <= self.count
+    }
+}
+
+// Where the entry of a key is.
+pub enum Found {
+    At(usize),
+    Absent,
+}
+
+// Whether the entry at a place has the key. First the words where the keys of one table mostly differ, the first and the last digits
+// of the first slot and the end of the last slot; then all bytes.
+fn has_key(store: &[u8], at: usize, key: &[u8]) -> bool
+    requires { ⌜ (at + 148 ≤ length (now store)) × (length (now key) ≡ 148) ⌝ }
+    ensures { λ r. ⌜ r ≡ same (part at 148 (now (store .entry))) (now (key .entry)) ⌝ }
+{
+    if !buffers::equal_eight(store, at + 8, key, 8) {
+        return false;
+    }
+    if !buffers::equal_eight(store, at + 18, key, 18) {
+        return false;
+    }
+    if !buffers::equal_eight(store, at + 140, key, 140) {
+        return false;
+    }
+    let end = at + 148;
+    buffers::equal(&store[at..end], key)
+}
+
+// The place of the entry that has the key, 148 bytes in shortest form.
+pub fn find(store: &[u8], tables: Tables, key: &[u8]) -> Found
+    requires { ⌜ InStore tables (now store) × (length (now key) ≡ 148) ⌝ }
+    ensures place { λ r. ⌜ placeOf r ≡ place (now (key .entry)) (entriesIn tables (now (store .entry))) ⌝ }
+    ensures range { λ r. ⌜ InRange r tables ⌝ }
+{
+    let count = tables.count;
+    let mut i: usize = 0;
+    while i < count {
+        if has_key(store, 220 * i, key) {
+            return Found::At(i);
+        }
+        i += 1;
+    }
+    Found::Absent
+}
+
+// The number of entries of a table.
+fn held(store: &[u8], tables: Tables, table: u64) -> usize
+    requires { ⌜ InStore tables (now store) ⌝ }
+    ensures { λ r. ⌜ r ≡ heldIn table (tablesIn tables (now (store .entry))) ⌝ }
+{
+    let count = tables.count;
+    let mut n: usize = 0;
+    let mut i: usize = 0;
+    while i < count {
+        if integer(store, 220 * i, 4) == table {
+            n += 1;
+        }
+        i += 1;
+    }
+    n
+}
+
+// 22: whether a table holds so many entries. It holds no more than the store, so that mostly none has to be counted.
+pub fn holds(store: &[u8], tables: Tables, table: u64, size: usize) -> bool
+    requires { ⌜ InStore tables (now store) ⌝ }
+    ensures { λ r. ⌜ r ≡ leb size (heldIn table (tablesIn tables (now (store .entry)))) ⌝ }
+{
+    if tables.count < size {
+        return false;
+    }
+    size <= held(store, tables, table)
+}
+
+// Removes entry i and closes the gap: the later entries move down.
+pub fn remove(store: &mut [u8], tables: Tables, i: usize) -> Tables
+    requires { ⌜ (i < tables .count) × (tables .count ≤ 256) × (56320 ≤ length (now store)) ⌝ }
+    ensures { λ r. ⌜ Holds (now (store .entry)) (now (store .exit)) r (without i (entriesIn tables (now (store .entry)))) ⌝ }
+{
+    let count = tables.count;
+    let to = 220 * i;
+    let from = to + 220;
+    let end = 220 * count;
+    buffers::move_down(store, to, from, end - from);
+    Tables { count: count - 1 }
+}
+
+// Puts an entry in before entry i: the later entries move up.
+pub fn put_back(store: &mut [u8], tables: Tables, i: usize, entry: &[u8]) -> Tables
+    requires { ⌜ (i ≤ tables .count) × (tables .count < 256) × (56320 ≤ length (now store)) × (length (now entry) ≡ 220) ⌝ }
+    ensures { λ r. ⌜ Holds (now (store .entry)) (now (store .exit)) r (insertedAt i (now (entry .entry)) (entriesIn tables (now (store .entry)))) ⌝ }
+{
+    let count = tables.count;
+    let at = 220 * i;
+    let to = at + 220;
+    let end = 220 * count;
+    buffers::move_up(store, at, to, end - at);
+    buffers::copy(entry, &mut store[at..to]);
+    Tables { count: count + 1 }
+}
+
+// Writes an action and its parameters, 72 bytes, over those of entry i.
+pub fn replace_action(store: &mut [u8], tables: Tables, i: usize, action: &[u8])
+    requires { ⌜ (i < tables .count) × (tables .count ≤ 256) × (56320 ≤ length (now store)) × (length (now action) ≡ 72) ⌝ }
+    ensures { λ _. ⌜ Holds (now (store .entry)) (now (store .exit)) tables (changedAt i (now (action .entry)) (entriesIn tables (now (store .entry)))) ⌝ }
+{
+    let at = 220 * i + 148;
+    let end = at + 72;
+    buffers::copy(action, &mut store[at..end]);
+}
+
+// Copies an entry to the start of dst: a record of 220 bytes.
+pub fn write_entry(entry: &[u8], dst: &mut [u8])
+    requires { ⌜ (length (now entry) ≡ 220) × (220 ≤ length (now dst)) ⌝ }
+    ensures { λ _. ⌜ now (dst .exit) ≡ splice (now (dst .entry)) 0 (now (entry .entry)) ⌝ }
+{
+    buffers::copy(entry, dst);
+}
+
+// Writes the entries of a table to the start of the answer, in order of insertion, as far as it has room; their number.
+pub fn gather(store: &[u8], tables: Tables, table: u64, answer: &mut [u8]) -> usize
+    requires { ⌜ InStore tables (now store) ⌝ }
+    ensures count { λ r. ⌜ r ≡ min (heldIn table (tablesIn tables (now (store .entry)))) (length (now (answer .entry)) / 220) ⌝ }
+    ensures records { λ r. ⌜ now (answer .exit) ≡ splice (now (answer .entry)) 0 (concat (take r (keep (inTable table) (entriesIn tables (now (store .entry)))))) ⌝ }
+{
+    let count = tables.count;
+    let mut n: usize = 0;
+    let mut i: usize = 0;
+    while i < count {
+        let from = 220 * i;
+        if integer(store, from, 4) == table {
+            let at = 220 * n;
+            if answer.len() - at < 220 {
+                return n;
+            }
+            let end = from + 220;
+            write_entry(&store[from..end], &mut answer[at..]);
+            n += 1;
+        }
+        i += 1;
+    }
+    n
+}
