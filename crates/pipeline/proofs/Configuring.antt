@@ -6,7 +6,7 @@ use mathlib.Core.Bool.{Bool, true, false, not}
 use mathlib.Core.List.{List, [], _∷_, _++_}
 use lib.Dec.{eqb, ltb}
 use borrow.Author.Tests.{not-false}
-use Rattle.rules.specs.Bytes.{if_then_else_, parts}
+use Rattle.rules.specs.Bytes.{if_then_else_}
 use Rattle.rules.specs.Reason.{first}
 use Rattle.rules.specs.Frame.{Head, CONFIGURE}
 use Rattle.rules.specs.Streams as streams
@@ -14,7 +14,9 @@ use Rattle.rules.specs.Row as row
 use Rattle.rules.specs.Call.{Control, configureReason}
 use Rattle.rows.specs.Meaning.{rowsOf, rowsIn}
 use Rattle.configuration.proofs.Configuration.{rows-allowed-read}
-use Rattle.memory.specs.declared.Configuration.{Configuration}
+use Rattle.rules.specs.Update.{noEntries}
+use Rattle.store.specs.Store.{tablesIn}
+use Rattle.pipeline.specs.declared.Configured.{Configured}
 use Rattle.pipeline.specs.Pipeline.{CarriesOut}
 use Rattle.rules.proofs.Orders.{first-clear, first-more}
 
@@ -42,10 +44,9 @@ module _ (c : Control) (h : Head) (rows : List (List ℕ)) where
   rows-allowed e = not-false (row.configurationAllowed rows) (first-clear _ refl e .1 .1 .1 .1 .0)
 
 -- and so its rows, as they are read, are in force, and no entry is stored
-pub rows-configured : (h : Head) (bytes : List (List ℕ)) {c : Configuration} → rowsOf (c .rows) ≡ rowsIn bytes
-    → CarriesOut (CONFIGURE h bytes) (record { configuration = c; tables = record { count = 0 } })
-unfolding parts
-rows-configured h bytes read = record {
+pub rows-configured : (h : Head) (bytes : List (List ℕ)) {r : Configured} → rowsOf (r .configuration .rows) ≡ rowsIn bytes
+    → ((store : List ℕ) → tablesIn (r .tables) store ≡ noEntries) → CarriesOut (CONFIGURE h bytes) r
+rows-configured h bytes read none = record {
   rows = λ s e. rw e (read ∙ rows-allowed-read bytes (rows-allowed (s .control) h bytes e));
-  tables = λ s e store. rw e;
+  tables = λ s e store. rw e (none store);
 }

@@ -100,6 +100,6 @@ pub fn carry_out(command: PipelineCommand, frame: &[u8]) -> Configured
         configuration: Configuration {
             rows: Rows::read(&frame[28..], command.count),
         },
-        tables: Tables { count: 0 },
+        tables: Tables::none(),
     }
 }

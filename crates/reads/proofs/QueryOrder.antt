@@ -15,7 +15,8 @@ use Rattle.rules.specs.Key.{keyOrder}
 use Rattle.rules.proofs.Lists.{part-part}
 use Rattle.rules.proofs.Orders.{first-more}
 use Rattle.rules.proofs.Shortest.{part-length, joined-length}
-use Rattle.reads.specs.Read.{keyIn, queryOrder}
+use Rattle.rules.specs.Call.{queryOrder}
+use Rattle.reads.specs.Read.{keyIn}
 
 -- ---- the key
 

@@ -2,7 +2,7 @@
 use Prim.Native.Nat.{ℕ, _*_, _≤_}
 use native.Mathlib.Omega.{arith}
 use mathlib.Core.Path.{_≡_, refl, sym, ap, ap₂, _∙_}
-use mathlib.Core.Bool.{Bool, true, false, not, _&&_}
+use mathlib.Core.Bool.{Bool, true, false, not}
 use mathlib.Core.List.{List, [], _∷_, _++_}
 use lib.Dec.{eqb, ltb}
 use lib.ListN.{length, length-take, length-drop, length-append}
@@ -13,10 +13,8 @@ use Rattle.rules.specs.Reason.{first}
 use Rattle.rules.specs.Frame as rules
 use Rattle.rules.specs.Frame.{READ, Command, onTables}
 use Rattle.rules.specs.Streams.{addressOrder}
-use Rattle.rules.specs.Row as row
-use Rattle.rules.specs.Key.{keyFormed, keyFits, keyRules}
 use Rattle.rules.specs.Answer.{answerBytes}
-use Rattle.rules.specs.Call.{unconfigured, readReason, refusal, nextControl, nextTables, next, shown, answer}
+use Rattle.rules.specs.Call.{queryOrder, unconfigured, readReason, refusal, nextControl, nextTables, next, shown, answer}
 use Rattle.rules.specs.Sound.{Sound}
 use Rattle.rules.proofs.Formed.{Formed}
 use Rattle.rules.proofs.Lists.{part-part}
@@ -27,7 +25,7 @@ use Rattle.frames.specs.declared.Query.{Query}
 use Rattle.frames.specs.declared.TableCommand.the-variants.{Read}
 use Rattle.frames.specs.Meaning.{queryRead, OperandsThere}
 use Rattle.store.specs.Store.{tablesIn}
-use Rattle.entry_store.specs.Read.{keyIn, keyReason, queryReason, readIn, Reads}
+use Rattle.reads.specs.Read.{keyIn, readIn, Reads}
 use Rattle.calls.specs.Contract.{Correct}
 use Rattle.memory.specs.declared.Agent.{Agent}
 use Rattle.memory.specs.Layout.{controlOf, Flat, memory, result}
@@ -49,30 +47,16 @@ query-formed q f h =
 
 -- ---- the order
 
-only-one : (one x y z : Bool) → first ((one && x, 17) ∷ (one && y, 18) ∷ (one && z, 19) ∷ [])
-    ≡ (if one then first ((x, 17) ∷ (y, 18) ∷ (z, 19) ∷ []) else 0)
-unfolding first
-only-one true x y z = refl
-only-one false x y z = refl
-
 module _ (a : Agent) (q : rules.Query) where
   pub read-order : {here empty : Bool} {r : ℕ} → here ≡ eqb (q .device) (a .device .id) → empty ≡ unconfigured (controlOf a .rows)
       → r ≡ first (addressOrder (not here) (q .role) ++ (empty, 12) ∷ [])
       → readReason (controlOf a) q
-      ≡ (if eqb r 0 then queryReason (controlOf a .rows) (q .role) (q .table) (q .only) (q .key) else r)
-  unfolding readReason queryReason keyReason
+      ≡ (if eqb r 0 then first (queryOrder (controlOf a .rows) (q .role) (q .table) (q .only) (q .key)) else r)
+  unfolding readReason
   read-order e u p =
-      let named : Bool = not (eqb (q .table) 0) in
-      let one : Bool = eqb (q .only) 1 in
-      let own : row.Row = row.rowFor (q .table) (controlOf a .rows) in
-      let x : Bool = not (keyFormed own (q .key)) in
-      let y : Bool = not (keyFits own (q .key)) in
-      let z : Bool = not (keyRules own (q .key)) in
-      let tables : List (Bool × ℕ) = (named && not (row.known (q .table) (controlOf a .rows)), 15) ∷ (named && not (row.mayWrite (q .role) own), 16) ∷ [] in
-      let keys : List (Bool × ℕ) = (one && x, 17) ∷ (one && y, 18) ∷ (one && z, 19) ∷ [] in
       rw (p, e, u) (first-more
-      ((not (eqb (q .device) (a .device .id)), 5) ∷ (ltb 7 (q .role), 6) ∷ (unconfigured (controlOf a .rows), 12) ∷ []) (tables ++ keys) refl
-      ∙ (rw (first-more tables keys refl, only-one one x y z)))
+      ((not (eqb (q .device) (a .device .id)), 5) ∷ (ltb 7 (q .role), 6) ∷ (unconfigured (controlOf a .rows), 12) ∷ [])
+      (queryOrder (controlOf a .rows) (q .role) (q .table) (q .only) (q .key)) refl)
 
   -- ---- the entries
 

@@ -12,27 +12,16 @@ use Rattle.rules.specs.Frame.{Head, Update, WRITE, Command, onTables}
 use Rattle.rules.specs.Streams as streams
 use Rattle.rules.specs.Answer.{Answer, answerBytes}
 use Rattle.rules.specs.Call.{unconfigured, writeReason, refusal, nextControl, nextTables, next, batchOf, pairOf, headReason, answer}
-use Rattle.rules.specs.Sound.{Sound}
 use Rattle.rules.specs.Update.{Batch}
-use Rattle.rules.proofs.Formed.{parts-count}
 use Rattle.buffers.specs.Splice.{splice}
-use Rattle.store.specs.Store.{entriesIn}
-use Rattle.updates.specs.Update.{Tidy}
-use Rattle.entry_store.specs.declared.Written.{Written}
-use Rattle.entry_store.specs.Batch.{BatchApplied}
+use Rattle.batches.specs.declared.Written.{Written}
+use Rattle.batches.specs.Batch.{BatchApplied}
 use Rattle.answers.proofs.Answers.{replies, fills}
 use Rattle.calls.specs.Contract.{Correct}
 use Rattle.memory.specs.declared.Agent.{Agent}
 use Rattle.memory.specs.Layout.{controlOf, Flat, memory, result}
 use Rattle.memory.specs.Handles.{withTables}
 use Rattle.memory.proofs.Handled.{flat}
-
--- what the invariant says to the functions over the store
-pub tidy : (a : Agent) (store : List ℕ) → Sound (flat a store) → Tidy (a .tables .count) store
-tidy a store k = record {
-  few = omega (arith, k .tables .few, parts-count (a .tables .count) 220 store);
-  distinct = k .tables .distinct;
-}
 
 module _ (a : Agent) (h : Head) (atomicity : ℕ) where
   pub write-order : {here primary empty : Bool} {r : ℕ} → here ≡ eqb (h .device) (a .device .id)
@@ -57,7 +46,7 @@ module _ (a : Agent) (h : Head) (atomicity : ℕ) where
     pub was-written : (store′ d out : List ℕ) (reason : ℕ) (w : Written) → writeReason (controlOf a) h atomicity ≡ 0
         → BatchApplied batched store store′ w → reason ≡ (if w .failed then 23 else 0)
         → out ≡ splice d 0 (answerBytes (record { reason = reason; records = map pairOf (batched .reasons) }))
-        → Correct Flat (flat a store) asks (memory a store) d (result (withTables a (record { count = w .count })) reason store′ out)
+        → Correct Flat (flat a store) asks (memory a store) d (result (withTables a (w .tables)) reason store′ out)
     unfolding next nextControl nextTables answer refusal
     was-written store′ d out reason w e b q o =
         let told : reason ≡ headReason (batched .reasons) = q ∙ head-told (every (eqb 0) (batched .reasons)) (b .failed) in

@@ -85,12 +85,12 @@ fn write(
             reason: refused,
         };
     }
-    let done = entry_store::batch(
+    let done = batches::batch(
         rows,
         head.role,
         atomicity,
         store,
-        tables.count,
+        tables,
         &frame[29..],
         n,
         &mut answer[4..],
@@ -98,7 +98,7 @@ fn write(
     let reason = head_reason(done.failed);
     answers::write_head(reason, n, answer);
     TableOutcome {
-        tables: Tables { count: done.count },
+        tables: done.tables,
         reason,
     }
 }
@@ -133,20 +133,20 @@ fn read(agent: Agent, query: Query, frame: &[u8], store: &[u8], answer: &mut [u8
         answers::write_head(barred, 0, answer);
         return barred;
     }
-    let wrong = entry_store::query_reason(rows, query.role, query.table, query.only, &frame[10..]);
+    let wrong = reads::query_reason(rows, query.role, query.table, query.only, &frame[10..]);
     if wrong != 0 {
         answers::write_head(wrong, 0, answer);
         return wrong;
     }
     let held = agent.tables;
-    let count = entry_store::read(
+    let count = reads::read(
         rows,
         query.role,
         query.table,
         query.only,
         &frame[10..],
         store,
-        held.count,
+        held,
         &mut answer[4..],
     );
     answers::write_head(0, count, answer);

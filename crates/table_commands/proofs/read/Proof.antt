@@ -9,19 +9,19 @@ use denote.Ref.{now}
 use borrow.Author.Tests.{eq-eqb, ne-eqb}
 use Rattle.rules.specs.Bytes.{if_then_else_, part}
 use Rattle.rules.specs.Frame.{READ, onTables}
-use Rattle.rules.specs.Call.{readReason, shown}
+use Rattle.rules.specs.Reason.{first}
+use Rattle.rules.specs.Call.{queryOrder, readReason, shown}
 use Rattle.rules.proofs.Formed.{Formed}
 use Rattle.rules.proofs.Refused.{table-refused}
 use Rattle.rules.proofs.Sizes.{shown-sized}
 use Rattle.buffers.proofs.Splice.{length-window}
 use Rattle.frames.specs.Meaning.{queryRead}
 use Rattle.store.specs.Store.{tablesIn}
-use Rattle.entry_store.specs.Read.{queryReason, readIn, Reads}
+use Rattle.reads.specs.Read.{readIn, Reads}
 use Rattle.memory.specs.Layout.{controlOf}
 use Rattle.memory.specs.Handles.{atTables}
 use Rattle.memory.proofs.Handled.{flat, flat-handles, refused}
 use Rattle.answers.proofs.Answers.{records-then-head, head-alone}
-use Rattle.table_commands.proofs.Writing.{tidy}
 use Rattle.table_commands.proofs.Reading.{key-there, query-formed, read-order, was-read, taken, reads-all}
 use borrow.Author.Needs.{needs}
 use Rattle.table_commands.proofs.read.Statement.{statement}
@@ -44,7 +44,7 @@ order : (e : tie.After-read-reason) →
     let a = e .before .before .before .before .before .before .before .before .args in
     let q = queryRead (a .query) (now (a .frame)) in
     readReason (controlOf (a .agent)) q
-    ≡ (if eqb (e .read-reason .result) 0 then queryReason (controlOf (a .agent) .rows) (q .role) (q .table) (q .only) (q .key) else e .read-reason .result)
+    ≡ (if eqb (e .read-reason .result) 0 then first (queryOrder (controlOf (a .agent) .rows) (q .role) (q .table) (q .only) (q .key)) else e .read-reason .result)
 order e =
     let a = e .before .before .before .before .before .before .before .before .args in
     read-order (a .agent) (queryRead (a .query) (now (a .frame))) refl (e .before .is-empty .ensures) (e .read-reason .ensures)
@@ -83,12 +83,12 @@ whole f n = let e : length f - 10 ≡ 149 = omega arith in ap (λ (m : ℕ). tak
 by-query : (e : tie.After-query-reason) →
     let a = e .before .before .before .before .before .before .before .before .before .before .before .args in
     let q = queryRead (a .query) (now (a .frame)) in
-    e .query-reason .result ≡ queryReason (controlOf (a .agent) .rows) (q .role) (q .table) (q .only) (q .key)
+    e .query-reason .result ≡ first (queryOrder (controlOf (a .agent) .rows) (q .role) (q .table) (q .only) (q .key))
 by-query e =
     let a = e .before .before .before .before .before .before .before .before .before .before .before .args in
     let q = queryRead (a .query) (now (a .frame)) in
     e .query-reason .ensures
-    ∙ ap (queryReason (controlOf (a .agent) .rows) (q .role) (q .table) (q .only)) (key-there (a .query) (now (a .frame)) (whole (now (a .frame)) (e .before .before .before .before .before .before .before .before .before .before .before .pre .0 .0)))
+    ∙ ap (λ (k : List ℕ). first (queryOrder (controlOf (a .agent) .rows) (q .role) (q .table) (q .only) k)) (key-there (a .query) (now (a .frame)) (whole (now (a .frame)) (e .before .before .before .before .before .before .before .before .before .before .before .pre .0 .0)))
 
 returns-2 : tie.Need-returns-2
 returns-2 c =
@@ -146,7 +146,7 @@ returns-3 c =
     let t : Reads es (take (length d - 4) (drop 4 d)) (r .last .1 .1 .1 .1 .1 .1 .1 .0) (r .result) =
     subst (λ (x : List (List ℕ)). Reads x (take (length d - 4) (drop 4 d)) (r .last .1 .1 .1 .1 .1 .1 .1 .0) (r .result))
     (ap (λ (key : List ℕ). readIn (controlOf (a .agent) .rows) (q .role) (q .table) (q .only) key (tablesIn (a .agent .tables) s)) (key-there (a .query) f (whole f (p .0 .0)))
-    ∙ taken (a .agent) q s formed k e) (r .ensures (tidy (a .agent) s k)) in
+    ∙ taken (a .agent) q s formed k e) (r .ensures (k .tables .distinct)) in
     let n = reads-all es (take (length d - 4) (drop 4 d)) (omega (arith, z .1, p .3)) t in
     was-read (a .agent) q s d (h .last .1 .1 .0) e
     (records-then-head 0 (r .result) es d (r .last .1 .1 .1 .1 .1 .1 .1 .0) (h .last .1 .1 .0) (omega (arith, p .3)) (n .0) (r .kept .1 .1 .1 .1 .1 .1 .1 .0) (n .1) (h .ensures)))

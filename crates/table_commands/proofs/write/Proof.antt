@@ -16,12 +16,12 @@ use Rattle.buffers.specs.Splice.{splice}
 use Rattle.election.specs.Meaning.{headOf}
 use Rattle.rows.specs.Meaning.{rowsOf}
 use Rattle.store.specs.Store.{tablesIn}
-use Rattle.entry_store.specs.Batch.{updatesIn, BatchApplied}
+use Rattle.batches.specs.Batch.{updatesIn, BatchApplied}
 use Rattle.memory.specs.Layout.{controlOf}
 use Rattle.memory.specs.Handles.{atTables}
 use Rattle.memory.proofs.Handled.{flat, flat-handles, refused}
 use Rattle.answers.proofs.Answers.{records-then-head, head-alone}
-use Rattle.table_commands.proofs.Writing.{tidy, write-order, was-written}
+use Rattle.table_commands.proofs.Writing.{write-order, was-written}
 use borrow.Author.Needs.{needs}
 use Rattle.table_commands.proofs.write.Statement.{statement}
 use Rattle.table_commands.proofs.write.Tie as tie
@@ -76,7 +76,7 @@ part-batch-end-2 : tie.Need-part-batch-end-2
 part-batch-end-2 c = search needs
 
 batch-requires : tie.Need-batch-requires
-batch-requires c κs = let p = c .before .before .before .before .before .before .before .before .before .before .before .before .before .before .before .pre in (p .2, simp (length-take, length-drop) (omega (arith, p .0 .1)), p .0 .0, simp (length-take, length-drop) (omega (arith, p .3, p .0 .0)))
+batch-requires c κs = let p = c .before .before .before .before .before .before .before .before .before .before .before .before .before .before .before .pre in (p .1, p .2, simp (length-take, length-drop) (omega (arith, p .0 .1)), p .0 .0, simp (length-take, length-drop) (omega (arith, p .3, p .0 .0)))
 
 head-reason-requires : tie.Need-head-reason-requires
 head-reason-requires c κs = search needs
@@ -106,7 +106,7 @@ returns-2 c =
     sym (length-map rs pairOf ∙ reasons-count (a .atomicity) (rowsOf (a .agent .configuration .rows)) (a .head .role) (tablesIn (a .agent .tables) s) us
     ∙ length-map (parts (a .n) 221 (drop 29 f)) updateOf ∙ parts-count (a .n) 221 (drop 29 f)) in
     flat-handles (a .agent) _ s (now (a .answer)) (λ k.
-    let t = tidy (a .agent) s k in
+    let t = k .tables .distinct in
     was-written (a .agent) (headOf (a .head)) (a .atomicity) us s (b .last .1 .1 .1 .0) (now (a .answer)) (h .last .1 .1 .0) (g .result) (b .result)
     (order (c .before .before .before .before .before .before .before .before .before .before .before .before .before .before) ∙ c .before .before .before .before .before .before .before .before .before .before .before .before .before .if1 .left) (subst (λ (l : List ℕ). BatchApplied (batchOf (flat (a .agent) s) (headOf (a .head)) (a .atomicity) (updatesIn (a .n) l)) s (b .last .1 .1 .1 .0) (b .result)) lent (b .ensures .0 t)) (g .ensures)
     (records-then-head (g .result) (a .n) (map pairOf rs) (now (a .answer)) (b .last .1 .1 .1 .1 .1 .1 .1 .0) (h .last .1 .1 .0) (omega (arith, p .3)) n (b .kept .1 .1 .1 .1 .1 .1 .1 .0)
