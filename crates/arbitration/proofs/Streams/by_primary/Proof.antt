@@ -1,46 +1,41 @@
--- Right because its tests are those of the rules: an id is the mark where neither is below the other, and the mark's first holder is
--- the first of those left to list. Assumes nothing.
+-- Right because its tests are those of the rules: an id is the mark where neither is below the other, and then its first holder is the primary.
+-- Assumes nothing.
 use Prim.Native.Nat.{ℕ, _-_, _≤_}
+use native.Mathlib.Omega.{arith}
 use mathlib.Core.Path.{_≡_, refl, sym, ap, _∙_}
 use mathlib.Core.Bool.{true, false, _&&_, not, and-false as and-none, and-true as and-all}
 use mathlib.Core.Option.{Option}
-use native.Mathlib.Omega.{arith}
 use lib.Dec.{eqb, ltb}
-use borrow.Author.Tests.{eq-eqb, ne-eqb, ltb-true, ltb-false, not-true, not-false}
 use lib.ListN.{length}
+use borrow.Author.Tests.{eq-eqb, ne-eqb, ltb-true, ltb-false, not-true, not-false}
 use borrow.Author.Needs.{needs}
 use Rattle.rules.specs.Streams.{Streams, holds, numbers, head, markOf, primary, isSome, byPrimary}
-use Rattle.election.specs.Meaning.{idOf}
-use Rattle.arbitration.specs.Meaning.{streamsOf}
 use Rattle.rules.proofs.Lists.{length-mapped}
-use Rattle.arbitration.proofs.Listing.{left, left-next, left-none}
-use Rattle.arbitration.proofs.Surveys.{mark-read}
+use Rattle.election.specs.Meaning.{idOf}
+use Rattle.leadership.proofs.PairKept.{set-primary}
+use Rattle.arbitration.specs.Meaning.{streamsOf}
+use Rattle.arbitration.proofs.ScanInvariants.{mark-read, First, first-none, first-hit, first-same, first-all}
 use Rattle.arbitration.proofs.Streams.by_primary.Statement.{statement}
 use Rattle.arbitration.proofs.Streams.by_primary.Tie as tie
 
 abbrev Inv-loop : tie.InvT-loop
-Inv-loop role id self place k₀ k =
-    (k ≤ 32)
-    × (head (numbers (holds role (idOf id)) 0 (streamsOf self .streams)) ≡ head (left (holds role (idOf id)) (streamsOf self) k))
+Inv-loop role id self place k₀ k = (k ≤ 32) × First (holds role (idOf id)) (streamsOf self) 32 k
 
 abbrev μ-loop : tie.MeasureT-loop
 μ-loop role id self place k₀ k = 32 - k
 
 -- an id that is not the mark
-other-id : (e : Streams) (r i : ℕ) → eqb i (markOf e r) ≡ false → false ≡ byPrimary e r i
+other-id : (e : Streams) (r i : ℕ) → (i ≡ markOf e r → ⊥) → false ≡ byPrimary e r i
 unfolding byPrimary
-other-id e r i h = rw h (sym (and-none (not (eqb i 0) && isSome (primary e r))))
+other-id e r i d = rw (ne-eqb i (markOf e r) d) (sym (and-none (not (eqb i 0) && isSome (primary e r))))
 
 -- a set id that is the mark: the primary is its first holder
-mark-held : (e : Streams) (r i : ℕ) (o : Option ℕ) → not (eqb i 0) ≡ true → i ≡ markOf e r → head (numbers (holds r i) 0 (e .streams)) ≡ o
+mark-held : (e : Streams) (r i : ℕ) {o : Option ℕ} → not (eqb i 0) ≡ true → markOf e r ≡ i → o ≡ head (numbers (holds r i) 0 (e .streams))
     → isSome o ≡ byPrimary e r i
-unfolding byPrimary primary
-mark-held e r i o s z h =
-    let t : eqb i 0 ≡ false = not-true (eqb i 0) s in
-    rw (← z, s, t, h, eq-eqb i i refl) (sym (and-all (isSome o)))
-
-set : (c : tie.Else1 Inv-loop μ-loop) → not (eqb (idOf (c .before .before .args .id)) 0) ≡ true
-set c = sym (c .before .is-set .ensures) ∙ not-false (c .before .is-set .result) (c .if1 .left)
+unfolding byPrimary
+mark-held e r i {o} s z h =
+    let p = h ∙ set-primary e r z (not-true (eqb i 0) s) in
+    rw (← p, z, s, eq-eqb i i refl) (sym (and-all (isSome o)))
 
 -- what is compared with the id is the role's mark
 mark : (c : tie.After-mark-of Inv-loop μ-loop) → let a = c .before .before .before .before .args in
@@ -53,24 +48,36 @@ mark c =
 -- whether the id is below the mark
 under : (c : tie.After-below Inv-loop μ-loop) → let a = c .before .before .before .before .before .args in
     ltb (idOf (a .id)) (markOf (streamsOf (a .t1)) (a .role)) ≡ c .below .result
-under c = let a = c .before .before .before .before .before .args in sym (c .below .ensures ∙ ap (ltb (idOf (a .id))) (mark (c .before)))
+under c =
+    let m = c .before in
+    sym (c .below .ensures ∙ ap (ltb (idOf (m .before .before .before .before .args .id))) (mark m))
 
 -- whether it is above
 over : (c : tie.After-below2 Inv-loop μ-loop) → let a = c .before .before .before .before .before .before .before .args in
     ltb (markOf (streamsOf (a .t1)) (a .role)) (idOf (a .id)) ≡ c .below2 .result
-over c = let a = c .before .before .before .before .before .before .before .args in sym (c .below2 .ensures ∙ ap (λ (m : ℕ). ltb m (idOf (a .id))) (mark (c .before .before .before)))
+over c =
+    let m = c .before .before .before in
+    sym (c .below2 .ensures ∙ ap (λ (x : ℕ). ltb x (idOf (m .before .before .before .before .args .id))) (mark m))
 
--- past both tests it is the mark
-is-mark : (c : tie.Else3 Inv-loop μ-loop) → let a = c .before .before .before .before .before .before .before .before .args in idOf (a .id) ≡ markOf (streamsOf (a .t1)) (a .role)
-is-mark c =
-    let a = c .before .before .before .before .before .before .before .before .args in
+-- past the three tests the id is set and the mark, and its first holder is the primary
+found : (c : tie.Else3 Inv-loop μ-loop) {o : Option ℕ} → let a = c .before .before .before .before .before .before .before .before .args in
+    let e = streamsOf (a .t1) in
+    o ≡ head (numbers (holds (a .role) (idOf (a .id))) 0 (e .streams)) → isSome o ≡ byPrimary e (a .role) (idOf (a .id))
+found c q =
+    let b = c .before .before in
+    let l = b .before .before .before .before in
+    let a = l .before .before .args in
+    let e = streamsOf (a .t1) in
+    let s = sym (l .before .is-set .ensures) ∙ not-false (l .before .is-set .result) (l .if1 .left) in
     let i = idOf (a .id) in
-    let m = markOf (streamsOf (a .t1)) (a .role) in
-    let low = ltb-false i m (under (c .before .before .before) ∙ c .before .before .if2 .left) in
+    let m = markOf e (a .role) in
+    let low = ltb-false i m (under (b .before) ∙ b .if2 .left) in
     let high = ltb-false m i (over (c .before) ∙ c .if3 .left) in
-    omega (arith, low, high)
+    let z : m ≡ i = omega (arith, low, high) in
+    mark-held e (a .role) i s z q
 
-size : (c : tie.At-loop Inv-loop μ-loop) → length (c .before .before .before .before .before .before .before .before .before .args .t1 .streams) ≡ 32
+size : (c : tie.At-loop Inv-loop μ-loop) → let a = c .before .before .before .before .before .before .before .before .before .args in
+    length (a .t1 .streams) ≡ 32
 size c = search (needs, length-mapped)
 
 is-set-requires : tie.Need-is-set-requires Inv-loop μ-loop
@@ -100,25 +107,27 @@ below-requires c κs = search needs
 
 returns-2 : tie.Need-returns-2 Inv-loop μ-loop
 returns-2 c =
-    let a = c .before .before .before .before .before .before .args in
-    let i = idOf (a .id) in
-    let m = markOf (streamsOf (a .t1)) (a .role) in
-    let l = ltb-true i m (under (c .before) ∙ c .if2 .taken) in
-    other-id (streamsOf (a .t1)) (a .role) i (ne-eqb i m (λ (z : i ≡ m). omega (arith, l, z)))
+    let b = c .before in
+    let a = b .before .before .before .before .before .args in
+    let e = streamsOf (a .t1) in
+    let l = ltb-true (idOf (a .id)) (markOf e (a .role)) (under b ∙ c .if2 .taken) in
+    other-id e (a .role) (idOf (a .id)) (λ z. omega (arith, l, z))
 
 below-requires-2 : tie.Need-below-requires-2 Inv-loop μ-loop
 below-requires-2 c κs = search needs
 
 returns-3 : tie.Need-returns-3 Inv-loop μ-loop
 returns-3 c =
-    let a = c .before .before .before .before .before .before .before .before .args in
-    let i = idOf (a .id) in
-    let m = markOf (streamsOf (a .t1)) (a .role) in
-    let l = ltb-true m i (over (c .before) ∙ c .if3 .taken) in
-    other-id (streamsOf (a .t1)) (a .role) i (ne-eqb i m (λ (z : i ≡ m). omega (arith, l, z)))
+    let b = c .before in
+    let a = b .before .before .before .before .before .before .before .args in
+    let e = streamsOf (a .t1) in
+    let l = ltb-true (markOf e (a .role)) (idOf (a .id)) (over b ∙ c .if3 .taken) in
+    other-id e (a .role) (idOf (a .id)) (λ z. omega (arith, l, z))
 
 loop-holds : tie.Need-loop-holds Inv-loop μ-loop
-loop-holds c = (search needs, refl)
+loop-holds c =
+    let a = c .before .before .before .before .before .before .before .before .args in
+    (search needs, first-none (holds (a .role) (idOf (a .id))) (streamsOf (a .t1)))
 
 mul-s : tie.Need-mul-s Inv-loop μ-loop
 mul-s c = search needs
@@ -134,11 +143,12 @@ holds-requires c κs = search needs
 
 returns-4 : tie.Need-returns-4 Inv-loop μ-loop
 returns-4 c =
-    let d = c .before .before .before .before .before in
-    let a = c .before .before .before .before .before .before .before .before .before .before .before .before .before .before .args in
-    let p = holds (a .role) (idOf (a .id)) in
-    let e = left-next (a .t1) (size d) p (d .loop .k) (c .before .before .before .before .loop-test .taken) (c .before .before .binding .ensures) (c .before .holds .ensures) true (c .if4 .taken) in
-    mark-held (streamsOf (a .t1)) (a .role) (idOf (a .id)) _ (set (c .before .before .before .before .before .before .before .before .before .before .before .before)) (is-mark (c .before .before .before .before .before .before)) (d .loop .inv .1 ∙ ap head e)
+    let h = c .before in
+    let b = h .before in
+    let t = b .before .before in
+    let d = t .before in
+    found (d .before)
+    (first-hit _ (size d) (d .loop .inv .1) (t .loop-test .taken) (b .binding .ensures) (sym (c .if4 .taken) ∙ h .holds .ensures))
 
 add-k : tie.Need-add-k Inv-loop μ-loop
 add-k c = search needs
@@ -148,19 +158,15 @@ loop-less c = search needs
 
 loop-again : tie.Need-loop-again Inv-loop μ-loop
 loop-again c =
-    let d = c .before .before .before .before .before in
-    let a = c .before .before .before .before .before .before .before .before .before .before .before .before .before .before .args in
-    let p = holds (a .role) (idOf (a .id)) in
-    let e = left-next (a .t1) (size d) p (d .loop .k) (c .before .before .before .before .loop-test .taken) (c .before .before .binding .ensures) (c .before .holds .ensures) false (c .if4 .left) in
-    (search needs, d .loop .inv .1 ∙ ap head e)
+    let h = c .before in
+    let b = h .before in
+    let t = b .before .before in
+    let d = t .before in
+    let f = first-same _ (size d) (d .loop .inv .1) (t .loop-test .taken) (b .binding .ensures) (sym (c .if4 .left) ∙ h .holds .ensures) in
+    (search needs, f)
 
 returns-5 : tie.Need-returns-5 Inv-loop μ-loop
-returns-5 c =
-    let d = c .before in
-    let a = c .before .before .before .before .before .before .before .before .before .before .args in
-    let p = holds (a .role) (idOf (a .id)) in
-    mark-held (streamsOf (a .t1)) (a .role) (idOf (a .id)) _ (set (c .before .before .before .before .before .before .before .before)) (is-mark (c .before .before))
-    (d .loop .inv .1 ∙ ap head (left-none (a .t1) (size d) p (d .loop .k) (c .loop-test .left)))
+returns-5 c = let d = c .before in found (d .before) (first-all _ (size d) (d .loop .inv .1) (c .loop-test .left))
 
 pub by-primary-spec : {M : Type 1} → statement M
 by-primary-spec =
