@@ -20,17 +20,8 @@ use Rattle.arbitration.specs.declared.Notify.{Notify}
 use Rattle.election.specs.declared.Stream.{Stream}
 use Rattle.arbitration.specs.declared.Streams.{Streams}
 use Rattle.arbitration.proofs.Places.{unset, noStream, kept-set, sized, raised-at, read, past-closed, past-stored, stored, bound-stored}
-use Rattle.arbitration.proofs.Events.{
-  open-closed,
-  open-twice,
-  shut,
-  close-closed,
-  close-open,
-  closes,
-  arbitrate-refused,
-  arbitrate-closes,
-  arbitrate-binds,
-}
+use Rattle.arbitration.proofs.Events.{open-closed, open-twice, shut, close-closed, close-open, closes, arbitrate-refused}
+use Rattle.arbitration.proofs.Events.{arbitrate-closes, arbitrate-binds}
 
 module _ (self : Streams) (size : length (self .streams) ≡ 32) (s : ℕ) where
   -- what stands at the place

@@ -11,26 +11,8 @@ use borrow.Author.Tests.{ne-eqb}
 use Rattle.rules.specs.Bytes.{if_then_else_}
 use Rattle.rules.specs.Reason.{first}
 use Rattle.rules.specs.Frame.{Head}
-use Rattle.rules.specs.Streams.{
-  Stream,
-  closed,
-  unbound,
-  bound,
-  Streams,
-  streamAt,
-  isOpen,
-  notifyAll,
-  become,
-  openStream,
-  closeStream,
-  leaving,
-  closeRecords,
-  arbitrateReason,
-  binds,
-  bindRecords,
-  arbitrate,
-  Outcome,
-}
+use Rattle.rules.specs.Streams.{Stream, closed, unbound, bound, Streams, streamAt, isOpen, notifyAll, become, openStream, closeStream}
+use Rattle.rules.specs.Streams.{leaving, closeRecords, arbitrateReason, binds, bindRecords, arbitrate, Outcome}
 use Rattle.rules.proofs.Tests.{clash}
 use Rattle.election.specs.Meaning.{roleOr}
 use Rattle.leadership.specs.Scanning.{leads}

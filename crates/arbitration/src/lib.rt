@@ -214,13 +214,13 @@ impl Streams {
                 if !id.is_set() {
                     return false;
                 }
-                let sender = stream as usize;
+                let own = stream as usize;
                 let mut k: usize = 0;
                 while k < 32 {
                     let s = self.streams[k];
-                    let b = s.binding();
-                    if b.holds(role, id) {
-                        return k == sender;
+                    let first = s.binding();
+                    if first.holds(role, id) {
+                        return k == own;
                     }
                     k += 1;
                 }

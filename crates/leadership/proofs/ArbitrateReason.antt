@@ -64,7 +64,8 @@ module _ (e : Streams) (s device : ℕ) (h : Head) where
     pub reason-closes : (n ≡ 0 → ⊥) → between 5 9 n ≡ true
     unfolding arbitrateReason
     reason-closes zero =
-        let t : refusal n ≡ true = rw p (first-passes refusal (orderOf device e s h (streamAt e s)) (all (streamAt e s)) (rw (← p) (ne-eqb n 0 zero))) in
+        let x = streamAt e s in
+        let t : refusal n ≡ true = rw p (first-passes refusal (orderOf device e s h x) (all x) (rw (← p) (ne-eqb n 0 zero))) in
         rw (ne-eqb n 4 four) at t
       where
         all : (x : Stream) → every (λ (c : Bool × ℕ). refusal (c .1)) (orderOf device e s h x) ≡ true

@@ -11,7 +11,8 @@ use lib.Seq.{set-out, set-getD, getD-set-same}
 use borrow.Author.Tests.{eqb-true, eqb-false, eq-eqb, ne-eqb, ltb-true, ltb-false}
 use Rattle.rules.specs.Bytes.{if_then_else_, some-of}
 use Rattle.rules.specs.Frame.{Head}
-use Rattle.rules.specs.Streams.{Stream, bound, Streams, streamAt, holds, numbers, head, is, markOf, primary, heldElsewhere, binds, sameOption, samePair}
+use Rattle.rules.specs.Streams.{bound, Streams, streamAt, holds, numbers, head, is, markOf, primary, heldElsewhere}
+use Rattle.rules.specs.Streams.{binds, sameOption, samePair}
 use Rattle.rules.proofs.Tests.{and-false, both-true}
 use Rattle.leadership.proofs.FirstPassing.{other, not-passing, passes-no-more, passes-alone}
 

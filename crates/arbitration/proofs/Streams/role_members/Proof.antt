@@ -10,20 +10,8 @@ use Rattle.rules.specs.Streams.{inRole, holds, primary}
 use Rattle.election.specs.Meaning.{idOf, bindingOf}
 use Rattle.arbitration.specs.Meaning.{streamsOf}
 use Rattle.rules.proofs.Lists.{length-mapped}
-use Rattle.arbitration.proofs.ScanInvariants.{
-  mark-read,
-  none-held,
-  Listed,
-  listed-none,
-  listed-next,
-  listed-same,
-  listed-all,
-  First,
-  first-none,
-  first-next,
-  first-same,
-  first-all,
-}
+use Rattle.arbitration.proofs.ScanInvariants.{mark-read, none-held, Listed, listed-none, listed-next, listed-same, listed-all, First}
+use Rattle.arbitration.proofs.ScanInvariants.{first-none, first-next, first-same, first-all}
 use Rattle.arbitration.proofs.Streams.role_members.Statement.{statement}
 use Rattle.arbitration.proofs.Streams.role_members.Tie as tie
 

@@ -10,16 +10,8 @@ use Rattle.election.specs.Meaning.{idOf}
 use Rattle.arbitration.specs.Meaning.{streamsOf}
 use Rattle.rules.proofs.Lists.{length-mapped}
 use Rattle.arbitration.proofs.Places.{sized, sized-marks, read-at}
-use Rattle.arbitration.proofs.ScanInvariants.{
-  mark-read,
-  at-most-one,
-  Scanned,
-  scanned-none,
-  scanned-next,
-  scanned-count,
-  scanned-used,
-  scanned-first,
-}
+use Rattle.arbitration.proofs.ScanInvariants.{mark-read, at-most-one, Scanned, scanned-none, scanned-next, scanned-count}
+use Rattle.arbitration.proofs.ScanInvariants.{scanned-used, scanned-first}
 use Rattle.arbitration.proofs.Streams.scan.Statement.{statement}
 use Rattle.arbitration.proofs.Streams.scan.Tie as tie
 
