@@ -90,16 +90,9 @@ impl Streams {
     pub fn by_primary(self, role: u8, id: ElectionId) -> bool
         ensures { λ r. ⌜ r ≡ rules.byPrimary (streamsOf self) role (idOf id) ⌝ }
     {
-        if !id.is_set() {
-            return false;
-        }
         let place = (role % 8) as usize;
         let read = self.marks[place];
-        let mark = election::mark_of(role, read);
-        if id.below(mark) {
-            return false;
-        }
-        if mark.below(id) {
+        if !election::is_mark(id, role, read) {
             return false;
         }
         let mut k: usize = 0;
@@ -207,11 +200,7 @@ impl Streams {
             Binding::Bound(role, id) => {
                 let place = (role % 8) as usize;
                 let read = self.marks[place];
-                let mark = election::mark_of(role, read);
-                if !id.equals(mark) {
-                    return false;
-                }
-                if !id.is_set() {
+                if !election::is_mark(id, role, read) {
                     return false;
                 }
                 let own = stream as usize;

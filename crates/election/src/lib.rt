@@ -182,6 +182,16 @@ pub fn mark_of(role: u8, read: ElectionId) -> ElectionId
     ElectionId::UNSET
 }
 
+// Whether an id is set and is the mark of a role, where read is as above.
+pub fn is_mark(id: ElectionId, role: u8, read: ElectionId) -> bool
+    ensures { λ r. ⌜ r ≡ not (eqb (idOf id) 0) && eqb (idOf id) (if ltb role 8 then idOf read else 0) ⌝ }
+{
+    if id.is_set() {
+        return id.equals(mark_of(role, read));
+    }
+    false
+}
+
 // What stands at that place after an ARBITRATE: where it was accepted the mark rises to a higher id, and it never falls.
 pub fn mark_after(reason: u8, role: u8, old: ElectionId, id: ElectionId) -> ElectionId
     ensures { λ r. ⌜ idOf r ≡ (if eqb reason 0 && ltb role 8 && ltb (idOf old) (idOf id) then idOf id else idOf old) ⌝ }

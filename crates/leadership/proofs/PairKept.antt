@@ -13,7 +13,7 @@ use Rattle.rules.specs.Bytes.{if_then_else_, some-of}
 use Rattle.rules.specs.Frame.{Head}
 use Rattle.rules.specs.Streams.{bound, Streams, streamAt, holds, numbers, head, is, markOf, primary, heldElsewhere}
 use Rattle.rules.specs.Streams.{binds, sameOption, samePair}
-use Rattle.rules.proofs.Tests.{and-false, both-true}
+use Rattle.rules.proofs.Tests.{clash, and-false, both-true}
 use Rattle.leadership.proofs.FirstPassing.{other, not-passing, passes-no-more, passes-alone}
 
 -- ---- the primary, by the mark
@@ -27,7 +27,7 @@ unfolding primary
 set-primary e r z t = rw (z, t)
 
 -- a stream with another id than the mark is not the primary
-pub other-id : (e : Streams) (s : ℕ) {r i : ℕ} → bound r i ≡ streamAt e s → eqb i (markOf e r) ≡ false → false ≡ is s (primary e r)
+other-id : (e : Streams) (s : ℕ) {r i : ℕ} → bound r i ≡ streamAt e s → eqb i (markOf e r) ≡ false → false ≡ is s (primary e r)
 unfolding primary
 other-id e s {r} {i} h t = go (eqb (markOf e r) 0)
   where
@@ -37,6 +37,16 @@ other-id e s {r} {i} h t = go (eqb (markOf e r) 0)
     go : (b : Bool) → false ≡ is s (if b then none else head (numbers (holds r (markOf e r)) 0 (e .streams)))
     go true = refl
     go false = sym (not-passing (holds r (markOf e r)) (e .streams) 0 s s (omega arith) p)
+
+-- nor is one with the unset id
+pub not-primary : (e : Streams) (s : ℕ) {r i : ℕ} → bound r i ≡ streamAt e s → not (eqb i 0) && eqb i (markOf e r) ≡ false
+    → false ≡ is s (primary e r)
+not-primary e s {r} {i} h = go (eqb i 0) (eqb-true i 0) (eqb i (markOf e r)) refl
+  where
+    go : (b : Bool) → (b ≡ true → i ≡ 0) → (c : Bool) → eqb i (markOf e r) ≡ c → not b && c ≡ false → false ≡ is s (primary e r)
+    go b p false q t = other-id e s h q
+    go true p true q t = ap (is s) (unset-primary e r (sym (eqb-true i (markOf e r) q) ∙ p refl))
+    go false p true q t = clash refl t
 
 -- ---- the pair
 

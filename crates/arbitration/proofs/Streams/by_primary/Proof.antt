@@ -1,15 +1,14 @@
--- Right because its tests are those of the rules: an id is the mark where neither is below the other, and then its first holder is the primary.
--- Assumes nothing.
+-- Right because the primary of a role whose mark is set is the first stream that holds it. Assumes nothing.
 use Prim.Native.Nat.{ℕ, _-_, _≤_}
-use native.Mathlib.Omega.{arith}
 use mathlib.Core.Path.{_≡_, refl, sym, ap, _∙_}
-use mathlib.Core.Bool.{true, false, _&&_, not, and-false as and-none, and-true as and-all}
+use mathlib.Core.Bool.{Bool, true, false, _&&_, not, and-true as and-all}
 use mathlib.Core.Option.{Option}
-use lib.Dec.{eqb, ltb}
+use lib.Dec.{eqb}
 use lib.ListN.{length}
-use borrow.Author.Tests.{eq-eqb, ne-eqb, ltb-true, ltb-false, not-true, not-false}
+use borrow.Author.Tests.{eqb-true, not-true, not-false}
 use borrow.Author.Needs.{needs}
 use Rattle.rules.specs.Streams.{Streams, holds, numbers, head, markOf, primary, isSome, byPrimary}
+use Rattle.rules.proofs.Tests.{and-true}
 use Rattle.rules.proofs.Lists.{length-mapped}
 use Rattle.election.specs.Meaning.{idOf}
 use Rattle.leadership.proofs.PairKept.{set-primary}
@@ -24,71 +23,43 @@ Inv-loop role id self place k₀ k = (k ≤ 32) × First (holds role (idOf id)) 
 abbrev μ-loop : tie.MeasureT-loop
 μ-loop role id self place k₀ k = 32 - k
 
--- an id that is not the mark
-other-id : (e : Streams) (r i : ℕ) → (i ≡ markOf e r → ⊥) → false ≡ byPrimary e r i
-unfolding byPrimary
-other-id e r i d = rw (ne-eqb i (markOf e r) d) (sym (and-none (not (eqb i 0) && isSome (primary e r))))
+size : (c : tie.Start Inv-loop μ-loop) → length (c .args .t1 .streams) ≡ 32
+size c = search (needs, length-mapped)
+
+marks : (c : tie.Start Inv-loop μ-loop) → length (c .args .t1 .marks) ≡ 8
+marks c = search (needs, length-mapped)
+
+-- an id that is unset or not the mark
+not-mark : (a b c : Bool) → a && c ≡ false → false ≡ (a && b && c)
+not-mark true true c h = sym h
+not-mark true false c h = refl
+not-mark false b c h = refl
 
 -- a set id that is the mark: the primary is its first holder
-mark-held : (e : Streams) (r i : ℕ) {o : Option ℕ} → not (eqb i 0) ≡ true → markOf e r ≡ i → o ≡ head (numbers (holds r i) 0 (e .streams))
-    → isSome o ≡ byPrimary e r i
+mark-held : (e : Streams) (r i : ℕ) {o : Option ℕ} → not (eqb i 0) && eqb i (markOf e r) ≡ true
+    → o ≡ head (numbers (holds r i) 0 (e .streams)) → isSome o ≡ byPrimary e r i
 unfolding byPrimary
-mark-held e r i {o} s z h =
-    let p = h ∙ set-primary e r z (not-true (eqb i 0) s) in
-    rw (← p, z, s, eq-eqb i i refl) (sym (and-all (isSome o)))
+mark-held e r i {o} t h =
+    let q = and-true (not (eqb i 0)) (eqb i (markOf e r)) t in
+    let p = h ∙ set-primary e r (sym (eqb-true i (markOf e r) (q .1))) (not-true (eqb i 0) (q .0)) in
+    rw (← p, q .0, q .1) (sym (and-all (isSome o)))
 
--- what is compared with the id is the role's mark
-mark : (c : tie.After-mark-of Inv-loop μ-loop) → let a = c .before .before .before .before .args in
-    idOf (c .mark-of .result) ≡ markOf (streamsOf (a .t1)) (a .role)
-mark c =
-    let a = c .before .before .before .before .args in
-    let n : length (a .t1 .marks) ≡ 8 = search (needs, length-mapped) in
-    c .mark-of .ensures ∙ mark-read (a .t1) n (a .role)
+-- whether the id is set and the mark
+tested : (c : tie.After-is-mark Inv-loop μ-loop) → let a = c .before .before .args in
+    (not (eqb (idOf (a .id)) 0) && eqb (idOf (a .id)) (markOf (streamsOf (a .t1)) (a .role))) ≡ c .is-mark .result
+tested c =
+    let t = c .before .before in
+    let a = t .args in
+    let m = mark-read (a .t1) (marks t) (a .role) in
+    sym (c .is-mark .ensures ∙ ap (λ (x : ℕ). not (eqb (idOf (a .id)) 0) && eqb (idOf (a .id)) x) m)
 
--- whether the id is below the mark
-under : (c : tie.After-below Inv-loop μ-loop) → let a = c .before .before .before .before .before .args in
-    ltb (idOf (a .id)) (markOf (streamsOf (a .t1)) (a .role)) ≡ c .below .result
-under c =
-    let m = c .before in
-    sym (c .below .ensures ∙ ap (ltb (idOf (m .before .before .before .before .args .id))) (mark m))
-
--- whether it is above
-over : (c : tie.After-below2 Inv-loop μ-loop) → let a = c .before .before .before .before .before .before .before .args in
-    ltb (markOf (streamsOf (a .t1)) (a .role)) (idOf (a .id)) ≡ c .below2 .result
-over c =
-    let m = c .before .before .before in
-    sym (c .below2 .ensures ∙ ap (λ (x : ℕ). ltb x (idOf (m .before .before .before .before .args .id))) (mark m))
-
--- past the three tests the id is set and the mark, and its first holder is the primary
-found : (c : tie.Else3 Inv-loop μ-loop) {o : Option ℕ} → let a = c .before .before .before .before .before .before .before .before .args in
+found : (c : tie.Else1 Inv-loop μ-loop) {o : Option ℕ} → let a = c .before .before .before .args in
     let e = streamsOf (a .t1) in
     o ≡ head (numbers (holds (a .role) (idOf (a .id))) 0 (e .streams)) → isSome o ≡ byPrimary e (a .role) (idOf (a .id))
 found c q =
-    let b = c .before .before in
-    let l = b .before .before .before .before in
-    let a = l .before .before .args in
-    let e = streamsOf (a .t1) in
-    let s = sym (l .before .is-set .ensures) ∙ not-false (l .before .is-set .result) (l .if1 .left) in
-    let i = idOf (a .id) in
-    let m = markOf e (a .role) in
-    let low = ltb-false i m (under (b .before) ∙ b .if2 .left) in
-    let high = ltb-false m i (over (c .before) ∙ c .if3 .left) in
-    let z : m ≡ i = omega (arith, low, high) in
-    mark-held e (a .role) i s z q
-
-size : (c : tie.At-loop Inv-loop μ-loop) → let a = c .before .before .before .before .before .before .before .before .before .args in
-    length (a .t1 .streams) ≡ 32
-size c = search (needs, length-mapped)
-
-is-set-requires : tie.Need-is-set-requires Inv-loop μ-loop
-is-set-requires c κs = search needs
-
-returns : tie.Need-returns Inv-loop μ-loop
-unfolding byPrimary
-returns c =
-    let i = c .before .is-set in
-    let t : not (eqb (idOf (c .before .before .args .id)) 0) ≡ false = sym (i .ensures) ∙ not-true (i .result) (c .if1 .taken) in
-    rw t
+    let i = c .before in
+    let a = i .before .before .args in
+    mark-held (streamsOf (a .t1)) (a .role) (idOf (a .id)) (tested i ∙ not-false (i .is-mark .result) (c .if1 .left)) q
 
 cast-place : tie.Need-cast-place Inv-loop μ-loop
 cast-place c = search needs
@@ -99,34 +70,21 @@ mul-read c = search needs
 element-copy-out-read : tie.Need-element-copy-out-read Inv-loop μ-loop
 element-copy-out-read c = search needs
 
-mark-of-requires : tie.Need-mark-of-requires Inv-loop μ-loop
-mark-of-requires c κs = search needs
+is-mark-requires : tie.Need-is-mark-requires Inv-loop μ-loop
+is-mark-requires c κs = search needs
 
-below-requires : tie.Need-below-requires Inv-loop μ-loop
-below-requires c κs = search needs
-
-returns-2 : tie.Need-returns-2 Inv-loop μ-loop
-returns-2 c =
-    let b = c .before in
-    let a = b .before .before .before .before .before .args in
+returns : tie.Need-returns Inv-loop μ-loop
+unfolding byPrimary
+returns c =
+    let i = c .before in
+    let a = i .before .before .args in
     let e = streamsOf (a .t1) in
-    let l = ltb-true (idOf (a .id)) (markOf e (a .role)) (under b ∙ c .if2 .taken) in
-    other-id e (a .role) (idOf (a .id)) (λ z. omega (arith, l, z))
-
-below-requires-2 : tie.Need-below-requires-2 Inv-loop μ-loop
-below-requires-2 c κs = search needs
-
-returns-3 : tie.Need-returns-3 Inv-loop μ-loop
-returns-3 c =
-    let b = c .before in
-    let a = b .before .before .before .before .before .before .before .args in
-    let e = streamsOf (a .t1) in
-    let l = ltb-true (markOf e (a .role)) (idOf (a .id)) (over b ∙ c .if3 .taken) in
-    other-id e (a .role) (idOf (a .id)) (λ z. omega (arith, l, z))
+    not-mark (not (eqb (idOf (a .id)) 0)) (isSome (primary e (a .role))) (eqb (idOf (a .id)) (markOf e (a .role)))
+    (tested i ∙ not-true (i .is-mark .result) (c .if1 .taken))
 
 loop-holds : tie.Need-loop-holds Inv-loop μ-loop
 loop-holds c =
-    let a = c .before .before .before .before .before .before .before .before .args in
+    let a = c .before .before .before .args in
     (search needs, first-none (holds (a .role) (idOf (a .id))) (streamsOf (a .t1)))
 
 mul-s : tie.Need-mul-s Inv-loop μ-loop
@@ -141,14 +99,14 @@ binding-requires c κs = search needs
 holds-requires : tie.Need-holds-requires Inv-loop μ-loop
 holds-requires c κs = search needs
 
-returns-4 : tie.Need-returns-4 Inv-loop μ-loop
-returns-4 c =
+returns-2 : tie.Need-returns-2 Inv-loop μ-loop
+returns-2 c =
     let h = c .before in
     let b = h .before in
     let t = b .before .before in
     let d = t .before in
     found (d .before)
-    (first-hit _ (size d) (d .loop .inv .1) (t .loop-test .taken) (b .binding .ensures) (sym (c .if4 .taken) ∙ h .holds .ensures))
+    (first-hit _ (size (d .before .before .before .before)) (d .loop .inv .1) (t .loop-test .taken) (b .binding .ensures) (sym (c .if2 .taken) ∙ h .holds .ensures))
 
 add-k : tie.Need-add-k Inv-loop μ-loop
 add-k c = search needs
@@ -162,11 +120,11 @@ loop-again c =
     let b = h .before in
     let t = b .before .before in
     let d = t .before in
-    let f = first-same _ (size d) (d .loop .inv .1) (t .loop-test .taken) (b .binding .ensures) (sym (c .if4 .left) ∙ h .holds .ensures) in
+    let f = first-same _ (size (d .before .before .before .before)) (d .loop .inv .1) (t .loop-test .taken) (b .binding .ensures) (sym (c .if2 .left) ∙ h .holds .ensures) in
     (search needs, f)
 
-returns-5 : tie.Need-returns-5 Inv-loop μ-loop
-returns-5 c = let d = c .before in found (d .before) (first-all _ (size d) (d .loop .inv .1) (c .loop-test .left))
+returns-3 : tie.Need-returns-3 Inv-loop μ-loop
+returns-3 c = let d = c .before in found (d .before) (first-all _ (size (d .before .before .before .before)) (d .loop .inv .1) (c .loop-test .left))
 
 pub by-primary-spec : {M : Type 1} → statement M
 by-primary-spec =
@@ -174,23 +132,18 @@ by-primary-spec =
     (tie.spec
     Inv-loop
     μ-loop
-    is-set-requires
-    returns
     cast-place
     mul-read
     element-copy-out-read
-    mark-of-requires
-    below-requires
-    returns-2
-    below-requires-2
-    returns-3
+    is-mark-requires
+    returns
     loop-holds
     mul-s
     element-copy-out-s
     binding-requires
     holds-requires
-    returns-4
+    returns-2
     add-k
     loop-less
     loop-again
-    returns-5)
+    returns-3)
