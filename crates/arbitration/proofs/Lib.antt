@@ -1,7 +1,5 @@
--- What is proved of streams, marks and events.
-pub mod Records
-pub mod Listing
-pub mod Surveys
-pub mod Pairs
+-- What is proved of the record's places, of a scan over its streams, and of what events leave.
+pub mod Places
+pub mod ScanInvariants
 pub mod Events
-pub mod Stores
+pub mod EventStores

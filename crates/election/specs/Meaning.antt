@@ -1,7 +1,6 @@
 -- What the values of this crate mean in the rules' terms. Assumes nothing.
-use mathlib.Core.Option.{Option, none, some}
 use Prim.Native.Nat.{ℕ}
-use lib.Dec.{eqb, ltb}
+use lib.Dec.{eqb}
 use Rattle.rules.specs.Bytes.{if_then_else_}
 use Rattle.rules.specs.Frame as frame
 use Rattle.rules.specs.Streams as rules
@@ -11,8 +10,6 @@ use Rattle.election.specs.declared.Head.{Head}
 use Rattle.election.specs.declared.Binding.{Binding}
 use Rattle.election.specs.declared.Binding.the-variants.{Closed, Open, Bound}
 use Rattle.election.specs.declared.Stream.{Stream}
-use Rattle.election.specs.declared.Primary.{Primary}
-use Rattle.election.specs.declared.Primary.the-variants.{Nobody, Is}
 
 -- an election id as a number, 0 where it is unset
 abbrev pub idOf : ElectionId → ℕ
@@ -34,11 +31,8 @@ streamOf s =
     if eqb (s .phase) 2 then rules.bound (s .role) (idOf (s .id)) else
     rules.closed
 
--- the primary of a role, or none
-abbrev pub primaryOf : Primary → Option ℕ
-primaryOf Nobody = none
-primaryOf (Is s) = some s
-
--- a stream's number, or none from 32 on
-abbrev pub numbered : ℕ → Option ℕ
-numbered k = if ltb k 32 then some k else none
+-- the role that a stream is bound to, or another where it is bound to none
+abbrev pub roleOr : ℕ → rules.Stream → ℕ
+roleOr other rules.closed = other
+roleOr other rules.unbound = other
+roleOr other (rules.bound r i) = r

@@ -1,16 +1,15 @@
-// What the stream record is made of: election ids, what one stream is and becomes, what a mark becomes, and the record of 20 bytes by which a
-// stream is notified (document 01, "Streams and primaries").
+// What the stream record is made of: election ids, what one stream is and becomes, what a mark becomes, and the reasons that one stream or an
+// address shows, 3 to 6 (document 01, "Streams and primaries").
 ghost use mathlib.Core.Path.{_≡_};
 ghost use mathlib.Core.Bool.{not, _&&_, _||_};
-ghost use mathlib.Core.List.{map};
-ghost use mathlib.Core.Option.{none};
-ghost use Prim.Native.Nat.{_*_, _≤_};
-ghost use lib.ListN.{length, take};
+ghost use Prim.Native.Nat.{_≤_};
+ghost use lib.ListN.{length};
 ghost use lib.Dec.{ltb, eqb};
-ghost use Rattle.rules.specs.Bytes.{if_then_else_, number, bytesOf, concat};
+ghost use Rattle.rules.specs.Bytes.{if_then_else_, number, bytesOf};
+ghost use Rattle.rules.specs.Reason.{first};
 ghost use Rattle.rules.specs.Streams as rules;
 ghost use Rattle.buffers.specs.Splice.{splice};
-ghost use Rattle.election.specs.Meaning.{idOf, bindingOf, streamOf, primaryOf, numbered};
+ghost use Rattle.election.specs.Meaning.{idOf, bindingOf, streamOf, roleOr};
 use numbers::Number;
 
 // An election id: a 128-bit number, of which 0 is the unset id.
@@ -134,6 +133,17 @@ impl Binding {
         }
     }
 
+    // The role it is bound to, or the other one where it is bound to none.
+    pub fn role_or(self, other: u8) -> u8
+        ensures { λ r. ⌜ r ≡ roleOr other (bindingOf self) ⌝ }
+    {
+        match self {
+            Binding::Closed => other,
+            Binding::Open => other,
+            Binding::Bound(own, _) => own,
+        }
+    }
+
     // Whether it is bound to the role.
     pub fn in_role(self, role: u8) -> bool
         ensures { λ r. ⌜ r ≡ rules.inRole role (bindingOf self) ⌝ }
@@ -162,85 +172,6 @@ impl Binding {
     }
 }
 
-// The primary of a role.
-pub enum Primary {
-    Nobody,
-    Is(u8),
-}
-
-// What one walk over the record shows of a role: how many streams are bound to it, and what they are told.
-pub struct Roll {
-    pub count: usize,
-    pub primary: Primary,
-    pub mark: ElectionId,
-}
-
-// 0 to the primary, 6 where another is primary, 5 where none is.
-fn status(primary: Primary, stream: u8) -> u8
-    ensures { λ r. ⌜ r ≡ rules.status (primaryOf primary) stream ⌝ }
-{
-    match primary {
-        Primary::Nobody => 5,
-        Primary::Is(p) => {
-            if p == stream {
-                return 0;
-            }
-            6
-        }
-    }
-}
-
-// The flag of an id: 1 where it is set.
-fn flag(id: ElectionId) -> u8
-    ensures { λ r. ⌜ r ≡ rules.flagOf (idOf id) ⌝ }
-{
-    if id.is_set() {
-        return 1;
-    }
-    0
-}
-
-// Writes the record of 20 bytes that a stream is told of its role.
-pub fn write_notification(primary: Primary, mark: ElectionId, role: u8, stream: u8, out: &mut [u8])
-    requires { ⌜ 20 ≤ length (now out) ⌝ }
-    ensures { λ _. ⌜ now (out .exit) ≡ splice (now (out .entry)) 0 (rules.noticeOf (primaryOf primary) (idOf mark) role stream) ⌝ }
-{
-    out[0] = stream;
-    out[1] = role;
-    out[2] = status(primary, stream);
-    out[3] = flag(mark);
-    mark.write(&mut out[4..]);
-}
-
-// The primary, where the mark's first holder is this one (32: none).
-pub fn primary_at(mark: ElectionId, holder: usize) -> Primary
-    ensures { λ r. ⌜ primaryOf r ≡ (if eqb (idOf mark) 0 then none else numbered holder) ⌝ }
-{
-    if !mark.is_set() {
-        return Primary::Nobody;
-    }
-    if 32 <= holder {
-        return Primary::Nobody;
-    }
-    Primary::Is(holder as u8)
-}
-
-// Writes the records of the streams that are listed from the first byte of `members` on.
-pub fn write_members(seen: Roll, role: u8, members: &[u8], out: &mut [u8])
-    requires { ⌜ (seen .count ≤ length (now members)) × (20 * seen .count ≤ length (now out)) ⌝ }
-    ensures { λ _. ⌜ now (out .exit) ≡ splice (now (out .entry)) 0 (concat (map (rules.noticeOf (primaryOf (seen .primary)) (idOf (seen .mark)) role) (take (seen .count) (now (members .entry))))) ⌝ }
-{
-    let p = seen.primary;
-    let mark = seen.mark;
-    let n = seen.count;
-    let mut i: usize = 0;
-    while i < n {
-        let at = 20 * i;
-        write_notification(p, mark, role, members[i], &mut out[at..]);
-        i += 1;
-    }
-}
-
 // The mark of a role, where read is the mark at the role modulo 8: a role past the last has none.
 pub fn mark_of(role: u8, read: ElectionId) -> ElectionId
     ensures { λ r. ⌜ idOf r ≡ (if ltb role 8 then idOf read else 0) ⌝ }
@@ -251,8 +182,18 @@ pub fn mark_of(role: u8, read: ElectionId) -> ElectionId
     ElectionId::UNSET
 }
 
+// Whether an id is set and is the mark of a role, where read is as above.
+pub fn is_mark(id: ElectionId, role: u8, read: ElectionId) -> bool
+    ensures { λ r. ⌜ r ≡ not (eqb (idOf id) 0) && eqb (idOf id) (if ltb role 8 then idOf read else 0) ⌝ }
+{
+    if id.is_set() {
+        return id.equals(mark_of(role, read));
+    }
+    false
+}
+
 // What stands at that place after an ARBITRATE: where it was accepted the mark rises to a higher id, and it never falls.
-pub fn raised(reason: u8, role: u8, old: ElectionId, id: ElectionId) -> ElectionId
+pub fn mark_after(reason: u8, role: u8, old: ElectionId, id: ElectionId) -> ElectionId
     ensures { λ r. ⌜ idOf r ≡ (if eqb reason 0 && ltb role 8 && ltb (idOf old) (idOf id) then idOf id else idOf old) ⌝ }
 {
     if reason != 0 {
@@ -278,17 +219,17 @@ pub fn binding_of(stream: u8, read: Stream) -> Binding
 }
 
 // What stands at that place after an OPEN: one store on every way, as a second way out would copy the record once more.
-pub fn opened(reason: u8, stream: u8, old: Stream) -> Stream
+pub fn after_open(reason: u8, stream: u8, old: Stream) -> Stream
     ensures { λ r. ⌜ streamOf r ≡ (if ltb stream 32 && eqb reason 0 then rules.unbound else streamOf old) ⌝ }
 {
-    if both(stream < 32, reason == 0) {
+    if and(stream < 32, reason == 0) {
         return Binding::Open.stream();
     }
     old
 }
 
 // The same after a CLOSE, which refuses each stream past the last.
-pub fn closed(reason: u8, old: Stream) -> Stream
+pub fn after_close(reason: u8, old: Stream) -> Stream
     ensures { λ r. ⌜ streamOf r ≡ (if eqb reason 0 then rules.closed else streamOf old) ⌝ }
 {
     if reason == 0 {
@@ -298,7 +239,7 @@ pub fn closed(reason: u8, old: Stream) -> Stream
 }
 
 // The same after an ARBITRATE: accepted it binds the stream, 4 leaves it, and any other reason closes it.
-pub fn arbitrated(reason: u8, old: Stream, role: u8, id: ElectionId) -> Stream
+pub fn after_arbitrate(reason: u8, old: Stream, role: u8, id: ElectionId) -> Stream
     ensures { λ r. ⌜ streamOf r ≡ (if eqb reason 0 then rules.bound role (idOf id) else if eqb reason 4 then streamOf old else rules.closed) ⌝ }
 {
     if reason == 0 {
@@ -310,8 +251,8 @@ pub fn arbitrated(reason: u8, old: Stream, role: u8, id: ElectionId) -> Stream
     Binding::Closed.stream()
 }
 
-// The steps of a walk that changes several values, as functions: a value changed in a branch loses its invariant where branches meet.
-pub fn one(hit: bool) -> usize
+// The steps of a scan that changes several values, as functions: a value changed in a branch loses its invariant where branches meet.
+pub fn one_if(hit: bool) -> usize
     ensures { λ r. ⌜ r ≡ (if hit then 1 else 0) ⌝ }
 {
     if hit {
@@ -320,7 +261,7 @@ pub fn one(hit: bool) -> usize
     0
 }
 
-pub fn both(a: bool, b: bool) -> bool
+pub fn and(a: bool, b: bool) -> bool
     ensures { λ r. ⌜ r ≡ a && b ⌝ }
 {
     if a {
@@ -329,7 +270,7 @@ pub fn both(a: bool, b: bool) -> bool
     false
 }
 
-pub fn either(a: bool, b: bool) -> bool
+pub fn or(a: bool, b: bool) -> bool
     ensures { λ r. ⌜ r ≡ a || b ⌝ }
 {
     if a {
@@ -338,24 +279,37 @@ pub fn either(a: bool, b: bool) -> bool
     b
 }
 
-// The first stream that was hit, 32 while none was.
-pub fn first(found: usize, hit: bool, k: usize) -> usize
-    ensures { λ r. ⌜ r ≡ (if ltb found 32 then found else if hit then k else 32) ⌝ }
+// The first stream that passed a test: the one found before, 32 while there is none, or else stream k where it passes.
+pub fn first_of(found: usize, passes: bool, k: usize) -> usize
+    ensures { λ r. ⌜ r ≡ (if ltb found 32 then found else if passes then k else 32) ⌝ }
 {
     if found < 32 {
         return found;
     }
-    if hit {
+    if passes {
         return k;
     }
     32
+}
+
+// 5 where a command is for another device, 6 where its role is over 7, otherwise 0.
+pub fn address_reason(here: bool, role: u8) -> u8
+    ensures { λ r. ⌜ r ≡ first (rules.addressOrder (not here) role) ⌝ }
+{
+    if !here {
+        return 5;
+    }
+    if 7 < role {
+        return 6;
+    }
+    0
 }
 
 // The reason of an OPEN: 3 where the stream is open. One past the last never is, whatever the binding at its number modulo 32.
 pub fn open_reason(stream: u8, binding: Binding) -> u8
     ensures { λ r. ⌜ r ≡ (if ltb stream 32 && rules.isOpen (bindingOf binding) then 3 else 0) ⌝ }
 {
-    if both(stream < 32, binding.is_open()) {
+    if and(stream < 32, binding.is_open()) {
         return 3;
     }
     0

@@ -9,15 +9,15 @@ use Rattle.election.proofs.open_reason.Statement.{statement}
 use Rattle.election.proofs.open_reason.Tie as tie
 
 -- the test is that of the contract
-tested : (c : tie.After-both) → let a = c .before .before .args in
-    c .both .result ≡ (ltb (a .stream) 32 && isOpen (bindingOf (a .binding)))
-tested c = c .both .ensures ∙ ap (λ (b : Bool). ltb (c .before .before .args .stream) 32 && b) (c .before .is-open .ensures)
+tested : (c : tie.After-and) → let a = c .before .before .args in
+    c .and .result ≡ (ltb (a .stream) 32 && isOpen (bindingOf (a .binding)))
+tested c = c .and .ensures ∙ ap (λ (b : Bool). ltb (c .before .before .args .stream) 32 && b) (c .before .is-open .ensures)
 
 is-open-requires : tie.Need-is-open-requires
 is-open-requires c κs = search needs
 
-both-requires : tie.Need-both-requires
-both-requires c κs = search needs
+and-requires : tie.Need-and-requires
+and-requires c κs = search needs
 
 returns : tie.Need-returns
 returns c = rw (sym (tested (c .before)) ∙ c .if1 .taken)
@@ -26,4 +26,4 @@ returns-2 : tie.Need-returns-2
 returns-2 c = rw (sym (tested (c .before)) ∙ c .if1 .left)
 
 pub open-reason-spec : {M : Type 1} → statement M
-open-reason-spec = tie.close (tie.spec is-open-requires both-requires returns returns-2)
+open-reason-spec = tie.close (tie.spec is-open-requires and-requires returns returns-2)

@@ -1,4 +1,4 @@
--- Right because the survey fixes the reason, and the reason what is left and who is notified. Assumes nothing.
+-- Right because the scan fixes the reason, and the reason what is left and who is notified. Assumes nothing.
 use mathlib.Core.Path.{_≡_}
 use lib.ListN.{length}
 use borrow.Author.Needs.{needs}
@@ -6,7 +6,7 @@ use Rattle.election.specs.Meaning.{headOf}
 use Rattle.arbitration.specs.Meaning.{streamsOf}
 use Rattle.rules.proofs.Lists.{length-mapped}
 use Rattle.arbitration.proofs.Events.{arbitrate-leaves}
-use Rattle.arbitration.proofs.Stores.{arbitrates}
+use Rattle.arbitration.proofs.EventStores.{arbitrates}
 use Rattle.arbitration.proofs.Streams.arbitrate.Statement.{statement}
 use Rattle.arbitration.proofs.Streams.arbitrate.Tie as tie
 
@@ -19,14 +19,14 @@ marks c = search (needs, length-mapped)
 cast-k : tie.Need-cast-k
 cast-k c = search needs
 
-survey-requires : tie.Need-survey-requires
-survey-requires c κs = search needs
+scan-requires : tie.Need-scan-requires
+scan-requires c κs = search needs
 
 reason-requires : tie.Need-reason-requires
 reason-requires c κs = search needs
 
-heard-requires : tie.Need-heard-requires
-heard-requires c κs = c .before .survey .ensures
+audience-requires : tie.Need-audience-requires
+audience-requires c κs = search needs
 
 mul-s : tie.Need-mul-s
 mul-s c = search needs
@@ -34,8 +34,8 @@ mul-s c = search needs
 element-copy-out-s : tie.Need-element-copy-out-s
 element-copy-out-s c = search needs
 
-arbitrated-requires : tie.Need-arbitrated-requires
-arbitrated-requires c κs = search needs
+after-arbitrate-requires : tie.Need-after-arbitrate-requires
+after-arbitrate-requires c κs = search needs
 
 mul-t16 : tie.Need-mul-t16
 mul-t16 c = search needs
@@ -52,8 +52,8 @@ mul-old c = search needs
 element-copy-out-old : tie.Need-element-copy-out-old
 element-copy-out-old c = search needs
 
-raised-requires : tie.Need-raised-requires
-raised-requires c κs = search needs
+mark-after-requires : tie.Need-mark-after-requires
+mark-after-requires c κs = search needs
 
 mul-t16-2 : tie.Need-mul-t16-2
 mul-t16-2 c = search needs
@@ -70,29 +70,30 @@ returns c =
     let i = v .before in
     let a = i .before .args in
     let e = streamsOf (a .self) in
-    let p = d .reason .ensures e (a .stream) (v .survey .ensures) in
-    arbitrate-leaves e (a .stream) (a .device) (headOf (a .head)) (t .heard .result)
-    (arbitrates (a .self) (size i) (a .stream) (x .arbitrated .result) (marks i) (a .head) (c .raised .result) (a .device) (d .reason .result) p
-    (x .arbitrated .ensures) (c .raised .ensures))
-    p (t .heard .ensures (a .device) p)
+    let w = v .scan .ensures in
+    let p = d .reason .ensures e (a .stream) w in
+    arbitrate-leaves e (a .stream) (a .device) (headOf (a .head)) (t .audience .result)
+    (arbitrates (a .self) (size i) (a .stream) (x .after-arbitrate .result) (marks i) (a .head) (c .mark-after .result) (a .device)
+    (d .reason .result) p (x .after-arbitrate .ensures) (c .mark-after .ensures))
+    p (t .audience .ensures (a .device) e w p)
 
 pub arbitrate-spec : {M : Type 1} → statement M
 arbitrate-spec =
     tie.close
     (tie.spec
     cast-k
-    survey-requires
+    scan-requires
     reason-requires
-    heard-requires
+    audience-requires
     mul-s
     element-copy-out-s
-    arbitrated-requires
+    after-arbitrate-requires
     mul-t16
     element-set-from-left
     cast-at
     mul-old
     element-copy-out-old
-    raised-requires
+    mark-after-requires
     mul-t16-2
     element-set-from-left-2
     returns)

@@ -3,11 +3,12 @@ use mathlib.Core.Path.{_≡_}
 use lib.ListN.{length}
 use borrow.Author.Needs.{needs}
 use Rattle.rules.specs.Streams as rules
-use Rattle.election.specs.Meaning.{bindingOf}
+use Rattle.election.specs.Meaning.{bindingOf, roleOr}
 use Rattle.arbitration.specs.Meaning.{streamsOf}
 use Rattle.rules.proofs.Lists.{length-mapped}
-use Rattle.arbitration.proofs.Records.{read-at}
-use Rattle.arbitration.proofs.Stores.{shuts}
+use Rattle.arbitration.proofs.Places.{read-at}
+use Rattle.arbitration.proofs.Events.{own-role}
+use Rattle.arbitration.proofs.EventStores.{shuts}
 use Rattle.arbitration.proofs.Streams.close.Statement.{statement}
 use Rattle.arbitration.proofs.Streams.close.Tie as tie
 
@@ -34,26 +35,36 @@ binding-of-requires c κs = search needs
 close-reason-requires : tie.Need-close-reason-requires
 close-reason-requires c κs = search needs
 
-leaving-requires : tie.Need-leaving-requires
-leaving-requires c κs = as-is (c .before)
+leads-requires : tie.Need-leads-requires
+leads-requires c κs = as-is (c .before)
 
-closed-requires : tie.Need-closed-requires
-closed-requires c κs = search needs
+role-or-requires : tie.Need-role-or-requires
+role-or-requires c κs = search needs
 
-mul-t10 : tie.Need-mul-t10
-mul-t10 c = search needs
+closing-audience-requires : tie.Need-closing-audience-requires
+closing-audience-requires c κs = search needs
+
+after-close-requires : tie.Need-after-close-requires
+after-close-requires c κs = search needs
+
+mul-t11 : tie.Need-mul-t11
+mul-t11 c = search needs
 
 element-set-from-self : tie.Need-element-set-from-self
 element-set-from-self c = search needs
 
 returns : tie.Need-returns
 returns c =
-    let l = c .before in
+    let n = c .before in
+    let o = n .before in
+    let l = o .before in
     let r = l .before in
     let b = r .before in
     let a = b .before .before .args in
-    shuts (a .t1) (size b) (a .stream) (c .closed .result) (as-is b) (r .close-reason .ensures) (c .closed .ensures)
-    (l .leaving .result) (l .leaving .ensures)
+    let x = bindingOf (b .binding-of .result) in
+    let q : roleOr (o .role-or .result) x ≡ o .role-or .result = rw (o .role-or .ensures) (own-role x 0) in
+    shuts (a .t1) (size b) (a .stream) (c .after-close .result) (as-is b) (r .close-reason .ensures) (c .after-close .ensures)
+    (n .closing-audience .result) (n .closing-audience .ensures (streamsOf (a .t1)) (a .stream) x (as-is b) q (l .leads .ensures))
 
 pub close-spec : {M : Type 1} → statement M
 close-spec =
@@ -64,8 +75,10 @@ close-spec =
     element-copy-out-s
     binding-of-requires
     close-reason-requires
-    leaving-requires
-    closed-requires
-    mul-t10
+    leads-requires
+    role-or-requires
+    closing-audience-requires
+    after-close-requires
+    mul-t11
     element-set-from-self
     returns)

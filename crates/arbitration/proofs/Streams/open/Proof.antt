@@ -4,7 +4,7 @@ use lib.ListN.{length}
 use borrow.Author.Needs.{needs}
 use Rattle.arbitration.specs.Meaning.{recordsOf}
 use Rattle.rules.proofs.Lists.{length-mapped}
-use Rattle.arbitration.proofs.Stores.{opens}
+use Rattle.arbitration.proofs.EventStores.{opens}
 use Rattle.arbitration.proofs.Streams.open.Statement.{statement}
 use Rattle.arbitration.proofs.Streams.open.Tie as tie
 
@@ -23,8 +23,8 @@ binding-requires c κs = search needs
 open-reason-requires : tie.Need-open-reason-requires
 open-reason-requires c κs = search needs
 
-opened-requires : tie.Need-opened-requires
-opened-requires c κs = search needs
+after-open-requires : tie.Need-after-open-requires
+after-open-requires c κs = search needs
 
 mul-t9 : tie.Need-mul-t9
 mul-t9 c = search needs
@@ -39,7 +39,7 @@ returns c =
     let b = o .before in
     let a = b .before .before .args in
     let n : length (a .t1 .streams) ≡ 32 = search (needs, length-mapped) in
-    opens (a .t1) n (a .stream) (c .opened .result) (b .binding .ensures) (o .open-reason .ensures) (c .opened .ensures)
+    opens (a .t1) n (a .stream) (c .after-open .result) (b .binding .ensures) (o .open-reason .ensures) (c .after-open .ensures)
 
 pub open-spec : {M : Type 1} → statement M
 open-spec =
@@ -50,7 +50,7 @@ open-spec =
     element-copy-out-s
     binding-requires
     open-reason-requires
-    opened-requires
+    after-open-requires
     mul-t9
     element-set-from-self
     returns)

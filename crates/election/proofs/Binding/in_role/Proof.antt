@@ -1,4 +1,4 @@
--- Right because the arm of a bound stream is told its role, and no other arm is bound. Assumes nothing.
+-- Right because the arm of a bound stream is given its role, and no other arm is bound. Assumes nothing.
 use borrow.Author.Needs.{needs}
 use Rattle.election.proofs.Binding.in_role.Statement.{statement}
 use Rattle.election.proofs.Binding.in_role.Tie as tie

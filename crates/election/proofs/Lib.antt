@@ -1,2 +1,0 @@
--- What is proved of notification records.
-pub mod Notices
