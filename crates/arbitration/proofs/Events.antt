@@ -12,7 +12,7 @@ use Rattle.rules.specs.Bytes.{if_then_else_}
 use Rattle.rules.specs.Reason.{first}
 use Rattle.rules.specs.Frame.{Head}
 use Rattle.rules.specs.Streams.{Stream, closed, unbound, bound, Streams, streamAt, isOpen, notifyAll, become, openStream, closeStream}
-use Rattle.rules.specs.Streams.{leaving, closeRecords, arbitrateReason, binds, bindRecords, arbitrate, Outcome}
+use Rattle.rules.specs.Streams.{recordsOnClose, closeRecords, arbitrateReason, binds, bindRecords, arbitrate, Outcome}
 use Rattle.rules.proofs.Tests.{clash}
 use Rattle.election.specs.Meaning.{roleOr}
 use Rattle.leadership.specs.Scanning.{leads}
@@ -65,7 +65,7 @@ module _ (e : Streams) (s : ℕ) where
     unfolding closeRecords
     primary-closes r q t = rw (← h) (go x q t)
       where
-        go : (x : Stream) → roleOr r x ≡ r → leads e s x ≡ true → notifyAll (become e s closed) r ≡ leaving e s x
+        go : (x : Stream) → roleOr r x ≡ r → leads e s x ≡ true → notifyAll (become e s closed) r ≡ recordsOnClose e s x
         go closed q t = clash t refl
         go unbound q t = clash t refl
         go (bound p i) q t = rw (t, q)
@@ -74,7 +74,7 @@ module _ (e : Streams) (s : ℕ) where
     unfolding closeRecords
     other-closes t = rw (← h) (go x t)
       where
-        go : (x : Stream) → leads e s x ≡ false → [] ≡ leaving e s x
+        go : (x : Stream) → leads e s x ≡ false → [] ≡ recordsOnClose e s x
         go closed t = refl
         go unbound t = refl
         go (bound p i) t = rw t

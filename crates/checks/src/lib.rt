@@ -164,7 +164,7 @@ fn key_rules(row: Row, priority: u64, slots: &[u8]) -> bool
     slots_rule(row, slots) && priority_rule(row, priority)
 }
 
-// 17, 18 and 19 of a key. Here it stands without its table: priority 4, slots 140.
+// 17, 18 and 19 of a key. Here it is without its table: priority 4, slots 140.
 pub fn key_reason(row: Row, key: &[u8]) -> u8
     requires { ⌜ length (now key) ≡ 144 ⌝ }
     ensures { λ r. ⌜ ((k : List ℕ) → part 4 144 k ≡ now (key .entry) → r ≡ first (keyOrder (rowOf row) k)) ⌝ }

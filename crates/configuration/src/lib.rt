@@ -1,4 +1,4 @@
-// Whether a configuration is allowed: reason 14, told from the bytes of its rows (document 01, "Who brings a refusal about").
+// Whether a configuration is allowed: reason 14, found from the bytes of its rows (document 01, "Who brings a refusal about").
 ghost use mathlib.Core.Path.{_≡_};
 ghost use mathlib.Core.Bool.{_&&_};
 ghost use Prim.Native.Nat.{_+_, _*_, _≤_, _<_};

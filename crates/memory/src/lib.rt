@@ -2,8 +2,8 @@
 ghost use Rattle.calls.specs.Contract.{Fresh};
 ghost use Rattle.memory.specs.Layout.{Flat};
 use arbitration::Streams;
-use store::Tables;
 use rows::Rows;
+use store::Tables;
 
 // The device that the agent controls.
 #[repr(C)]

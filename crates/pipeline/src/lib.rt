@@ -16,11 +16,11 @@ ghost use Rattle.memory.specs.Layout.{controlIn};
 ghost use Rattle.pipeline.specs.Pipeline.{Refuses, CarriesOut};
 use arbitration::Streams;
 use election::Head;
-use store::Tables;
 use frames::PipelineCommand;
 use memory::Configuration;
 use memory::Device;
 use rows::Rows;
+use store::Tables;
 
 // What a pipeline command leaves.
 pub struct Configured {
@@ -32,11 +32,9 @@ pub struct Configured {
 fn head_reason(here: bool, role: u8, primary: bool) -> u8
     ensures { λ r. ⌜ r ≡ first (addressOrder (not here) role ++ (ltb 0 role, 11) ∷ (not primary, 10) ∷ []) ⌝ }
 {
-    if !here {
-        return 5;
-    }
-    if 7 < role {
-        return 6;
+    let elsewhere = election::address_reason(here, role);
+    if elsewhere != 0 {
+        return elsewhere;
     }
     if 0 < role {
         return 11;
@@ -47,7 +45,7 @@ fn head_reason(here: bool, role: u8, primary: bool) -> u8
     0
 }
 
-// The reason of a CONFIGURE: 5, 6, 11 and 10; then 14, which is told from the bytes of the rows.
+// The reason of a CONFIGURE: 5, 6, 11 and 10; then 14, which is found from the bytes of the rows.
 fn configure_reason(
     device: Device,
     streams: Streams,

@@ -32,7 +32,7 @@ fn named_reason(found: Lookup, role: u8, table: u64) -> u8
     checks::table_reason(found, role)
 }
 
-// Why a READ is refused by the rows: 15 and 16 of a named table and, with only 1, 17 to 19 of its key. The query stands in 149
+// Why a READ is refused by the rows: 15 and 16 of a named table and, with only 1, 17 to 19 of its key. The query is in 149
 // bytes from its table on.
 pub fn query_reason(rows: Rows, role: u8, table: u64, only: u8, query: &[u8]) -> u8
     requires { ⌜ length (now query) ≡ 149 ⌝ }

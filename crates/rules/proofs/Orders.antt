@@ -1,13 +1,13 @@
--- Laws of an order of refusals: one serves where a call is accepted, one where a reason cannot be given, and two where the order is
+-- Laws of an order of refusals: one serves where a call is accepted, one where a reason cannot be given, and some where the order is
 -- taken in two parts.
 -- Assumes nothing.
 use Prim.Native.Nat.{ℕ, _<_}
-use mathlib.Core.Path.{_≡_, refl}
+use mathlib.Core.Path.{_≡_, refl, sym, _∙_}
 use mathlib.Core.Bool.{Bool, true, false, _&&_, not, true≢false}
 use mathlib.Core.List.{List, [], _∷_, _++_}
 use native.Mathlib.Omega.{arith}
 use lib.Dec.{eqb, ltb}
-use borrow.Author.Tests.{eqb-false, ne-eqb, ltb-true, not-true}
+use borrow.Author.Tests.{eqb-false, eq-eqb, ne-eqb, ltb-true, not-true}
 use Rattle.rules.specs.Bytes.{if_then_else_, every}
 use Rattle.rules.specs.Reason.{first}
 use Rattle.rules.proofs.Tests.{and-true}
@@ -76,3 +76,10 @@ first-more (c ∷ cs) ds p =
         ≡ (if eqb (if b then c .1 else first cs) 0 then first ds else if b then c .1 else first cs)
     go true pos ih = rw (ne-eqb (c .1) 0 (λ z. let w : _<_ 0 (c .1) = pos in omega arith))
     go false pos ih = ih
+
+-- an order in two parts: the reason of the first part, where it has one, and otherwise that of the second
+pub first-found : (cs ds : List (Bool × ℕ)) {r : ℕ} → positive cs ≡ true → r ≡ first cs → (r ≡ 0 → ⊥) → r ≡ first (cs ++ ds)
+first-found cs ds p e n = e ∙ sym (first-more cs ds p ∙ (rw (ne-eqb (first cs) 0 (λ z. n (e ∙ z)))))
+
+pub first-passed : (cs ds : List (Bool × ℕ)) {r m : ℕ} → positive cs ≡ true → r ≡ first cs → r ≡ 0 → m ≡ first ds → m ≡ first (cs ++ ds)
+first-passed cs ds p e z q = q ∙ sym (first-more cs ds p ∙ (rw (eq-eqb (first cs) 0 (sym e ∙ z))))

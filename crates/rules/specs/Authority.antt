@@ -89,7 +89,7 @@ Gives role id (onTables (READ q)) = ⊥
 -- The law is the claim about lists of calls, `Demand3` (crate `calls`, specs/Claim.antt). This is a part of its proof, stated of the
 -- rules alone: of a call c after the calls `before`, from a fresh agent and with a store of `room` bytes.
 pub record Authority (room device : ℕ) (before : List Call) (c : Call) : Type 0 where
-  -- an accepted CONFIGURE, and an accepted WRITE, which every update that takes effect stands in, gave the live primary's id
+  -- an accepted CONFIGURE, and an accepted WRITE, which holds every update that takes effect, gave the live primary's id
   pub given : (role id : ℕ) → Gives role id (commandOf room c)
       → accepted (stateSeen (historyOf room device before)) (commandOf room c) ≡ true
       → Held role id (eventsOf room device before)

@@ -7,7 +7,7 @@ use Prim.Native.Nat.{ℕ}
 use Rattle.rules.specs.Streams.{primary, markOf}
 use Rattle.rules.specs.Key.{exact, lpm, range}
 use Rattle.rules.specs.Answer.{Reply}
-use Rattle.rules.specs.Sample.{ones64, over64, by, byLong, open!, close!, arbitrate!, write!, readAll!, row, val1, val2, val3, val4, none17, key, entry, item, insert!, leading, two, configured, after, answerTo, bytes, toldLong, told, done, InTurn}
+use Rattle.rules.specs.Sample.{ones64, over64, by, byLong, open!, close!, arbitrate!, write!, readAll!, row, val1, val2, val3, val4, none17, key, entry, item, insert!, leading, two, configured, after, answerTo, bytes, noticeLong, notice, done, InTurn}
 
 -- a lone primary with 5 has sent 4
 abbrev lowered : List (List ℕ)
@@ -32,21 +32,21 @@ pub record BenchCases : Type 0 where
   -- id 1 followed by 64 zero bits exceeds 64 one bits: sent after them it makes its stream primary, and all hear it as the mark;
   -- sent after it they are accepted, and make no primary
   pub p1 : InTurn (open! 1 ∷ open! 2 ∷ [])
-      ((arbitrate! 1 (byLong ones64), bytes 0 0 1 (toldLong 1 0 0 ones64 ∷ []))
-      ∷ (arbitrate! 2 (byLong over64), bytes 0 0 2 (toldLong 1 0 6 over64 ∷ toldLong 2 0 0 over64 ∷ []))
+      ((arbitrate! 1 (byLong ones64), bytes 0 0 1 (noticeLong 1 0 0 ones64 ∷ []))
+      ∷ (arbitrate! 2 (byLong over64), bytes 0 0 2 (noticeLong 1 0 6 over64 ∷ noticeLong 2 0 0 over64 ∷ []))
       ∷ [])
       × InTurn (open! 1 ∷ open! 2 ∷ [])
-      ((arbitrate! 2 (byLong over64), bytes 0 0 1 (toldLong 2 0 0 over64 ∷ []))
-      ∷ (arbitrate! 1 (byLong ones64), bytes 0 0 1 (toldLong 1 0 6 over64 ∷ []))
+      ((arbitrate! 2 (byLong over64), bytes 0 0 1 (noticeLong 2 0 0 over64 ∷ []))
+      ∷ (arbitrate! 1 (byLong ones64), bytes 0 0 1 (noticeLong 1 0 6 over64 ∷ []))
       ∷ [])
   -- stream 1 has id 5, stream 2 id 3; 1 closes: 2 hears status 5, id 5
-  pub p2 : answerTo two (close! 1) ≡ bytes 0 0 1 (told 2 0 5 5 ∷ [])
+  pub p2 : answerTo two (close! 1) ≡ bytes 0 0 1 (notice 2 0 5 5 ∷ [])
   -- 2 sends 4: accepted, status 5
-  pub p3 : answerTo (two ++ (close! 1 ∷ [])) (arbitrate! 2 (by 0 4)) ≡ bytes 0 0 1 (told 2 0 5 5 ∷ [])
+  pub p3 : answerTo (two ++ (close! 1 ∷ [])) (arbitrate! 2 (by 0 4)) ≡ bytes 0 0 1 (notice 2 0 5 5 ∷ [])
   -- 2 sends 5: primary
-  pub p4 : answerTo (two ++ (close! 1 ∷ arbitrate! 2 (by 0 4) ∷ [])) (arbitrate! 2 (by 0 5)) ≡ bytes 0 0 1 (told 2 0 0 5 ∷ [])
+  pub p4 : answerTo (two ++ (close! 1 ∷ arbitrate! 2 (by 0 4) ∷ [])) (arbitrate! 2 (by 0 5)) ≡ bytes 0 0 1 (notice 2 0 0 5 ∷ [])
   -- a lone primary with 5 sends 4: no primary, mark 5; WRITE with either id is 10
-  pub p5 : (answerTo leading (arbitrate! 1 (by 0 4)) ≡ bytes 0 0 1 (told 1 0 5 5 ∷ []))
+  pub p5 : (answerTo leading (arbitrate! 1 (by 0 4)) ≡ bytes 0 0 1 (notice 1 0 5 5 ∷ []))
       × (primary (after lowered .control .streams) 0 ≡ none) × (markOf (after lowered .control .streams) 0 ≡ 5)
       × (answerTo lowered (write! (by 0 4) 0 []) ≡ bytes 10 7 0 []) × (answerTo lowered (write! (by 0 5) 0 []) ≡ bytes 10 7 0 [])
   -- width 9: 01FF fits, 0200 is 18, 0001FF is stored as 01FF

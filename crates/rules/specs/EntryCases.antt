@@ -8,7 +8,7 @@ use Rattle.rules.specs.Bytes.{concat}
 use Rattle.rules.specs.Key.{omitted, exact, lpm, ternary, range, optional}
 use Rattle.rules.specs.Answer.{Reply}
 use Rattle.rules.specs.Call.{reply}
-use Rattle.rules.specs.Sample.{table#, ones64, over64, ones128, by, open!, close!, arbitrate!, configure!, write!, readFrom, readAll!, readOne, field, action, rowWith, row, sizeless, val, val1, val2, val3, none17, slot, keyWith, key, entryWith, entry, item, insert!, modify!, delete!, leading, configured, commandIn, holding, bytes, ok, refused, told, done, Each, InTurn, batch!, all}
+use Rattle.rules.specs.Sample.{table#, ones64, over64, ones128, by, open!, close!, arbitrate!, configure!, write!, readFrom, readAll!, readOne, field, action, rowWith, row, sizeless, val, val1, val2, val3, none17, slot, keyWith, key, entryWith, entry, item, insert!, modify!, delete!, leading, configured, commandIn, holding, bytes, ok, refused, notice, done, Each, InTurn, batch!, all}
 
 -- ---- configuration and entries
 
@@ -134,8 +134,8 @@ pub record Entries : Type 0 where
       ∷ [])
   -- Role 7 is the last: it has a primary and a mark, and writes and reads the tables that it owns. Role 8 is 6.
   pub last-role : InTurn (configured (row 1 7 4 exact 8 ∷ row 2 6 4 exact 8 ∷ []) ++ map open! (2 ∷ 3 ∷ 4 ∷ []))
-      ((arbitrate! 2 (by 7 6), bytes 0 0 1 (told 2 7 0 6 ∷ []))
-      ∷ (arbitrate! 3 (by 7 4), bytes 0 0 1 (told 3 7 6 6 ∷ []))
+      ((arbitrate! 2 (by 7 6), bytes 0 0 1 (notice 2 7 0 6 ∷ []))
+      ∷ (arbitrate! 3 (by 7 4), bytes 0 0 1 (notice 3 7 6 6 ∷ []))
       ∷ (arbitrate! 4 (by 8 6), refused 6 5)
       ∷ (write! (by 7 6) 0 (insert! (item 1 7 1) ∷ insert! (item 2 7 1) ∷ []), bytes 23 2 2 (done ∷ (16 ∷ 7 ∷ []) ∷ []))
       ∷ (write! (by 8 6) 0 [], refused 6 5)
@@ -145,7 +145,7 @@ pub record Entries : Type 0 where
       ∷ (readFrom 8 (replicate 4 0), refused 6 5)
       ∷ (configure! (by 7 6) (row 1 7 4 exact 8 ∷ []), refused 11 7)
       ∷ (configure! (by 8 6) (row 1 7 4 exact 8 ∷ []), refused 6 5)
-      ∷ (close! 2, bytes 0 0 1 (told 3 7 5 6 ∷ []))
+      ∷ (close! 2, bytes 0 0 1 (notice 3 7 5 6 ∷ []))
       ∷ [])
   -- an absent key gives none
   pub one : Each stocked

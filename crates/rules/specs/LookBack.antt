@@ -1,5 +1,5 @@
 -- Looking back over a list of calls (document 01, "Looking back"): which entries are present after it, and what each call
--- answers, told from what took effect and not from what an agent stores.
+-- answers, found from what took effect and not from what an agent stores.
 -- Shared with the rules: the orders of refusals, what calls make of streams, marks and rows, and `judge` of one update. Defined
 -- here, from the effects alone: the entries present, a batch, the pairs of a WRITE, the records of a READ. Assumes nothing.
 use mathlib.Core.Bool.{Bool, true, false, _&&_, _||_, not}

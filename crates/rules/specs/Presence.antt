@@ -66,12 +66,12 @@ pub record Before (effects : List Effect) (k j : List ℕ) : Type 0 where
   pub none-later : some-of (insertsKey k) rest ≡ false
   pub other : Since (insertsKey j) (insertsKey j) rest
 
--- x stands in a list
+-- x is in a list
 abbrev pub In : List ℕ → List (List ℕ) → Type 0
 In x [] = ⊥
 In x (y ∷ l) = (x ≡ y) ⊎ In x l
 
--- every entry of a list stands in the relation R to every one after it
+-- every entry of a list has the relation R to every one after it
 abbrev pub Ordered : (List ℕ → List ℕ → Type 0) → List (List ℕ) → Type 0
 Ordered R [] = Unit {0}
 Ordered R (x ∷ l) = ((y : List ℕ) → In y l → R x y) × Ordered R l

@@ -5,7 +5,7 @@ use mathlib.Core.List.{List, [], _∷_, _++_, map}
 use Prim.Native.Nat.{ℕ}
 use lib.ListN.{replicate}
 use Rattle.rules.specs.Answer.{Reply}
-use Rattle.rules.specs.Sample.{by, open!, close!, arbitrate!, write!, readAll!, item, insert!, modify!, delete!, configured, bytes, ok, refused, told, done, rolledBack, Each, InTurn, batch!, atomic!, all}
+use Rattle.rules.specs.Sample.{by, open!, close!, arbitrate!, write!, readAll!, item, insert!, modify!, delete!, configured, bytes, ok, refused, notice, done, rolledBack, Each, InTurn, batch!, atomic!, all}
 use Rattle.rules.specs.EntryCases.{tables, stocked, stock}
 
 -- an update that would be 17
@@ -74,8 +74,8 @@ pub record Rollbacks : Type 0 where
   -- The five events: a new primary takes over, lowers its id and disconnects. The deposed one's batch, sent again, is refused as a
   -- whole, with atomicity 1 as with 0.
   pub resent : InTurn (stocked ++ (open! 2 ∷ []))
-      ((arbitrate! 2 (by 0 6), bytes 0 0 2 (told 1 0 6 6 ∷ told 2 0 0 6 ∷ []))
-      ∷ (arbitrate! 2 (by 0 4), bytes 0 0 2 (told 1 0 5 6 ∷ told 2 0 5 6 ∷ []))
+      ((arbitrate! 2 (by 0 6), bytes 0 0 2 (notice 1 0 6 6 ∷ notice 2 0 0 6 ∷ []))
+      ∷ (arbitrate! 2 (by 0 4), bytes 0 0 2 (notice 1 0 5 6 ∷ notice 2 0 5 6 ∷ []))
       ∷ (close! 2, ok)
       ∷ (write! (by 0 5) 1 move, refused 10 7)
       ∷ (write! (by 0 5) 0 move, refused 10 7)

@@ -236,11 +236,11 @@ abbrev pub refused : ℕ → ℕ → Reply
 refused reason code = bytes reason code 0 []
 
 -- the notification of a stream: role, status, and the mark as a set id, of 16 bytes or below 256
-abbrev pub toldLong : ℕ → ℕ → ℕ → List ℕ → List ℕ
-toldLong s role status mark = s ∷ role ∷ status ∷ 1 ∷ mark
+abbrev pub noticeLong : ℕ → ℕ → ℕ → List ℕ → List ℕ
+noticeLong s role status mark = s ∷ role ∷ status ∷ 1 ∷ mark
 
-abbrev pub told : ℕ → ℕ → ℕ → ℕ → List ℕ
-told s role status mark = toldLong s role status (id16 mark)
+abbrev pub notice : ℕ → ℕ → ℕ → ℕ → List ℕ
+notice s role status mark = noticeLong s role status (id16 mark)
 
 -- the pair of an update that took effect
 abbrev pub done : List ℕ

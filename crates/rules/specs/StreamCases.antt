@@ -6,7 +6,7 @@ use lib.ListN.{length, take, set, replicate}
 use Rattle.rules.specs.Bytes.{concat}
 use Rattle.rules.specs.Key.{exact}
 use Rattle.rules.specs.Answer.{Reply}
-use Rattle.rules.specs.Sample.{table#, over64, ones128, by, unset, headBy, byLong, open!, close!, arbitrate!, configure!, write!, read!, readAll!, row, val1, none17, key, item, insert!, delete!, leading, two, configured, bytes, ok, refused, toldLong, told, done, Each, InTurn, all}
+use Rattle.rules.specs.Sample.{table#, over64, ones128, by, unset, headBy, byLong, open!, close!, arbitrate!, configure!, write!, read!, readAll!, row, val1, none17, key, item, insert!, delete!, leading, two, configured, bytes, ok, refused, noticeLong, notice, done, Each, InTurn, all}
 
 -- ---- frames, and 1
 
@@ -14,7 +14,7 @@ use Rattle.rules.specs.Sample.{table#, over64, ones128, by, unset, headB
 abbrev session : List (List ℕ × Reply)
 session =
     (open! 1, ok)
-    ∷ (arbitrate! 1 (byLong ones128), bytes 0 0 1 (toldLong 1 0 0 ones128 ∷ []))
+    ∷ (arbitrate! 1 (byLong ones128), bytes 0 0 1 (noticeLong 1 0 0 ones128 ∷ []))
     ∷ (configure! (byLong ones128) (row 1 0 4 exact 8 ∷ []), ok)
     ∷ (write! (byLong ones128) 0 (insert! (item 1 7 1) ∷ []), bytes 0 0 1 (done ∷ []))
     ∷ (readAll!, bytes 0 0 1 (item 1 7 1 ∷ []))
@@ -87,7 +87,7 @@ pub record Elections : Type 0 where
   -- the input of `play` in document 01
   pub play : InTurn []
       ((open! 3, ok)
-      ∷ (arbitrate! 3 (by 0 5), bytes 0 0 1 (told 3 0 0 5 ∷ []))
+      ∷ (arbitrate! 3 (by 0 5), bytes 0 0 1 (notice 3 0 0 5 ∷ []))
       ∷ (close! 3, ok)
       ∷ (close! 3, refused 4 5)
       ∷ [])
@@ -97,18 +97,18 @@ pub record Elections : Type 0 where
       ∷ (open! 0, refused 3 9)
       ∷ (open! 31, ok)
       ∷ (open! 31, refused 3 9)
-      ∷ (arbitrate! 31 (by 0 5), bytes 0 0 1 (told 31 0 0 5 ∷ []))
-      ∷ (arbitrate! 0 (by 0 6), bytes 0 0 2 (told 0 0 0 6 ∷ told 31 0 6 6 ∷ []))
-      ∷ (close! 0, bytes 0 0 1 (told 31 0 5 6 ∷ []))
+      ∷ (arbitrate! 31 (by 0 5), bytes 0 0 1 (notice 31 0 0 5 ∷ []))
+      ∷ (arbitrate! 0 (by 0 6), bytes 0 0 2 (notice 0 0 0 6 ∷ notice 31 0 6 6 ∷ []))
+      ∷ (close! 0, bytes 0 0 1 (notice 31 0 5 6 ∷ []))
       ∷ (close! 0, refused 4 5)
-      ∷ (arbitrate! 31 (by 0 7), bytes 0 0 1 (told 31 0 0 7 ∷ []))
+      ∷ (arbitrate! 31 (by 0 7), bytes 0 0 1 (notice 31 0 0 7 ∷ []))
       ∷ (close! 31, ok)
       ∷ (close! 31, refused 4 5)
       ∷ [])
   -- OPEN of the primary's stream is refused, and leaves it the primary. Closed and opened again it holds no id, and closes unheard.
   pub opened-again : InTurn two
       ((open! 1, refused 3 9)
-      ∷ (close! 1, bytes 0 0 1 (told 2 0 5 5 ∷ []))
+      ∷ (close! 1, bytes 0 0 1 (notice 2 0 5 5 ∷ []))
       ∷ (open! 1, ok)
       ∷ (write! (by 0 5) 0 [], refused 10 7)
       ∷ (close! 1, ok)
@@ -117,26 +117,26 @@ pub record Elections : Type 0 where
   pub no-mark : Each (open! 1 ∷ []) ((arbitrate! 1 (unset 0), bytes 0 0 1 ((1 ∷ 0 ∷ 5 ∷ 0 ∷ replicate 16 0) ∷ [])) ∷ [])
   -- Ids are 128-bit numbers: those that differ in one half only are two ids, and the larger one is primary.
   pub long-ids : InTurn (open! 1 ∷ open! 2 ∷ open! 3 ∷ [])
-      ((arbitrate! 1 (by 0 1), bytes 0 0 1 (told 1 0 0 1 ∷ []))
-      ∷ (arbitrate! 2 (byLong over64′), bytes 0 0 2 (toldLong 1 0 6 over64′ ∷ toldLong 2 0 0 over64′ ∷ []))
-      ∷ (arbitrate! 3 (byLong over64), bytes 0 0 1 (toldLong 3 0 6 over64′ ∷ []))
-      ∷ (arbitrate! 1 (byLong ones128), bytes 0 0 3 (toldLong 1 0 0 ones128 ∷ toldLong 2 0 6 ones128 ∷ toldLong 3 0 6 ones128 ∷ []))
+      ((arbitrate! 1 (by 0 1), bytes 0 0 1 (notice 1 0 0 1 ∷ []))
+      ∷ (arbitrate! 2 (byLong over64′), bytes 0 0 2 (noticeLong 1 0 6 over64′ ∷ noticeLong 2 0 0 over64′ ∷ []))
+      ∷ (arbitrate! 3 (byLong over64), bytes 0 0 1 (noticeLong 3 0 6 over64′ ∷ []))
+      ∷ (arbitrate! 1 (byLong ones128), bytes 0 0 3 (noticeLong 1 0 0 ones128 ∷ noticeLong 2 0 6 ones128 ∷ noticeLong 3 0 6 ones128 ∷ []))
       ∷ (arbitrate! 3 (byLong over64′), refused 8 3)
       ∷ [])
   -- A backup takes over and then raises its id: all are notified, by rising stream. It repeats its id, and is notified alone though a
   -- backup is bound. The backup lowers its id and then gives none, and is notified alone.
   pub changes : InTurn two
-      ((arbitrate! 2 (by 0 6), bytes 0 0 2 (told 1 0 6 6 ∷ told 2 0 0 6 ∷ []))
-      ∷ (arbitrate! 2 (by 0 7), bytes 0 0 2 (told 1 0 6 7 ∷ told 2 0 0 7 ∷ []))
-      ∷ (arbitrate! 2 (by 0 7), bytes 0 0 1 (told 2 0 0 7 ∷ []))
-      ∷ (arbitrate! 1 (by 0 4), bytes 0 0 1 (told 1 0 6 7 ∷ []))
-      ∷ (arbitrate! 1 (unset 0), bytes 0 0 1 (told 1 0 6 7 ∷ []))
+      ((arbitrate! 2 (by 0 6), bytes 0 0 2 (notice 1 0 6 6 ∷ notice 2 0 0 6 ∷ []))
+      ∷ (arbitrate! 2 (by 0 7), bytes 0 0 2 (notice 1 0 6 7 ∷ notice 2 0 0 7 ∷ []))
+      ∷ (arbitrate! 2 (by 0 7), bytes 0 0 1 (notice 2 0 0 7 ∷ []))
+      ∷ (arbitrate! 1 (by 0 4), bytes 0 0 1 (notice 1 0 6 7 ∷ []))
+      ∷ (arbitrate! 1 (unset 0), bytes 0 0 1 (notice 1 0 6 7 ∷ []))
       ∷ [])
   -- a closing backup notifies nobody
   pub backup-closes : Each two ((close! 2, ok) ∷ [])
   -- Roles are apart: in another role the same id is no clash, and nobody there is notified that the primary of role 0 closed.
   pub roles : InTurn (two ++ (open! 3 ∷ []))
-      ((arbitrate! 3 (by 1 5), bytes 0 0 1 (told 3 1 0 5 ∷ [])) ∷ (close! 1, bytes 0 0 1 (told 2 0 5 5 ∷ [])) ∷ [])
+      ((arbitrate! 3 (by 1 5), bytes 0 0 1 (notice 3 1 0 5 ∷ [])) ∷ (close! 1, bytes 0 0 1 (notice 2 0 5 5 ∷ [])) ∷ [])
   -- A refused ARBITRATE closes the stream. 5 and 6: another ARBITRATE of it is 4, and it may be opened again.
   pub unbound-refused : InTurn (open! 3 ∷ [])
       ((arbitrate! 3 (headBy 2 0 1 5), refused 5 5)
@@ -145,43 +145,43 @@ pub record Elections : Type 0 where
       ∷ (arbitrate! 3 (by 8 5), refused 6 5)
       ∷ (arbitrate! 3 (by 0 5), refused 4 5)
       ∷ (open! 3, ok)
-      ∷ (arbitrate! 3 (by 0 5), bytes 0 0 1 (told 3 0 0 5 ∷ []))
+      ∷ (arbitrate! 3 (by 0 5), bytes 0 0 1 (notice 3 0 0 5 ∷ []))
       ∷ [])
   -- 7 and 8, with the notifications of a CLOSE: those left in the role hear that the primary is gone. 9 is `ninth`.
-  pub primary-refused : InTurn two ((arbitrate! 1 (by 1 5), bytes 7 9 1 (told 2 0 5 5 ∷ [])) ∷ (close! 1, refused 4 5) ∷ [])
-  pub primary-clashes : InTurn two ((arbitrate! 1 (by 0 3), bytes 8 3 1 (told 2 0 5 5 ∷ [])) ∷ (close! 1, refused 4 5) ∷ [])
+  pub primary-refused : InTurn two ((arbitrate! 1 (by 1 5), bytes 7 9 1 (notice 2 0 5 5 ∷ [])) ∷ (close! 1, refused 4 5) ∷ [])
+  pub primary-clashes : InTurn two ((arbitrate! 1 (by 0 3), bytes 8 3 1 (notice 2 0 5 5 ∷ [])) ∷ (close! 1, refused 4 5) ∷ [])
   pub backup-clashes : InTurn two ((arbitrate! 2 (by 0 5), refused 8 3) ∷ (close! 2, refused 4 5) ∷ [])
   -- A refused id does not raise the mark: after a ninth stream with id 100 the primary repeats 8. Another role has room.
   pub ninth : InTurn (eight ++ (open! 9 ∷ []))
       ((arbitrate! 9 (by 0 100), refused 9 8)
-      ∷ (arbitrate! 8 (by 0 8), bytes 0 0 1 (told 8 0 0 8 ∷ []))
+      ∷ (arbitrate! 8 (by 0 8), bytes 0 0 1 (notice 8 0 0 8 ∷ []))
       ∷ (open! 9, ok)
-      ∷ (arbitrate! 9 (by 1 1), bytes 0 0 1 (told 9 1 0 1 ∷ []))
+      ∷ (arbitrate! 9 (by 1 1), bytes 0 0 1 (notice 9 1 0 1 ∷ []))
       ∷ [])
   -- nor does an id from another device, or one that names another role: neither that role's mark nor the stream's own
   pub refused-ids : InTurn (two ++ (open! 3 ∷ []))
       ((arbitrate! 3 (headBy 2 0 1 100), refused 5 5)
       ∷ (arbitrate! 2 (by 1 100), refused 7 9)
-      ∷ (arbitrate! 1 (by 0 5), bytes 0 0 1 (told 1 0 0 5 ∷ []))
+      ∷ (arbitrate! 1 (by 0 5), bytes 0 0 1 (notice 1 0 0 5 ∷ []))
       ∷ (open! 2, ok)
-      ∷ (arbitrate! 2 (by 1 1), bytes 0 0 1 (told 2 1 0 1 ∷ []))
+      ∷ (arbitrate! 2 (by 1 1), bytes 0 0 1 (notice 2 1 0 1 ∷ []))
       ∷ [])
   -- The mark does not fall when the primary lowers its id and closes: 4 makes no primary then, and 5 does.
   pub mark-stays : InTurn leading
-      ((arbitrate! 1 (by 0 4), bytes 0 0 1 (told 1 0 5 5 ∷ []))
+      ((arbitrate! 1 (by 0 4), bytes 0 0 1 (notice 1 0 5 5 ∷ []))
       ∷ (close! 1, ok)
       ∷ (open! 2, ok)
-      ∷ (arbitrate! 2 (by 0 4), bytes 0 0 1 (told 2 0 5 5 ∷ []))
-      ∷ (arbitrate! 2 (by 0 5), bytes 0 0 1 (told 2 0 0 5 ∷ []))
+      ∷ (arbitrate! 2 (by 0 4), bytes 0 0 1 (notice 2 0 5 5 ∷ []))
+      ∷ (arbitrate! 2 (by 0 5), bytes 0 0 1 (notice 2 0 0 5 ∷ []))
       ∷ [])
   -- Stream 1 writes with 5. Stream 2 takes over with 6, deletes the entry, lowers its id to 4 and closes. Stream 1 sends its
   -- batch again: refused with 10, and the table stays empty.
   pub late-batch : InTurn (configured (row 1 0 4 exact 8 ∷ []))
       ((write! (by 0 5) 0 (insert! (item 1 7 1) ∷ []), bytes 0 0 1 (done ∷ []))
       ∷ (open! 2, ok)
-      ∷ (arbitrate! 2 (by 0 6), bytes 0 0 2 (told 1 0 6 6 ∷ told 2 0 0 6 ∷ []))
+      ∷ (arbitrate! 2 (by 0 6), bytes 0 0 2 (notice 1 0 6 6 ∷ notice 2 0 0 6 ∷ []))
       ∷ (write! (by 0 6) 0 (delete! (item 1 7 1) ∷ []), bytes 0 0 1 (done ∷ []))
-      ∷ (arbitrate! 2 (by 0 4), bytes 0 0 2 (told 1 0 5 6 ∷ told 2 0 5 6 ∷ []))
+      ∷ (arbitrate! 2 (by 0 4), bytes 0 0 2 (notice 1 0 5 6 ∷ notice 2 0 5 6 ∷ []))
       ∷ (close! 2, ok)
       ∷ (write! (by 0 5) 0 (insert! (item 1 7 1) ∷ []), refused 10 7)
       ∷ (readAll!, ok)

@@ -1,4 +1,4 @@
--- The entries that a store holds, by what the record knows of it, and what a change leaves of it. Entries stand from the first byte
+-- The entries that a store holds, by what the record knows of it, and what a change leaves of it. Entries are from the first byte
 -- in order of insertion (document 01, "Frames"). Assumes nothing.
 use mathlib.Core.Path.{_≡_}
 use mathlib.Core.List.{List, [], _∷_, _++_}

@@ -10,7 +10,7 @@ ghost use Rattle.buffers.specs.Splice.{splice};
 ghost use Rattle.store.specs.Store.{entriesIn, tablesIn, InStore, place, placeOf, InRange, without, insertedAt, changedAt, Holds};
 use numbers::integer;
 
-// What the record knows of a store: how many entries stand in it.
+// What the record knows of a store: how many entries are in it.
 #[repr(C)]
 pub struct Tables {
     pub count: usize,

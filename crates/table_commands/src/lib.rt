@@ -14,10 +14,10 @@ ghost use Rattle.frames.specs.Meaning.{tableRead, OperandsThere};
 ghost use Rattle.memory.specs.Layout.{memory, result};
 ghost use Rattle.memory.specs.Handles.{Handles, withTables};
 use election::Head;
-use store::Tables;
 use frames::Query;
 use frames::TableCommand;
 use memory::Agent;
+use store::Tables;
 
 // What a table command leaves: the tables, and the reason.
 pub struct TableOutcome {
@@ -31,11 +31,9 @@ pub struct TableOutcome {
 fn write_reason(here: bool, role: u8, primary: bool, unconfigured: bool, atomicity: u8) -> u8
     ensures { λ r. ⌜ r ≡ first (addressOrder (not here) role ++ (not primary, 10) ∷ (unconfigured, 12) ∷ (ltb 1 atomicity, 13) ∷ []) ⌝ }
 {
-    if !here {
-        return 5;
-    }
-    if 7 < role {
-        return 6;
+    let elsewhere = election::address_reason(here, role);
+    if elsewhere != 0 {
+        return elsewhere;
     }
     if !primary {
         return 10;
@@ -109,11 +107,9 @@ fn write(
 fn read_reason(here: bool, role: u8, unconfigured: bool) -> u8
     ensures { λ r. ⌜ r ≡ first (addressOrder (not here) role ++ (unconfigured, 12) ∷ []) ⌝ }
 {
-    if !here {
-        return 5;
-    }
-    if 7 < role {
-        return 6;
+    let elsewhere = election::address_reason(here, role);
+    if elsewhere != 0 {
+        return elsewhere;
     }
     if unconfigured {
         return 12;

@@ -23,15 +23,18 @@ part-read-start c = omega (arith, c .before .pre .1)
 part-read-end : tie.Need-part-read-end
 part-read-end c = search needs
 
+none-requires : tie.Need-none-requires
+none-requires c κs = search needs
+
 read-requires : tie.Need-read-requires
 read-requires c κs = let s = c .before .before .pre in (s .0, simp (length-take, length-drop) (omega (arith, s .1)))
 
 returns : tie.Need-returns
 returns c =
-    let a = c .before .before .before .args in
+    let a = c .before .before .before .before .args in
     let rows = parts (a .command .count) 53 (drop 28 (now (a .frame))) in
-    let read = c .read .ensures ∙ ap (λ (l : List ℕ). rowsIn (parts (a .command .count) 53 l)) (rest-all 28 (now (a .frame))) in
-    rows-configured (headOf (a .command .head)) rows read
+    let read = c .before .read .ensures ∙ ap (λ (l : List ℕ). rowsIn (parts (a .command .count) 53 l)) (rest-all 28 (now (a .frame))) in
+    rows-configured (headOf (a .command .head)) rows read (c .none .ensures)
 
 pub carry-out-spec : {M : Type 1} → statement M
-carry-out-spec = tie.close (tie.spec sub-read part-read-start part-read-end read-requires returns)
+carry-out-spec = tie.close (tie.spec sub-read part-read-start part-read-end read-requires none-requires returns)

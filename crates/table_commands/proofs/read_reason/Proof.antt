@@ -1,24 +1,35 @@
--- Right because the tests are made in the order of document 01. Assumes nothing.
-use borrow.Author.Tests.{lt-ltb, le-ltb}
+-- Right because 5 and 6 come first, and the later tests are made in the order of document 01. Assumes nothing.
+use mathlib.Core.Bool.{not}
+use mathlib.Core.List.{[], _∷_}
 use Rattle.rules.specs.Reason.{first}
+use Rattle.rules.specs.Streams.{addressOrder}
+use Rattle.rules.proofs.Orders.{first-found, first-passed}
+use mathlib.Core.Path.{refl}
+use borrow.Author.Needs.{needs}
 use Rattle.table_commands.proofs.read_reason.Statement.{statement}
 use Rattle.table_commands.proofs.read_reason.Tie as tie
 
+address-reason-requires : tie.Need-address-reason-requires
+address-reason-requires c κs = search needs
+
 returns : tie.Need-returns
-unfolding first
-returns c = rw (c .if1 .taken)
+returns c =
+    let a = c .before .before .args in
+    first-found (addressOrder (not (a .here)) (a .role)) ((a .unconfigured, 12) ∷ []) refl (c .before .address-reason .ensures) (c .if1 .taken)
 
 returns-2 : tie.Need-returns-2
 unfolding first
-returns-2 c = rw (c .before .if1 .left, lt-ltb _ _ (c .if2 .taken))
+returns-2 c =
+    let a = c .before .before .before .args in
+    first-passed (addressOrder (not (a .here)) (a .role)) ((a .unconfigured, 12) ∷ []) refl (c .before .before .address-reason .ensures) (c .before .if1 .left)
+    (rw (c .if2 .taken))
 
 returns-3 : tie.Need-returns-3
 unfolding first
-returns-3 c = rw (c .before .before .if1 .left, le-ltb _ _ (c .before .if2 .left), c .if3 .taken)
-
-returns-4 : tie.Need-returns-4
-unfolding first
-returns-4 c = rw (c .before .before .if1 .left, le-ltb _ _ (c .before .if2 .left), c .if3 .left)
+returns-3 c =
+    let a = c .before .before .before .args in
+    first-passed (addressOrder (not (a .here)) (a .role)) ((a .unconfigured, 12) ∷ []) refl (c .before .before .address-reason .ensures) (c .before .if1 .left)
+    (rw (c .if2 .left))
 
 pub read-reason-spec : {M : Type 1} → statement M
-read-reason-spec = tie.close (tie.spec returns returns-2 returns-3 returns-4)
+read-reason-spec = tie.close (tie.spec address-reason-requires returns returns-2 returns-3)

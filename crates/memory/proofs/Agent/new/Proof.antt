@@ -1,6 +1,4 @@
 -- Right because there are no streams, rows or entries. Assumes nothing.
-use mathlib.Core.Path.{refl}
-use Rattle.rules.specs.Bytes.{parts}
 use Rattle.rules.specs.Call.{fresh}
 use borrow.Author.Needs.{needs}
 use Rattle.memory.proofs.Agent.new.Statement.{statement}
@@ -12,9 +10,12 @@ fresh-requires c κs = search needs
 fresh-requires-2 : tie.Need-fresh-requires-2
 fresh-requires-2 c κs = search needs
 
+none-requires : tie.Need-none-requires
+none-requires c κs = search needs
+
 returns : tie.Need-returns
-unfolding fresh parts
-returns c store = record { control = rw (c .before .fresh .ensures, c .fresh2 .ensures); tables = refl }
+unfolding fresh
+returns c store = record { control = rw (c .before .before .fresh .ensures, c .before .fresh2 .ensures); tables = c .none .ensures store }
 
 pub new-spec : {M : Type 1} → statement M
-new-spec = tie.close (tie.spec fresh-requires fresh-requires-2 returns)
+new-spec = tie.close (tie.spec fresh-requires fresh-requires-2 none-requires returns)
