@@ -11,7 +11,7 @@
  *    bytes of its store. The host may look at the record. With any other record or store a call still ends and keeps within what
  *    it was lent; what it answers is then open.
  *
- * The record's layout is that of crates/agent, `Agent`; c/tests/layout.c holds this file to it.
+ * The record's layout is that of crates/memory, `Agent`, its parts written out; c/tests/layout.c holds this file to it.
  */
 #ifndef SAVORYLATCH_H
 #define SAVORYLATCH_H
