@@ -95,8 +95,9 @@ fn write(
     );
     let reason = head_reason(done.failed);
     answers::write_head(reason, n, answer);
+    let left = done.tables;
     TableOutcome {
-        tables: done.tables,
+        tables: left,
         reason,
     }
 }

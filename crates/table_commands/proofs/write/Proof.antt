@@ -92,11 +92,11 @@ same-length-3 c = search needs
 
 returns-2 : tie.Need-returns-2
 returns-2 c =
-    let a = c .before .before .before .before .before .before .before .before .before .before .before .before .before .before .before .before .before .before .before .before .before .before .before .before .before .args in
-    let p = c .before .before .before .before .before .before .before .before .before .before .before .before .before .before .before .before .before .before .before .before .before .before .before .before .before .pre in
-    let b = c .before .before .before .before .before .before .before .before .before .batch in
-    let g = c .before .before .before .before .head-reason in
-    let h = c .before .before .write-head2 in
+    let a = c .before .before .before .before .before .before .before .before .before .before .before .before .before .before .before .before .before .before .before .before .before .before .before .before .before .before .args in
+    let p = c .before .before .before .before .before .before .before .before .before .before .before .before .before .before .before .before .before .before .before .before .before .before .before .before .before .before .pre in
+    let b = c .before .before .before .before .before .before .before .before .before .before .batch in
+    let g = c .before .before .before .before .before .head-reason in
+    let h = c .before .before .before .write-head2 in
     let s = now (a .store) in
     let f = now (a .frame) in
     let us = updatesIn (a .n) (drop 29 f) in
@@ -108,7 +108,7 @@ returns-2 c =
     flat-handles (a .agent) _ s (now (a .answer)) (λ k.
     let t = k .tables .distinct in
     was-written (a .agent) (headOf (a .head)) (a .atomicity) us s (b .last .1 .1 .1 .0) (now (a .answer)) (h .last .1 .1 .0) (g .result) (b .result)
-    (order (c .before .before .before .before .before .before .before .before .before .before .before .before .before .before) ∙ c .before .before .before .before .before .before .before .before .before .before .before .before .before .if1 .left) (subst (λ (l : List ℕ). BatchApplied (batchOf (flat (a .agent) s) (headOf (a .head)) (a .atomicity) (updatesIn (a .n) l)) s (b .last .1 .1 .1 .0) (b .result)) lent (b .ensures .0 t)) (g .ensures)
+    (order (c .before .before .before .before .before .before .before .before .before .before .before .before .before .before .before) ∙ c .before .before .before .before .before .before .before .before .before .before .before .before .before .before .if1 .left) (subst (λ (l : List ℕ). BatchApplied (batchOf (flat (a .agent) s) (headOf (a .head)) (a .atomicity) (updatesIn (a .n) l)) s (b .last .1 .1 .1 .0) (b .result)) lent (b .ensures .0 t)) (g .ensures)
     (records-then-head (g .result) (a .n) (map pairOf rs) (now (a .answer)) (b .last .1 .1 .1 .1 .1 .1 .1 .0) (h .last .1 .1 .0) (omega (arith, p .3)) n (b .kept .1 .1 .1 .1 .1 .1 .1 .0)
     (b .ensures .1 t ∙ ap (λ (l : List ℕ). splice (take (length (now (a .answer)) - 4) (drop 4 (now (a .answer)))) 0 (concat (map pairOf (batchOf (flat (a .agent) s) (headOf (a .head)) (a .atomicity) (updatesIn (a .n) l) .reasons)))) lent) (h .ensures)))
 
