@@ -4,10 +4,16 @@ use mathlib.Core.Bool.{not}
 use mathlib.Core.List.{List, map}
 use Prim.Native.Nat.{ℕ}
 use lib.Dec.{eqb}
-use Rattle.rules.specs.Bytes.{every, parts}
+use Rattle.rules.specs.Bytes.{every, concat, parts}
 use Rattle.rules.specs.Frame.{Update, updateOf}
-use Rattle.rules.specs.Update.{Batch}
-use Rattle.store.specs.Store.{Holds}
+use Rattle.rules.specs.Update as rules
+use Rattle.rules.specs.Call.{pairOf}
+use Rattle.rules.specs.Sound.{Distinct}
+use Rattle.buffers.specs.Splice.{splice}
+use Rattle.rows.specs.declared.Rows.{Rows}
+use Rattle.rows.specs.Meaning.{rowsOf}
+use Rattle.store.specs.declared.Tables.{Tables}
+use Rattle.store.specs.Store.{entriesIn, tablesIn, Holds}
 use Rattle.batches.specs.declared.Progress.{Progress}
 use Rattle.batches.specs.declared.Written.{Written}
 
@@ -15,11 +21,26 @@ use Rattle.batches.specs.declared.Written.{Written}
 abbrev pub updatesIn : ℕ → List ℕ → List Update
 updatesIn n us = map updateOf (parts n 221 us)
 
+-- what the rules make of n updates, by the tables before them: each alone, or by the atomicity
+abbrev pub alone : Rows → ℕ → ℕ → List ℕ → rules.Tables → rules.Batch
+alone rows role n us t = rules.eachAlone (rowsOf rows) role t (updatesIn n us)
+
+abbrev pub ruled : ℕ → Rows → ℕ → ℕ → List ℕ → rules.Tables → rules.Batch
+ruled atomicity rows role n us t = rules.batch atomicity (rowsOf rows) role t (updatesIn n us)
+
 -- what a batch that came to its end leaves
 abbrev pub writtenOf : Progress → Written
 writtenOf a = record { tables = a .tables; failed = not (eqb (a .reason) 0) }
 
 -- the store holds what the batch leaves, in its order; free bytes may be any
-pub record BatchApplied (b : Batch) (before after : List ℕ) (w : Written) : Type 0 where
+pub record BatchApplied (b : rules.Batch) (before after : List ℕ) (w : Written) : Type 0 where
   pub failed : w .failed ≡ not (every (eqb 0) (b .reasons))
   pub left : Holds before after (w .tables) (b .tables .entries)
+
+-- Where keys are distinct, so much is left of a store by a batch b, and these pairs are written to the start of an answer.
+abbrev pub StoreLeft : (rules.Tables → rules.Batch) → Tables → List ℕ → List ℕ → Written → Type 0
+StoreLeft b tables before after w = Distinct (entriesIn tables before) → BatchApplied (b (tablesIn tables before)) before after w
+
+abbrev pub Pairs : (rules.Tables → rules.Batch) → Tables → List ℕ → List ℕ → List ℕ → Type 0
+Pairs b tables store before after =
+    Distinct (entriesIn tables store) → after ≡ splice before 0 (concat (map pairOf (b (tablesIn tables store) .reasons)))

@@ -1,20 +1,17 @@
 // Batches of updates, rolled back or not (document 01, "The maker of an update"; document 02, request Two).
 ghost use mathlib.Core.Path.{_≡_};
-ghost use mathlib.Core.List.{List, map};
-ghost use Prim.Native.Nat.{ℕ, _+_, _*_, _≤_, _<_};
+ghost use mathlib.Core.List.{map};
+ghost use Prim.Native.Nat.{_+_, _*_, _≤_};
 ghost use lib.Dec.{eqb};
 ghost use lib.ListN.{length, drop};
 ghost use Rattle.rules.specs.Bytes.{if_then_else_, concat};
-ghost use Rattle.rules.specs.Frame.{updateOf};
-ghost use Rattle.rules.specs.Update.{judgeBy, apply, eachAlone, rolledBack, batch as batchOf};
+ghost use Rattle.rules.specs.Update.{rolledBack};
 ghost use Rattle.rules.specs.Call.{pairOf};
-ghost use Rattle.rules.specs.Sound.{Distinct};
 ghost use Rattle.buffers.specs.Splice.{splice};
-ghost use Rattle.rows.specs.Meaning.{rowOf, rowsOf};
-ghost use Rattle.store.specs.Store.{entriesIn, tablesIn, Holds};
 ghost use Rattle.judging.specs.Verdict.{Possible};
-ghost use Rattle.batches.specs.Batch.{updatesIn, writtenOf, BatchApplied};
-ghost use Rattle.batches.specs.Rollback.{notedAt, Noted, Undoes, Stopped};
+ghost use Rattle.batches.specs.Batch.{alone, ruled, writtenOf, StoreLeft, Pairs};
+ghost use Rattle.batches.specs.Rollback.{NotesFit, NotedAt, RolledBack, StoppedEarly};
+ghost use Rattle.batches.specs.Step.{Sized, StepJudged, StepLeft, StepNoted, StepRefused};
 use judging::Verdict;
 use numbers::integer;
 use rows::Lookup;
@@ -61,9 +58,8 @@ fn note_update(
     log: &mut [u8],
     i: usize,
 )
-    requires { ⌜ Possible verdict tables × (tables .count ≤ 256) × (56320 ≤ length (now store)) × (atomicity ≡ 1 → 74 * i + 74 ≤ length (now log)) ⌝ }
-    ensures long { λ _. ⌜ (atomicity ≡ 1 → length (notedAt i verdict (entriesIn tables (now (store .entry))) (now (log .entry))) ≡ 74) ⌝ }
-    ensures note { λ _. ⌜ (atomicity ≡ 1 → now (log .exit) ≡ splice (now (log .entry)) (74 * i) (notedAt i verdict (entriesIn tables (now (store .entry))) (now (log .entry)))) ⌝ }
+    requires { ⌜ Possible verdict tables × Sized tables (now store) × NotesFit atomicity (i + 1) (now log) ⌝ }
+    ensures { λ _. ⌜ (atomicity ≡ 1 → NotedAt i verdict tables (now (store .entry)) (now (log .entry)) (now (log .exit))) ⌝ }
 {
     if atomicity != 1 {
         return;
@@ -86,13 +82,13 @@ fn step(
     i: usize,
     answer: &mut [u8],
 ) -> Taken
-    requires { ⌜ (tables .count ≤ 256) × (56320 ≤ length (now store)) × (length (now update) ≡ 221) × (atomicity ≡ 1 → 74 * i + 74 ≤ length (now log)) × (2 * i + 2 ≤ length (now answer)) ⌝ }
-    ensures reason { λ r. ⌜ r .reason ≡ judgeBy (found .known) (rowOf (found .row)) role (tablesIn tables (now (store .entry))) (updateOf (now (update .entry))) ⌝ }
+    requires { ⌜ Sized tables (now store) × (length (now update) ≡ 221) × NotesFit atomicity (i + 1) (now log) × (2 * i + 2 ≤ length (now answer)) ⌝ }
+    ensures reason { λ r. ⌜ StepJudged r found role tables (now (store .entry)) (now (update .entry)) ⌝ }
     ensures pair { λ r. ⌜ now (answer .exit) ≡ splice (now (answer .entry)) (2 * i) (pairOf (r .reason)) ⌝ }
     ensures few { λ r. ⌜ r .tables .count ≤ 256 ⌝ }
-    ensures left { λ r. ⌜ (Distinct (entriesIn tables (now (store .entry))) → Holds (now (store .entry)) (now (store .exit)) (r .tables) (apply (r .reason) (updateOf (now (update .entry))) (tablesIn tables (now (store .entry))) .entries)) ⌝ }
-    ensures noted { λ r. ⌜ (atomicity ≡ 1 → r .reason ≡ 0 → Noted i (now (update .entry)) (entriesIn tables (now (store .entry))) (entriesIn (r .tables) (now (store .exit))) (now (log .entry)) (now (log .exit))) ⌝ }
-    ensures refused { λ r. ⌜ ((r .reason ≡ 0 → ⊥) → (now (store .exit) ≡ now (store .entry)) × (r .tables ≡ tables) × (now (log .exit) ≡ now (log .entry))) ⌝ }
+    ensures left { λ r. ⌜ StepLeft r (now (update .entry)) tables (now (store .entry)) (now (store .exit)) ⌝ }
+    ensures log { λ r. ⌜ StepNoted atomicity r i (now (update .entry)) tables (now (store .entry)) (now (store .exit)) (now (log .entry)) (now (log .exit)) ⌝ }
+    ensures refused { λ r. ⌜ StepRefused r tables (now (store .entry)) (now (store .exit)) (now (log .entry)) (now (log .exit)) ⌝ }
 {
     let verdict = judging::judge(found, role, store, tables, update);
     let reason = verdict.reason();
@@ -121,12 +117,12 @@ fn take(
     log: &mut [u8],
     answer: &mut [u8],
 ) -> Progress
-    requires { ⌜ (tables .count ≤ 256) × (56320 ≤ length (now store)) × (length (now updates) ≡ 221 * n) × (2 * n ≤ length (now answer)) × (atomicity ≡ 1 → 74 * n ≤ length (now log)) ⌝ }
+    requires { ⌜ Sized tables (now store) × (length (now updates) ≡ 221 * n) × (2 * n ≤ length (now answer)) × NotesFit atomicity n (now log) ⌝ }
     ensures bound { λ r. ⌜ (r .tables .count ≤ 256) × (r .done ≤ n) ⌝ }
     ensures none { λ r. ⌜ (atomicity ≡ 1 → r .done ≡ n → r .reason ≡ 0) ⌝ }
-    ensures left { λ r. ⌜ (r .done ≡ n → Distinct (entriesIn tables (now (store .entry))) → BatchApplied (eachAlone (rowsOf rows) role (tablesIn tables (now (store .entry))) (updatesIn n (now (updates .entry)))) (now (store .entry)) (now (store .exit)) (writtenOf r)) ⌝ }
-    ensures pairs { λ r. ⌜ (r .done ≡ n → Distinct (entriesIn tables (now (store .entry))) → now (answer .exit) ≡ splice (now (answer .entry)) 0 (concat (map pairOf (eachAlone (rowsOf rows) role (tablesIn tables (now (store .entry))) (updatesIn n (now (updates .entry))) .reasons)))) ⌝ }
-    ensures stopped { λ r. ⌜ (r .done < n → (atomicity ≡ 1) × (Distinct (entriesIn tables (now (store .entry))) → Stopped (rowsOf rows) role tables n (now (updates .entry)) (now (store .entry)) (now (store .exit)) (now (log .exit)) r)) ⌝ }
+    ensures left { λ r. ⌜ (r .done ≡ n → StoreLeft (alone rows role n (now (updates .entry))) tables (now (store .entry)) (now (store .exit)) (writtenOf r)) ⌝ }
+    ensures pairs { λ r. ⌜ (r .done ≡ n → Pairs (alone rows role n (now (updates .entry))) tables (now (store .entry)) (now (answer .entry)) (now (answer .exit))) ⌝ }
+    ensures stopped { λ r. ⌜ StoppedEarly atomicity rows role tables n (now (updates .entry)) (now (store .entry)) (now (store .exit)) (now (log .exit)) r ⌝ }
     ensures beyond { λ _. ⌜ drop (2 * n) (now (answer .exit)) ≡ drop (2 * n) (now (answer .entry)) ⌝ }
 {
     let mut held = tables;
@@ -172,8 +168,8 @@ fn take(
 
 // Undoes the first n updates by their notes, the last one first.
 fn roll_back(log: &[u8], updates: &[u8], n: usize, store: &mut [u8], tables: Tables) -> Tables
-    requires { ⌜ (tables .count ≤ 256) × (74 * n ≤ length (now log)) × (221 * n ≤ length (now updates)) × (56320 ≤ length (now store)) ⌝ }
-    ensures { λ r. ⌜ ((goal : List (List ℕ)) → Undoes n (now (log .entry)) (now (updates .entry)) (entriesIn tables (now (store .entry))) goal → Holds (now (store .entry)) (now (store .exit)) r goal) ⌝ }
+    requires { ⌜ Sized tables (now store) × (74 * n ≤ length (now log)) × (221 * n ≤ length (now updates)) ⌝ }
+    ensures { λ r. ⌜ RolledBack n (now (log .entry)) (now (updates .entry)) tables (now (store .entry)) (now (store .exit)) r ⌝ }
 {
     let mut held = tables;
     let mut i = n;
@@ -225,9 +221,9 @@ fn batch_in(
     log: &mut [u8],
     answer: &mut [u8],
 ) -> Written
-    requires { ⌜ (tables .count ≤ 256) × (56320 ≤ length (now store)) × (length (now updates) ≡ 221 * n) × (2 * n ≤ length (now answer)) × (atomicity ≡ 1 → 74 * n ≤ length (now log)) ⌝ }
-    ensures left { λ r. ⌜ (Distinct (entriesIn tables (now (store .entry))) → BatchApplied (batchOf atomicity (rowsOf rows) role (tablesIn tables (now (store .entry))) (updatesIn n (now (updates .entry)))) (now (store .entry)) (now (store .exit)) r) ⌝ }
-    ensures pairs { λ _. ⌜ (Distinct (entriesIn tables (now (store .entry))) → now (answer .exit) ≡ splice (now (answer .entry)) 0 (concat (map pairOf (batchOf atomicity (rowsOf rows) role (tablesIn tables (now (store .entry))) (updatesIn n (now (updates .entry))) .reasons)))) ⌝ }
+    requires { ⌜ Sized tables (now store) × (length (now updates) ≡ 221 * n) × (2 * n ≤ length (now answer)) × NotesFit atomicity n (now log) ⌝ }
+    ensures left { λ r. ⌜ StoreLeft (ruled atomicity rows role n (now (updates .entry))) tables (now (store .entry)) (now (store .exit)) r ⌝ }
+    ensures pairs { λ _. ⌜ Pairs (ruled atomicity rows role n (now (updates .entry))) tables (now (store .entry)) (now (answer .entry)) (now (answer .exit)) ⌝ }
 {
     let came = take(
         rows,
@@ -263,8 +259,8 @@ pub fn batch(
     answer: &mut [u8],
 ) -> Written
     requires { ⌜ (tables .count ≤ 256) × (56320 ≤ length (now store)) × (length (now updates) ≡ 221 * n) × (n ≤ 64) × (2 * n ≤ length (now answer)) ⌝ }
-    ensures left { λ r. ⌜ (Distinct (entriesIn tables (now (store .entry))) → BatchApplied (batchOf atomicity (rowsOf rows) role (tablesIn tables (now (store .entry))) (updatesIn n (now (updates .entry)))) (now (store .entry)) (now (store .exit)) r) ⌝ }
-    ensures pairs { λ _. ⌜ (Distinct (entriesIn tables (now (store .entry))) → now (answer .exit) ≡ splice (now (answer .entry)) 0 (concat (map pairOf (batchOf atomicity (rowsOf rows) role (tablesIn tables (now (store .entry))) (updatesIn n (now (updates .entry))) .reasons)))) ⌝ }
+    ensures left { λ r. ⌜ StoreLeft (ruled atomicity rows role n (now (updates .entry))) tables (now (store .entry)) (now (store .exit)) r ⌝ }
+    ensures pairs { λ _. ⌜ Pairs (ruled atomicity rows role n (now (updates .entry))) tables (now (store .entry)) (now (answer .entry)) (now (answer .exit)) ⌝ }
 {
     if atomicity != 1 {
         // nothing is noted

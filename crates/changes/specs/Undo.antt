@@ -7,7 +7,8 @@ use lib.Dec.{eqb}
 use lib.ListN.{length, take, drop, getD}
 use Rattle.rules.specs.Bytes.{if_then_else_, byte}
 use Rattle.rules.specs.Key.{shortKey}
-use Rattle.store.specs.Store.{insertedAt, changedAt}
+use Rattle.store.specs.declared.Tables.{Tables}
+use Rattle.store.specs.Store.{entriesIn, insertedAt, changedAt, Holds}
 use Rattle.judging.specs.Verdict.{reasonOf, Justified}
 use Rattle.judging.specs.declared.Verdict.{Verdict}
 use Rattle.judging.specs.declared.Verdict.the-variants.{Refused, Insert, Modify, Delete}
@@ -50,6 +51,19 @@ abbrev pub Undoable : Note → ℕ → Type 0
 Undoable Added count = 0 < count
 Undoable (Changed i action) count = i < count
 Undoable (Removed i old) count = (i ≤ count) × (count < 256)
+
+-- what is left of a store by undoing it, a note in bytes with its update, if it can be undone
+abbrev pub Undone : List ℕ → List ℕ → Tables → List ℕ → List ℕ → Tables → Type 0
+Undone note u tables before after left =
+    Undoable (noteOf note u) (tables .count) → Holds before after left (undone (noteOf note u) (entriesIn tables before))
+
+-- the entry that was deleted: its key is the update's in shortest form, its action and parameters were noted
+abbrev pub deletedEntry : List ℕ → List ℕ → List ℕ
+deletedEntry note u = shortKey (drop 1 u) ++ drop 2 note
+
+-- it is put back at place i
+abbrev pub PutBack : ℕ → List ℕ → List ℕ → Tables → List ℕ → List ℕ → Tables → Type 0
+PutBack i note u tables before after left = Holds before after left (insertedAt i (deletedEntry note u) (entriesIn tables before))
 
 -- undoing the note brings the entries back to es
 pub record Undoing (note : Note) (after es : List (List ℕ)) : Type 0 where

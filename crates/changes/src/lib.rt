@@ -1,26 +1,22 @@
 // Doing what was judged of one update (document 01, "The maker of an update"), noting it beforehand, and undoing it by its note
 // (document 02, request Two).
 ghost use mathlib.Core.Path.{_≡_};
-ghost use mathlib.Core.List.{[], _∷_, _++_};
+ghost use mathlib.Core.List.{_∷_};
 ghost use Prim.Native.Nat.{_+_, _*_, _≤_, _<_};
 ghost use lib.ListN.{length, drop};
-ghost use Rattle.rules.specs.Bytes.{byte, part};
-ghost use Rattle.rules.specs.Frame.{updateOf};
-ghost use Rattle.rules.specs.Key.{shortKey};
-ghost use Rattle.rules.specs.Entry.{shortEntry};
-ghost use Rattle.rules.specs.Update.{apply as applyOf};
-ghost use Rattle.rules.specs.Sound.{Distinct};
-ghost use Rattle.store.specs.Store.{entriesIn, tablesIn, insertedAt, changedAt, Holds};
-ghost use Rattle.judging.specs.Verdict.{reasonOf, Justified, Possible};
-ghost use Rattle.changes.specs.Effect.{effect};
-ghost use Rattle.changes.specs.Undo.{noteOf, noted, Undoable, undone};
+ghost use Rattle.rules.specs.Bytes.{part};
+ghost use Rattle.store.specs.Store.{entriesIn};
+ghost use Rattle.judging.specs.Verdict.{Possible};
+ghost use Rattle.judging.specs.declared.Verdict.the-variants.{Insert, Modify};
+ghost use Rattle.changes.specs.Effect.{Done, Ruled};
+ghost use Rattle.changes.specs.Undo.{noted, Undone, deletedEntry, PutBack};
 use judging::Verdict;
 use store::Tables;
 
 // Writes an entry after the last one, in shortest form.
 fn insert(store: &mut [u8], tables: Tables, entry: &[u8]) -> Tables
     requires { ⌜ (tables .count < 256) × (56320 ≤ length (now store)) × (length (now entry) ≡ 220) ⌝ }
-    ensures { λ r. ⌜ Holds (now (store .entry)) (now (store .exit)) r (entriesIn tables (now (store .entry)) ++ (shortEntry (now (entry .entry)) ∷ [])) ⌝ }
+    ensures { λ r. ⌜ Done Insert (now (entry .entry)) tables (now (store .entry)) (now (store .exit)) r ⌝ }
 {
     let count = tables.count;
     let at = 220 * count;
@@ -31,7 +27,7 @@ fn insert(store: &mut [u8], tables: Tables, entry: &[u8]) -> Tables
 // Writes the action and parameters of an entry over those of entry i, in shortest form.
 fn modify(store: &mut [u8], tables: Tables, i: usize, entry: &[u8])
     requires { ⌜ (i < tables .count) × (tables .count ≤ 256) × (56320 ≤ length (now store)) × (length (now entry) ≡ 220) ⌝ }
-    ensures { λ _. ⌜ Holds (now (store .entry)) (now (store .exit)) tables (changedAt i (drop 148 (shortEntry (now (entry .entry)))) (entriesIn tables (now (store .entry)))) ⌝ }
+    ensures { λ _. ⌜ Done (Modify i) (now (entry .entry)) tables (now (store .entry)) (now (store .exit)) tables ⌝ }
 {
     let at = 220 * i + 148;
     values::shorten_action(entry, &mut store[at..]);
@@ -40,7 +36,7 @@ fn modify(store: &mut [u8], tables: Tables, i: usize, entry: &[u8])
 // Does what a verdict says with an entry.
 fn perform(verdict: Verdict, store: &mut [u8], tables: Tables, entry: &[u8]) -> Tables
     requires { ⌜ Possible verdict tables × (tables .count ≤ 256) × (56320 ≤ length (now store)) × (length (now entry) ≡ 220) ⌝ }
-    ensures { λ r. ⌜ Holds (now (store .entry)) (now (store .exit)) r (effect verdict (now (entry .entry)) (entriesIn tables (now (store .entry)))) ⌝ }
+    ensures { λ r. ⌜ Done verdict (now (entry .entry)) tables (now (store .entry)) (now (store .exit)) r ⌝ }
 {
     match verdict {
         Verdict::Refused(_) => tables,
@@ -56,8 +52,8 @@ fn perform(verdict: Verdict, store: &mut [u8], tables: Tables, entry: &[u8]) -> 
 // Does what was judged of an update of 221 bytes.
 pub fn apply(verdict: Verdict, store: &mut [u8], tables: Tables, update: &[u8]) -> Tables
     requires { ⌜ Possible verdict tables × (tables .count ≤ 256) × (56320 ≤ length (now store)) × (length (now update) ≡ 221) ⌝ }
-    ensures done { λ r. ⌜ Holds (now (store .entry)) (now (store .exit)) r (effect verdict (drop 1 (now (update .entry))) (entriesIn tables (now (store .entry)))) ⌝ }
-    ensures left { λ r. ⌜ (Distinct (entriesIn tables (now (store .entry))) → Justified verdict (byte 0 (now (update .entry))) (drop 1 (now (update .entry))) (entriesIn tables (now (store .entry))) → Holds (now (store .entry)) (now (store .exit)) r (applyOf (reasonOf verdict) (updateOf (now (update .entry))) (tablesIn tables (now (store .entry))) .entries)) ⌝ }
+    ensures done { λ r. ⌜ Done verdict (drop 1 (now (update .entry))) tables (now (store .entry)) (now (store .exit)) r ⌝ }
+    ensures left { λ r. ⌜ Ruled verdict (now (update .entry)) tables (now (store .entry)) (now (store .exit)) r ⌝ }
 {
     perform(verdict, store, tables, &update[1..])
 }
@@ -98,7 +94,7 @@ pub fn note(verdict: Verdict, store: &[u8], tables: Tables, note: &mut [u8])
 // Makes the entry that was deleted: its key is the update's in shortest form, its action and parameters were noted.
 fn old_entry(note: &[u8], update: &[u8], out: &mut [u8])
     requires { ⌜ (length (now note) ≡ 74) × (length (now update) ≡ 221) × (length (now out) ≡ 220) ⌝ }
-    ensures { λ _. ⌜ now (out .exit) ≡ shortKey (drop 1 (now (update .entry))) ++ drop 2 (now (note .entry)) ⌝ }
+    ensures { λ _. ⌜ now (out .exit) ≡ deletedEntry (now (note .entry)) (now (update .entry)) ⌝ }
 {
     values::shorten_key(&update[1..], out);
     buffers::copy(&note[2..74], &mut out[148..220]);
@@ -107,7 +103,7 @@ fn old_entry(note: &[u8], update: &[u8], out: &mut [u8])
 // Puts the entry that was deleted back at its place.
 fn put_back(note: &[u8], update: &[u8], store: &mut [u8], tables: Tables, i: usize) -> Tables
     requires { ⌜ (i ≤ tables .count) × (tables .count < 256) × (56320 ≤ length (now store)) × (length (now note) ≡ 74) × (length (now update) ≡ 221) ⌝ }
-    ensures { λ r. ⌜ Holds (now (store .entry)) (now (store .exit)) r (insertedAt i (shortKey (drop 1 (now (update .entry))) ++ drop 2 (now (note .entry))) (entriesIn tables (now (store .entry)))) ⌝ }
+    ensures { λ r. ⌜ PutBack i (now (note .entry)) (now (update .entry)) tables (now (store .entry)) (now (store .exit)) r ⌝ }
 {
     let mut old = [0; 220];
     old_entry(note, update, &mut old);
@@ -118,7 +114,7 @@ fn put_back(note: &[u8], update: &[u8], store: &mut [u8], tables: Tables, i: usi
 pub fn undo(note: &[u8], update: &[u8], store: &mut [u8], tables: Tables) -> Tables
     requires { ⌜ (tables .count ≤ 256) × (56320 ≤ length (now store)) × (length (now note) ≡ 74) × (length (now update) ≡ 221) ⌝ }
     ensures bound { λ r. ⌜ r .count ≤ 256 ⌝ }
-    ensures left { λ r. ⌜ (Undoable (noteOf (now (note .entry)) (now (update .entry))) (tables .count) → Holds (now (store .entry)) (now (store .exit)) r (undone (noteOf (now (note .entry)) (now (update .entry))) (entriesIn tables (now (store .entry))))) ⌝ }
+    ensures left { λ r. ⌜ Undone (now (note .entry)) (now (update .entry)) tables (now (store .entry)) (now (store .exit)) r ⌝ }
 {
     let kind = note[0];
     let i = buffers::wide(note[1]) as usize;

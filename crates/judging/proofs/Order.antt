@@ -18,23 +18,24 @@ use Rattle.judging.specs.declared.Verdict.{Verdict}
 
 module _ (isKnown : Bool) (row : Row) (role : ℕ) where
   -- of a type that there is, the table's reasons and then the entry's
-  module _ (type : ℕ) (e : List ℕ) (typed : between 1 3 type ≡ true) where
-    by-table : first (rowOrder isKnown row role type e)
-        ≡ (if eqb (first (tableOrder isKnown row role)) 0 then first (entryOrder row type e) else first (tableOrder isKnown row role))
-    unfolding first
-    by-table = rw typed (first-more (tableOrder isKnown row role) (entryOrder row type e) refl)
+  module _ (u : Update) (typed : between 1 3 (u .type) ≡ true) where
+    abbrev byTable : ℕ
+    byTable = first (tableOrder isKnown row role)
 
-    pub table-refused : {r : ℕ} → r ≡ first (tableOrder isKnown row role) → (r ≡ 0 → ⊥) → r ≡ first (rowOrder isKnown row role type e)
+    by-table : first (rowOrder isKnown row role u) ≡ (if eqb byTable 0 then first (entryOrder row (u .type) (u .entry)) else byTable)
+    unfolding first
+    by-table = rw typed (first-more (tableOrder isKnown row role) (entryOrder row (u .type) (u .entry)) refl)
+
+    pub table-refused : {r : ℕ} → r ≡ byTable → (r ≡ 0 → ⊥) → r ≡ first (rowOrder isKnown row role u)
     table-refused {r} q n = sym (by-table ∙ (rw (← q, ne-eqb r 0 n)))
 
-    pub entry-judged : {r : ℕ} → 0 ≡ first (tableOrder isKnown row role) → r ≡ first (entryOrder row type e)
-        → r ≡ first (rowOrder isKnown row role type e)
+    pub entry-judged : {r : ℕ} → 0 ≡ byTable → r ≡ first (entryOrder row (u .type) (u .entry)) → r ≡ first (rowOrder isKnown row role u)
     entry-judged q p = p ∙ sym (by-table ∙ (rw (← q)))
 
   -- those by the row and then those by the entries stored
   module _ (t : Tables) (u : List ℕ) where
     abbrev byRow : List (Bool × ℕ)
-    byRow = rowOrder isKnown row role (byte 0 u) (drop 1 u)
+    byRow = rowOrder isKnown row role (updateOf u)
 
     in-turn : judgeBy isKnown row role t (updateOf u)
         ≡ (if eqb (first byRow) 0 then first (placeOrder row (byte 0 u) (drop 1 u) t) else first byRow)

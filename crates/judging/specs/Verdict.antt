@@ -5,17 +5,21 @@ use mathlib.Core.List.{List, _∷_, _++_}
 use mathlib.Core.Option.{some}
 use Prim.Native.Nat.{ℕ, _<_}
 use Rattle.rules.specs.Bytes.{between}
+use Rattle.rules.specs.Frame.{Update, updateOf}
 use Rattle.rules.specs.Row.{Row, tableOrder}
 use Rattle.rules.specs.Key.{shortKey}
-use Rattle.rules.specs.Update.{isInsert, isModify, entryOrder}
+use Rattle.rules.specs.Update.{isInsert, isModify, entryOrder, judgeBy}
+use Rattle.rows.specs.declared.Lookup.{Lookup}
+use Rattle.rows.specs.Meaning.{rowOf}
 use Rattle.store.specs.declared.Tables.{Tables}
-use Rattle.store.specs.Store.{place}
+use Rattle.store.specs.Store.{tablesIn, place}
 use Rattle.judging.specs.declared.Verdict.{Verdict}
 use Rattle.judging.specs.declared.Verdict.the-variants.{Refused, Insert, Modify, Delete}
 
--- 17 of a type that is none, 15, 16, and 17 to 19 of an update of a type with entry e: the order of `judgeBy` up to 20
-abbrev pub rowOrder : Bool → Row → ℕ → ℕ → List ℕ → List (Bool × ℕ)
-rowOrder isKnown row role type e = (not (between 1 3 type), 17) ∷ tableOrder isKnown row role ++ entryOrder row type e
+-- 17 of a type that is none, 15, 16, and 17 to 19 of an update's entry: the order of `judgeBy` up to 20
+abbrev pub rowOrder : Bool → Row → ℕ → Update → List (Bool × ℕ)
+rowOrder isKnown row role u =
+    (not (between 1 3 (u .type)), 17) ∷ tableOrder isKnown row role ++ entryOrder row (u .type) (u .entry)
 
 -- the reason of a verdict, 0 where the update takes effect
 abbrev pub reasonOf : Verdict → ℕ
@@ -23,6 +27,10 @@ reasonOf (Refused r) = r
 reasonOf Insert = 0
 reasonOf (Modify i) = 0
 reasonOf (Delete i) = 0
+
+-- the reason that the rules give an update of 221 bytes, by what the rows say of its table, the role and the tables
+abbrev pub judgedBy : Lookup → ℕ → Tables → List ℕ → List ℕ → ℕ
+judgedBy found role tables store u = judgeBy (found .known) (rowOf (found .row)) role (tablesIn tables store) (updateOf u)
 
 -- A verdict on an update of a type with entry e, where es are stored, is right: a refusal has a reason, any other is for the update's
 -- type and names the place of its key.

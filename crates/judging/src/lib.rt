@@ -7,10 +7,10 @@ ghost use Rattle.rules.specs.Reason.{first};
 ghost use Rattle.rules.specs.Frame.{updateOf};
 ghost use Rattle.rules.specs.Row as rules;
 ghost use Rattle.rules.specs.Key.{shortKey};
-ghost use Rattle.rules.specs.Update.{isInsert, placeOrder, judgeBy};
+ghost use Rattle.rules.specs.Update.{isInsert, placeOrder};
 ghost use Rattle.rows.specs.Meaning.{rowOf};
 ghost use Rattle.store.specs.Store.{entriesIn, tablesIn, InStore, InRange, place, placeOf};
-ghost use Rattle.judging.specs.Verdict.{rowOrder, reasonOf, Justified, Possible};
+ghost use Rattle.judging.specs.Verdict.{rowOrder, reasonOf, judgedBy, Justified, Possible};
 use rows::Lookup;
 use rows::Row;
 use store::Found;
@@ -102,7 +102,7 @@ fn judge_change(kind: u8, store: &[u8], tables: Tables, entry: &[u8]) -> Verdict
 // 15 to 19 of an update of 221 bytes: what is asked of it by its table's row, before the entries stored.
 fn row_reason(found: Lookup, role: u8, update: &[u8]) -> u8
     requires { ⌜ length (now update) ≡ 221 ⌝ }
-    ensures { λ r. ⌜ r ≡ first (rowOrder (found .known) (rowOf (found .row)) role (byte 0 (now (update .entry))) (drop 1 (now (update .entry)))) ⌝ }
+    ensures { λ r. ⌜ r ≡ first (rowOrder (found .known) (rowOf (found .row)) role (updateOf (now (update .entry)))) ⌝ }
 {
     let kind = update[0];
     if kind == 0 {
@@ -121,7 +121,7 @@ fn row_reason(found: Lookup, role: u8, update: &[u8]) -> u8
 // Judges an update of 221 bytes by what the rows say of its table, the role and the entries stored.
 pub fn judge(found: Lookup, role: u8, store: &[u8], tables: Tables, update: &[u8]) -> Verdict
     requires { ⌜ InStore tables (now store) × (length (now update) ≡ 221) ⌝ }
-    ensures reason { λ r. ⌜ reasonOf r ≡ judgeBy (found .known) (rowOf (found .row)) role (tablesIn tables (now (store .entry))) (updateOf (now (update .entry))) ⌝ }
+    ensures reason { λ r. ⌜ reasonOf r ≡ judgedBy found role tables (now (store .entry)) (now (update .entry)) ⌝ }
     ensures justified { λ r. ⌜ Justified r (byte 0 (now (update .entry))) (drop 1 (now (update .entry))) (entriesIn tables (now (store .entry))) ⌝ }
     ensures possible { λ r. ⌜ Possible r tables ⌝ }
 {

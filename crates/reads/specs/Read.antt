@@ -7,19 +7,33 @@ use lib.ListN.{length, take}
 use Rattle.rules.specs.Bytes.{if_then_else_, keep, concat, part}
 use Rattle.rules.specs.Row.{Row}
 use Rattle.rules.specs.Key.{shortKey, hasKey}
-use Rattle.rules.specs.Update.{Tables}
+use Rattle.rules.specs.Update as rules
 use Rattle.rules.specs.Call.{gathered}
+use Rattle.rules.specs.Sound.{Distinct}
 use Rattle.buffers.specs.Splice.{splice}
+use Rattle.rows.specs.declared.Rows.{Rows}
+use Rattle.rows.specs.Meaning.{rowsOf}
+use Rattle.store.specs.declared.Tables.{Tables}
+use Rattle.store.specs.Store.{entriesIn, tablesIn}
 
 -- the key of a READ in its 149 bytes from the table on: table 4, only 1, key 144
 abbrev pub keyIn : List ℕ → List ℕ
 keyIn b = part 0 4 b ++ part 5 144 b
 
 -- the entries that a READ asks for: with only 1 that of the key
-unfoldable pub readIn : List Row → ℕ → ℕ → ℕ → List ℕ → Tables → List (List ℕ)
+unfoldable pub readIn : List Row → ℕ → ℕ → ℕ → List ℕ → rules.Tables → List (List ℕ)
 readIn rows role table only k t =
     if eqb only 1 then keep (hasKey (shortKey k)) (t .entries) else gathered role table rows t
 
 -- the first n of these entries are written to the start of an answer: all of them, or as many as it has room for
 abbrev pub Reads : List (List ℕ) → List ℕ → List ℕ → ℕ → Type 0
 Reads es before after n = (n ≡ min (length es) (length before / 220)) × (after ≡ splice before 0 (concat (take n es)))
+
+-- Where keys are distinct, a READ writes the entry of a key in shortest form, or what it asks for.
+abbrev pub ReadsKey : List ℕ → Tables → List ℕ → List ℕ → List ℕ → ℕ → Type 0
+ReadsKey k tables store before after n =
+    Distinct (entriesIn tables store) → Reads (keep (hasKey k) (entriesIn tables store)) before after n
+
+abbrev pub ReadsQuery : Rows → ℕ → ℕ → ℕ → List ℕ → Tables → List ℕ → List ℕ → List ℕ → ℕ → Type 0
+ReadsQuery rows role table only k tables store before after n =
+    Distinct (entriesIn tables store) → Reads (readIn (rowsOf rows) role table only k (tablesIn tables store)) before after n

@@ -4,16 +4,14 @@ ghost use mathlib.Core.Bool.{not};
 ghost use Prim.Native.Nat.{_≤_};
 ghost use lib.Dec.{eqb};
 ghost use lib.ListN.{length};
-ghost use Rattle.rules.specs.Bytes.{keep};
 ghost use Rattle.rules.specs.Reason.{when, first};
 ghost use Rattle.rules.specs.Row.{tableOrder};
-ghost use Rattle.rules.specs.Key.{shortKey, hasKey};
+ghost use Rattle.rules.specs.Key.{shortKey};
 ghost use Rattle.rules.specs.Call.{queryOrder, asked, gathered};
-ghost use Rattle.rules.specs.Sound.{Distinct};
 ghost use Rattle.buffers.specs.Splice.{splice};
 ghost use Rattle.rows.specs.Meaning.{rowOf, rowsOf};
-ghost use Rattle.store.specs.Store.{entriesIn, tablesIn, InStore};
-ghost use Rattle.reads.specs.Read.{keyIn, readIn, Reads};
+ghost use Rattle.store.specs.Store.{tablesIn, InStore};
+ghost use Rattle.reads.specs.Read.{keyIn, Reads, ReadsKey, ReadsQuery};
 use rows::Lookup;
 use rows::Row;
 use rows::Rows;
@@ -93,7 +91,7 @@ fn read_all(
 // Writes the entry of a key of 148 bytes in shortest form, if it is there; the number of entries written.
 fn read_one(store: &[u8], tables: Tables, key: &[u8], answer: &mut [u8]) -> usize
     requires { ⌜ InStore tables (now store) × (length (now key) ≡ 148) × (220 ≤ length (now answer)) ⌝ }
-    ensures { λ r. ⌜ (Distinct (entriesIn tables (now (store .entry))) → Reads (keep (hasKey (now (key .entry))) (entriesIn tables (now (store .entry)))) (now (answer .entry)) (now (answer .exit)) r) ⌝ }
+    ensures { λ r. ⌜ ReadsKey (now (key .entry)) tables (now (store .entry)) (now (answer .entry)) (now (answer .exit)) r ⌝ }
 {
     let found = store::find(store, tables, key);
     match found {
@@ -119,7 +117,7 @@ fn copy_key(query: &[u8], key: &mut [u8])
 // Writes the entry of the key of a READ, if it is there; the number of entries written.
 fn read_key(query: &[u8], store: &[u8], tables: Tables, answer: &mut [u8]) -> usize
     requires { ⌜ (length (now query) ≡ 149) × InStore tables (now store) × (220 ≤ length (now answer)) ⌝ }
-    ensures { λ r. ⌜ (Distinct (entriesIn tables (now (store .entry))) → Reads (keep (hasKey (shortKey (keyIn (now (query .entry))))) (entriesIn tables (now (store .entry)))) (now (answer .entry)) (now (answer .exit)) r) ⌝ }
+    ensures { λ r. ⌜ ReadsKey (shortKey (keyIn (now (query .entry)))) tables (now (store .entry)) (now (answer .entry)) (now (answer .exit)) r ⌝ }
 {
     let mut key = [0; 148];
     copy_key(query, &mut key);
@@ -140,7 +138,7 @@ pub fn read(
     answer: &mut [u8],
 ) -> usize
     requires { ⌜ (length (now query) ≡ 149) × InStore tables (now store) × (56320 ≤ length (now answer)) ⌝ }
-    ensures { λ r. ⌜ (Distinct (entriesIn tables (now (store .entry))) → Reads (readIn (rowsOf rows) role table only (keyIn (now (query .entry))) (tablesIn tables (now (store .entry)))) (now (answer .entry)) (now (answer .exit)) r) ⌝ }
+    ensures { λ r. ⌜ ReadsQuery rows role table only (keyIn (now (query .entry))) tables (now (store .entry)) (now (answer .entry)) (now (answer .exit)) r ⌝ }
 {
     if only == 1 {
         return read_key(query, store, tables, answer);

@@ -5,7 +5,7 @@ use mathlib.Core.List.{List, [], _∷_, _++_}
 use mathlib.Core.Option.{Option, none, some}
 use Prim.Native.Nat.{ℕ, suc, _*_, _≤_, _<_}
 use lib.ListN.{length, take, drop, getD, set}
-use Rattle.rules.specs.Bytes.{if_then_else_, parts}
+use Rattle.rules.specs.Bytes.{if_then_else_, keep, parts}
 use Rattle.rules.specs.Key.{hasKey}
 use Rattle.rules.specs.Update as rules
 use Rattle.store.specs.declared.Tables.{Tables}
@@ -19,6 +19,10 @@ entriesIn tables store = parts (tables .count) 220 store
 -- in the rules' terms
 abbrev pub tablesIn : Tables → List ℕ → rules.Tables
 tablesIn tables store = record { entries = entriesIn tables store }
+
+-- those of a table
+abbrev pub entriesOf : ℕ → Tables → List ℕ → List (List ℕ)
+entriesOf table tables store = keep (rules.inTable table) (entriesIn tables store)
 
 -- the store has the bytes of all its entries
 abbrev pub InStore : Tables → List ℕ → Type 0

@@ -4,10 +4,10 @@ ghost use mathlib.Core.List.{List};
 ghost use Prim.Native.Nat.{ℕ, _+_, _-_, _/_, _≤_, _<_, min};
 ghost use lib.Dec.{leb};
 ghost use lib.ListN.{length, take};
-ghost use Rattle.rules.specs.Bytes.{keep, concat, part, same};
-ghost use Rattle.rules.specs.Update.{noEntries, inTable, held as heldIn};
+ghost use Rattle.rules.specs.Bytes.{concat, part, same};
+ghost use Rattle.rules.specs.Update.{noEntries, held as heldIn};
 ghost use Rattle.buffers.specs.Splice.{splice};
-ghost use Rattle.store.specs.Store.{entriesIn, tablesIn, InStore, place, placeOf, InRange, without, insertedAt, changedAt, Holds};
+ghost use Rattle.store.specs.Store.{entriesIn, entriesOf, tablesIn, InStore, place, placeOf, InRange, without, insertedAt, changedAt, Holds};
 use numbers::integer;
 
 // What the record knows of a store: how many entries are in it.
@@ -164,7 +164,7 @@ pub fn write_entry(entry: &[u8], dst: &mut [u8])
 pub fn gather(store: &[u8], tables: Tables, table: u64, answer: &mut [u8]) -> usize
     requires { ⌜ InStore tables (now store) ⌝ }
     ensures count { λ r. ⌜ r ≡ min (heldIn table (tablesIn tables (now (store .entry)))) (length (now (answer .entry)) / 220) ⌝ }
-    ensures records { λ r. ⌜ now (answer .exit) ≡ splice (now (answer .entry)) 0 (concat (take r (keep (inTable table) (entriesIn tables (now (store .entry)))))) ⌝ }
+    ensures records { λ r. ⌜ now (answer .exit) ≡ splice (now (answer .entry)) 0 (concat (take r (entriesOf table tables (now (store .entry))))) ⌝ }
 {
     let count = tables.count;
     let mut n: usize = 0;

@@ -27,10 +27,9 @@ roll-back-requires c κs =
     let less = c .before .before .before .before .before .before .if1 .taken in
     let one = k .ensures .1 .1 .1 .1 .0 less .0 in
     let b = p .before .before .before .before .before .before .before .before in (
-      k .ensures .0 .0,
-      omega (arith, b .pre .4 one, k .kept .1 .1 .1 .1 .1 .1 .1 .0, less),
-      omega (arith, b .pre .2, less),
-      omega (arith, b .pre .1, k .kept .1 .1 .1 .0),
+      (k .ensures .0 .0, omega (arith, b .pre .0 .1, k .kept .1 .1 .1 .0)),
+      omega (arith, b .pre .3 one, k .kept .1 .1 .1 .1 .1 .1 .1 .0, less),
+      omega (arith, b .pre .1, less),
     )
 
 same-length : tie.Need-same-length
@@ -77,11 +76,13 @@ returns c =
           let h = k .ensures .1 .1 .1 .1 .0 (y .0 .taken) in
           rw (y .11, rolled-reasons (rowsOf (g .rows)) (g .role) (g .tables) n us s (g .atomicity) (k .result) (h .0) (h .1 t)) (
           y .2 .ensures
-          ∙ pairs-anew n (rolledBack n (k .result .done, k .result .reason)) (now (g .answer)) _ (rolled-count n (k .result .done) (k .result .reason)) (k .ensures .1 .1 .1 .1 .1)))
+          ∙ pairs-anew n (rolledBack n (k .result .done, k .result .reason)) (now (g .answer)) _
+          (rolled-count n (k .result .done) (k .result .reason)) (k .ensures .1 .1 .1 .1 .1)))
           (λ y.
           let z : k .result .done ≡ n = omega (arith, k .ensures .0 .1, y .0 .left) in
           let l = k .ensures .1 .1 .0 z t in
-          rw (y .2, ended (rowsOf (g .rows)) (g .role) (g .tables) n us s (g .atomicity) (k .result) l (λ e. k .ensures .1 .0 e z)) (k .ensures .1 .1 .1 .0 z t))
+          rw (y .2, ended (rowsOf (g .rows)) (g .role) (g .tables) n us s (g .atomicity) (k .result) l (λ e. k .ensures .1 .0 e z))
+          (k .ensures .1 .1 .1 .0 z t))
           (j .if1 .came),
     )
 

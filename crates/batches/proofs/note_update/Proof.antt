@@ -11,13 +11,13 @@ use Rattle.batches.proofs.note_update.Statement.{statement}
 use Rattle.batches.proofs.note_update.Tie as tie
 
 returns : tie.Need-returns
-returns c = (λ e. absurd (c .if1 .taken e), λ e. absurd (c .if1 .taken e))
+returns c = λ e. absurd (c .if1 .taken e)
 
 -- note i has its place
 room : (c : tie.Else1)
     → let a = c .before .before .before .args in
     74 * a .i + 74 ≤ length (now (a .log))
-room c = c .before .before .before .pre .3 (c .if1 .left)
+room c = omega (arith, c .before .before .before .pre .2 (c .if1 .left))
 
 mul-at : tie.Need-mul-at
 mul-at c = search (needs, room c)
@@ -51,7 +51,7 @@ returns-2 c =
     let told = rw k at (m .ensures) in
     let size : length (m .last .1 .1 .1 .0) ≡ 74 = m .kept .1 .1 .1 .0 ∙ rw k (length-window (74 * i) 74 x (room o)) in
     let long = sym (ap length told) ∙ size in
-    (λ e. long, λ e. part-replaced x (m .last .1 .1 .1 .0) _ (74 * i) (74 * i + 74 - 74 * i) told (long ∙ sym k))
+    λ e. (long, part-replaced x (m .last .1 .1 .1 .0) _ (74 * i) (74 * i + 74 - 74 * i) told (long ∙ sym k))
 
 pub note-update-spec : {M : Type 1} → statement M
 note-update-spec =

@@ -69,11 +69,11 @@ returns c =
       (
         paired (c .before .before .before),
         (
-          s .pre .0,
+          s .pre .0 .0,
           (
             λ d.
                 rw (refused (q .reason .result) (updateOf (now (a .update))) (tablesIn (a .tables) (now (a .store))) n)
-                (record { holds = refl; few = s .pre .0; room = refl; beyond = refl }),
+                (record { holds = refl; few = s .pre .0 .0; room = refl; beyond = refl }),
             (λ e z. absurd (n z), λ m. (refl, refl, refl)),
           ),
         ),
@@ -107,7 +107,7 @@ returns-2 c =
     let did = c .before .before .apply .ensures in
     let note = c .before .before .before .before .before .before .note-update .ensures in
     let justified = v .judge .ensures .1 .0 in
-    let few : length es ≤ 256 = omega (arith, s .pre .0, parts-count (a .tables .count) 220 (now (a .store))) in (
+    let few : length es ≤ 256 = omega (arith, s .pre .0 .0, parts-count (a .tables .count) 220 (now (a .store))) in (
       q .reason .ensures ∙ v .judge .ensures .0,
       (
         paired w,
@@ -117,11 +117,11 @@ returns-2 c =
             λ d. rw (q .reason .ensures) (did .1 d justified),
             (
               λ e z. record {
-                note = notedAt (a .i) (v .judge .result) es (now (a .log));
-                size = note .0 e;
-                bytes = note .1 e;
+                note = notedAt (a .i) (v .judge .result) (a .tables) (now (a .store)) (now (a .log));
+                size = note e .0;
+                bytes = note e .1;
                 undoing = rw (did .0 .holds)
-                    (undo-after-apply (v .judge .result) (byte 0 u) u es (part (74 * a .i) 74 (now (a .log))) few (s .pre .2)
+                    (undo-after-apply (v .judge .result) (byte 0 u) u es (part (74 * a .i) 74 (now (a .log))) few (s .pre .1)
                     (sym (q .reason .ensures) ∙ z) justified);
               },
               λ n. absurd (n (c .before .before .before .before .before .before .before .before .before .if1 .left)),

@@ -47,7 +47,7 @@ abbrev μ-loop : tie.MeasureT-loop
 
 loop-holds : tie.Need-loop-holds Inv-loop μ-loop
 loop-holds c =
-    let few = c .before .before .before .before .pre .0 in
+    let few = c .before .before .before .before .pre .0 .0 in
     (omega arith, few, refl, refl, refl, refl, λ e. refl, λ t. taken-start _ _ _ _ _ _ few t, λ e t. passed-start _ _ _ _ _ _ _ few)
 
 mul-from : tie.Need-mul-from Inv-loop μ-loop
@@ -77,7 +77,7 @@ part-step-end c = search needs
 step-requires : tie.Need-step-requires Inv-loop μ-loop
 step-requires c κs =
     let l = c .before .before .before .before .before .before .before in
-    (l .loop .inv .1, omega arith, search needs, λ e. omega (arith, l .before .before .before .before .before .pre .4 e), omega arith)
+    ((l .loop .inv .1, omega arith), search needs, λ e. omega (arith, l .before .before .before .before .before .pre .3 e), omega arith)
 
 same-length : tie.Need-same-length Inv-loop μ-loop
 same-length c = search needs
@@ -99,7 +99,9 @@ places : (g : tie.In-loop Inv-loop μ-loop)
 places g = omega arith
 
 -- what a step says of update i as it is lent, it says of update i
-lent : (d : tie.After-step Inv-loop μ-loop) → let i = d .before .before .before .before .before .before .before .before .loop .i in 221 * i + 221 - 221 * i ≡ 221
+lent : (d : tie.After-step Inv-loop μ-loop) →
+    let i = d .before .before .before .before .before .before .before .before .loop .i in
+    221 * i + 221 - 221 * i ≡ 221
 lent d = omega arith
 
 -- update i was judged by the rows, on the store as it is
@@ -193,7 +195,7 @@ loop-again c =
     (λ y. y .1 ∙ l .loop .inv .6 e)
     (c .if1 .came) in
     let room : a .atomicity ≡ 1 → 74 * i + 74 ≤ length (l .loop .log) =
-    λ e. omega (arith, l .before .before .before .before .before .pre .4 e, at .0) in
+    λ e. omega (arith, l .before .before .before .before .before .pre .3 e, at .0) in
     let told = rw (lent d) at (d .step .ensures .1 .1 .1) in
     let kept = d .step .kept in (
       omega (arith, at .0),

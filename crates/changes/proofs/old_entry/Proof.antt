@@ -77,7 +77,8 @@ returns c =
     let s = c .before .before .before .before .before .before .before in
     let a = s .before .before .before .before .before .before .args in
     let w = c .before .before .copy in
-    made (now (a .update)) (now (a .note)) (now (a .out)) (s .shorten-key .last .1 .0) (w .last .1 .0) (omega arith) (omega arith) (omega arith) (s .shorten-key .ensures) (w .ensures)
+    made (now (a .update)) (now (a .note)) (now (a .out)) (s .shorten-key .last .1 .0) (w .last .1 .0) (omega arith) (omega arith) (omega arith)
+    (s .shorten-key .ensures) (w .ensures)
 
 pub old-entry-spec : {M : Type 1} → statement M
 old-entry-spec =

@@ -58,7 +58,8 @@ returns-2 c =
     let w = c .before .before .before .before .before .before .before .before .wide .ensures .0 in
     let e : byte 0 note ≡ 2 = search needs in
     let l : length note ≡ 74 = search needs in
-    (omega arith, back-two note (now (a .update)) s (c .before .before .replace-action .last .0) (a .tables) (a .tables) w l e (λ h. c .before .before .replace-action .ensures))
+    let r = c .before .before .replace-action in
+    (omega arith, back-two note (now (a .update)) s (r .last .0) (a .tables) (a .tables) w l e (λ h. r .ensures))
 
 returns-3 : tie.Need-returns-3
 returns-3 c =

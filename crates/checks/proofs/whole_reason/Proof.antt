@@ -72,12 +72,14 @@ formed-action c e =
 passed : (c : tie.Else3) →
     let f = c .before .before .before .before .before in (keyFormed (row f) (entry f) ≡ true) × (actionFormed (row f) (entry f) ≡ true)
 passed c =
-    (formed (c .before .before .before .before .before) (not-false _ (c .before .before .before .before .if1 .left)), formed-action (c .before) (not-false _ (c .if3 .left)))
+    let g = c .before .before .before .before in
+    (formed (g .before) (not-false _ (g .if1 .left)), formed-action (c .before) (not-false _ (c .if3 .left)))
 
 returns-3 : tie.Need-returns-3
 unfolding first
 returns-3 c =
-    rw (formed (c .before .before .before .before .before) (not-false _ (c .before .before .before .before .if1 .left)), formed-action (c .before) (not-true _ (c .if3 .taken)))
+    let g = c .before .before .before .before in
+    rw (formed (g .before) (not-false _ (g .if1 .left)), formed-action (c .before) (not-true _ (c .if3 .taken)))
 
 sub-key-fits : tie.Need-sub-key-fits
 sub-key-fits c = search needs
@@ -141,7 +143,8 @@ ruled c e =
 
 -- neither did 18
 fitted : (c : tie.Else5) →
-    let f = c .before .before .before .before .before .before .before .before .before .before in (keyFits (row f) (entry f) ≡ true) × (actionFits (row f) (entry f) ≡ true)
+    let f = c .before .before .before .before .before .before .before .before .before .before in
+    (keyFits (row f) (entry f) ≡ true) × (actionFits (row f) (entry f) ≡ true)
 fitted c = (fits-key (c .before .before .before) (not-false _ (c .before .before .if4 .left)), fits-action (c .before) (not-false _ (c .if5 .left)))
 
 returns-6 : tie.Need-returns-6

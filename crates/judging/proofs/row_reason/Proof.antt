@@ -4,11 +4,11 @@ use native.Mathlib.Omega.{arith}
 use mathlib.Core.Path.{_≡_, sym, _∙_}
 use mathlib.Core.Bool.{true}
 use mathlib.Core.List.{List}
-use lib.ListN.{drop}
 use denote.Ref.{now}
 use borrow.Author.Tests.{le-leb, lt-leb}
 use Rattle.rules.specs.Bytes.{between, byte}
 use Rattle.rules.specs.Reason.{first}
+use Rattle.rules.specs.Frame.{updateOf}
 use Rattle.rules.proofs.Lists.{rest-all}
 use Rattle.rows.specs.Meaning.{rowOf}
 use Rattle.judging.proofs.Order.{table-refused, entry-judged}
@@ -44,7 +44,7 @@ returns-3 c =
     let g = c .before .before in
     let a = g .before .before .before .before .args in
     let u : List ℕ = now (a .update) in
-    table-refused (a .found .known) (rowOf (a .found .row)) (a .role) (byte 0 u) (drop 1 u) (typed g) (c .before .table-reason .ensures) (c .if3 .taken)
+    table-refused (a .found .known) (rowOf (a .found .row)) (a .role) (updateOf u) (typed g) (c .before .table-reason .ensures) (c .if3 .taken)
 
 sub-entry-reason : tie.Need-sub-entry-reason
 sub-entry-reason c = search needs
@@ -64,7 +64,7 @@ returns-4 c =
     let g = h .before .before in
     let a = g .before .before .before .before .args in
     let u : List ℕ = now (a .update) in
-    entry-judged (a .found .known) (rowOf (a .found .row)) (a .role) (byte 0 u) (drop 1 u) (typed g)
+    entry-judged (a .found .known) (rowOf (a .found .row)) (a .role) (updateOf u) (typed g)
     (sym (h .if3 .left) ∙ h .before .table-reason .ensures) (rw (rest-all 1 u) at (c .entry-reason .ensures))
 
 pub row-reason-spec : {M : Type 1} → statement M

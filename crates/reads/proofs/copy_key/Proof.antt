@@ -53,8 +53,10 @@ returns c =
     let a = c .before .before .before .before .before .before .before .before .before .before .before .before .args in
     let b = now (a .query) in
     let l : length (keyIn b) ≡ 148 = key-length b (search needs) in
-    rest-after (now (a .key)) (c .before .before .before .before .before .before .before .copy .last .1 .0) (c .before .before .copy2 .last .1 .0) (part 0 4 b) (part 5 144 b) (keyIn b) 4
-    (part-length 0 4 b (omega arith)) refl (omega arith) (c .before .before .before .before .before .before .before .copy .ensures) (c .before .before .copy2 .ensures)
+    let one = c .before .before .before .before .before .before .before .copy in
+    let two = c .before .before .copy2 in
+    rest-after (now (a .key)) (one .last .1 .0) (two .last .1 .0) (part 0 4 b) (part 5 144 b) (keyIn b) 4
+    (part-length 0 4 b (omega arith)) refl (omega arith) (one .ensures) (two .ensures)
 
 pub copy-key-spec : {M : Type 1} → statement M
 copy-key-spec =

@@ -13,7 +13,9 @@ same-length c = search needs
 
 returns : tie.Need-returns
 unfolding readIn
-returns c = rw (eq-eqb (c .before .before .before .before .before .before .before .before .args .only) 1 (c .before .before .before .before .if1 .taken)) (c .before .before .read-key .ensures)
+returns c =
+    let g = c .before .before .before .before in
+    rw (eq-eqb (g .before .before .before .before .args .only) 1 (g .if1 .taken)) (c .before .before .read-key .ensures)
 
 read-all-requires : tie.Need-read-all-requires
 read-all-requires c κs = search needs
@@ -23,7 +25,9 @@ same-length-2 c = search needs
 
 returns-2 : tie.Need-returns-2
 unfolding readIn
-returns-2 c = rw (ne-eqb (c .before .before .before .before .before .before .before .before .args .only) 1 (c .before .before .before .before .if1 .left)) (λ d. c .before .before .read-all .ensures)
+returns-2 c =
+    let g = c .before .before .before .before in
+    rw (ne-eqb (g .before .before .before .before .args .only) 1 (g .if1 .left)) (λ d. c .before .before .read-all .ensures)
 
 pub read-spec : {M : Type 1} → statement M
 read-spec =

@@ -5,6 +5,7 @@ use lib.ListN.{length, replicate}
 use denote.Ref.{now}
 use Rattle.rules.specs.Key.{shortKey}
 use Rattle.rules.proofs.Shortest.{key-length}
+use Rattle.buffers.specs.Splice.{splice}
 use Rattle.buffers.proofs.Splice.{splice-end}
 use Rattle.reads.specs.Read.{keyIn}
 use Rattle.reads.proofs.QueryOrder as queries
@@ -42,8 +43,10 @@ returns c =
     let k = keyIn (now (a .query)) in
     let l : length k ≡ 148 = queries.key-length (now (a .query)) (search needs) in
     let m : length (shortKey k) ≡ 148 = key-length k (omega arith) in
-    let e = c .before .before .before .before .before .before .before .before .before .before .copy-key .ensures ∙ splice-end (replicate 148 0) 0 k (omega arith) in
-    let s = c .before .before .before .before .before .before .shorten-key .ensures ∙ ap (λ x. Rattle.buffers.specs.Splice.splice (replicate 148 0) 0 (shortKey x)) e ∙ splice-end (replicate 148 0) 0 (shortKey k) (omega arith) in
+    let h = c .before .before .before .before .before .before in
+    let e = h .before .before .before .before .copy-key .ensures ∙ splice-end (replicate 148 0) 0 k (omega arith) in
+    let s =
+    h .shorten-key .ensures ∙ ap (λ x. splice (replicate 148 0) 0 (shortKey x)) e ∙ splice-end (replicate 148 0) 0 (shortKey k) (omega arith) in
     rw s at (c .before .before .read-one .ensures)
 
 pub read-key-spec : {M : Type 1} → statement M
