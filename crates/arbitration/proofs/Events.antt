@@ -4,11 +4,9 @@ use Prim.Native.Nat.{ℕ}
 use mathlib.Core.Path.{_≡_, refl, sym, ap, _∙_}
 use mathlib.Core.Bool.{true, false}
 use mathlib.Core.List.{[]}
-use lib.Dec.{eqb}
 use lib.ListN.{set}
 use lib.Seq.{set-getD}
 use borrow.Author.Tests.{ne-eqb}
-use Rattle.rules.specs.Bytes.{if_then_else_}
 use Rattle.rules.specs.Reason.{first}
 use Rattle.rules.specs.Frame.{Head}
 use Rattle.rules.specs.Streams.{Stream, closed, unbound, bound, Streams, streamAt, isOpen, notifyAll, become, openStream, closeStream}

@@ -1,6 +1,6 @@
 -- What a scan has found before stream k, with what it has still to pass, is what the whole record shows. Assumes nothing.
 use Prim.Native.Nat.{ℕ, _+_, _%_, _<_, _≤_}
-use native.Mathlib.Nat.{add-zero, mod-eq-of-lt}
+use native.Mathlib.Nat.{mod-eq-of-lt}
 use native.Mathlib.Numerals.{add-one}
 use native.Mathlib.Omega.{arith}
 use mathlib.Core.Path.{_≡_, refl, sym, ap, _∙_}
@@ -9,7 +9,7 @@ use mathlib.Core.List.{List, [], _∷_, _++_, append-nil}
 use mathlib.Core.Option.{Option, some}
 use lib.Dec.{eqb, ltb}
 use lib.ListN.{length, getD, take, drop, set, List·getD-map, drop-of-length-le}
-use lib.Seq.{drop-cons, append-snoc, take-set-le, take-suc-set}
+use lib.Seq.{drop-cons, append-snoc, take-suc-set}
 use borrow.Author.Tests.{ltb-true, ltb-false, lt-ltb}
 use Rattle.rules.specs.Bytes.{if_then_else_, some-of}
 use Rattle.rules.specs.Streams as rules

@@ -1,6 +1,6 @@
 -- Right because the primary of a role whose mark is set is the first stream that holds it. Assumes nothing.
 use Prim.Native.Nat.{ℕ, _-_, _≤_}
-use mathlib.Core.Path.{_≡_, refl, sym, ap, _∙_}
+use mathlib.Core.Path.{_≡_, refl, sym, _∙_}
 use mathlib.Core.Bool.{Bool, true, false, _&&_, not, and-true as and-all}
 use mathlib.Core.Option.{Option}
 use lib.Dec.{eqb}

@@ -1,7 +1,6 @@
 -- Right because the scan shows the mark and its first holder, and each way out is one way that the pair can go. Assumes nothing.
 use mathlib.Core.Path.{_≡_, sym, ap, _∙_}
 use mathlib.Core.Bool.{Bool, false, _&&_, not}
-use mathlib.Core.Option.{Option}
 use Prim.Native.Nat.{ℕ, _≤_, _<_}
 use native.Mathlib.Omega.{arith}
 use lib.Dec.{eqb, ltb}
@@ -13,7 +12,6 @@ use Rattle.rules.specs.Streams.{holds, numbers, head, markOf, heldElsewhere}
 use Rattle.election.specs.declared.Head.{Head}
 use Rattle.election.specs.Meaning.{idOf, headOf}
 use Rattle.leadership.specs.declared.Scan.{Scan}
-use Rattle.leadership.specs.Meaning.{numbered}
 use Rattle.leadership.specs.Scanning.{ScanOf}
 use Rattle.leadership.proofs.FirstPassing.{is-numbered}
 use Rattle.leadership.proofs.ArbitrateReason.{reason-within, accepted-role, accepted-alone}
