@@ -19,8 +19,8 @@ use Rattle.election.specs.declared.Head.{Head}
 use Rattle.arbitration.specs.declared.Notify.{Notify}
 use Rattle.election.specs.declared.Stream.{Stream}
 use Rattle.arbitration.specs.declared.Streams.{Streams}
-use Rattle.arbitration.proofs.Places.{unset, noStream, kept-set, sized, raised-at, read, past-closed, past-stored, stored, bound-stored}
-use Rattle.arbitration.proofs.Events.{open-closed, open-twice, shut, close-closed, close-open, closes, arbitrate-refused}
+use Rattle.arbitration.proofs.Places.{unset, noStream, kept-set, sized, mark-stored, read, past-closed, past-stored, stored, bound-stored}
+use Rattle.arbitration.proofs.Events.{open-closed, open-twice, closed-already, close-closed, close-open, closes, arbitrate-refused}
 use Rattle.arbitration.proofs.Events.{arbitrate-closes, arbitrate-binds}
 
 module _ (self : Streams) (size : length (self .streams) ≡ 32) (s : ℕ) where
@@ -45,10 +45,10 @@ module _ (self : Streams) (size : length (self .streams) ≡ 32) (s : ℕ) where
     put-in : s < 32 → {y : rules.Stream} → streamOf x ≡ y → streamsOf put ≡ become (streamsOf self) s y
     put-in h e = rw (mod-eq-of-lt h) (stored self s x e)
 
-    pub opens : {b : rules.Stream} → b ≡ there → {r : ℕ} → r ≡ (if ltb s 32 && isOpen b then 3 else 0)
+    pub opens-stream : {b : rules.Stream} → b ≡ there → {r : ℕ} → r ≡ (if ltb s 32 && isOpen b then 3 else 0)
         → streamOf x ≡ (if ltb s 32 && eqb r 0 then unbound else there)
         → leftAs (streamsOf put) r ≡ openStream (streamsOf self) s
-    opens {b} eb {r} = go (ltb s 32) (ltb-true s 32) (ltb-false s 32) (isOpen b) refl
+    opens-stream {b} eb {r} = go (ltb s 32) (ltb-true s 32) (ltb-false s 32) (isOpen b) refl
       where
         go : (a : Bool) → (a ≡ true → s < 32) → (a ≡ false → 32 ≤ s) → (o : Bool) → isOpen b ≡ o
             → r ≡ (if a && o then 3 else 0) → streamOf x ≡ (if a && eqb r 0 then unbound else there)
@@ -71,11 +71,11 @@ module _ (self : Streams) (size : length (self .streams) ≡ 32) (s : ℕ) where
                 let e : streamOf x ≡ unbound = rw er at ex in
                 ap₂ leftAs (put-in h e) er ∙ open-closed (streamsOf self) s (is h) t
 
-    pub shuts : {b : rules.Stream} → b ≡ streamAt (streamsOf self) s → {r : ℕ} → r ≡ (if isOpen b then 0 else 4)
+    pub closes-stream : {b : rules.Stream} → b ≡ streamAt (streamsOf self) s → {r : ℕ} → r ≡ (if isOpen b then 0 else 4)
         → streamOf x ≡ (if eqb r 0 then closed else there)
         → (n : Notify) → recordsOf n (become (streamsOf self) s closed) ≡ closeRecords (streamsOf self) s
         → record { after = streamsOf put; reason = r; records = recordsOf n (streamsOf put) } ≡ closeStream (streamsOf self) s
-    shuts {b} eb {r} er ex n en = go (isOpen b) refl er ex
+    closes-stream {b} eb {r} er ex n en = go (isOpen b) refl er ex
       where
         go : (o : Bool) → isOpen b ≡ o → r ≡ (if o then 0 else 4) → streamOf x ≡ (if eqb r 0 then closed else there)
             → record { after = streamsOf put; reason = r; records = recordsOf n (streamsOf put) } ≡ closeStream (streamsOf self) s
@@ -85,7 +85,7 @@ module _ (self : Streams) (size : length (self .streams) ≡ 32) (s : ℕ) where
             rw er (closes (streamsOf self) s n 0 (put-in h e) en ∙ close-open (streamsOf self) s eb t)
         go false t er ex =
             let e : streamOf x ≡ there = rw er at ex in
-            rw er (closes (streamsOf self) s n 4 (put-same e ∙ shut (streamsOf self) s eb t) en ∙ close-closed (streamsOf self) s eb t)
+            rw er (closes (streamsOf self) s n 4 (put-same e ∙ closed-already (streamsOf self) s eb t) en ∙ close-closed (streamsOf self) s eb t)
 
     -- the stream and the mark that an ARBITRATE leaves
     module _ (marks : length (self .marks) ≡ 8) (h : Head) (v : ElectionId) where
@@ -103,11 +103,11 @@ module _ (self : Streams) (size : length (self .streams) ≡ 32) (s : ℕ) where
         marks = kept-set idOf (self .marks) (h .role % 8) v unset e i;
       }) ∙ q
 
-      pub arbitrates : (device r : ℕ) → r ≡ arbitrateReason device (streamsOf self) s (headOf h)
+      pub arbitrates-stream : (device r : ℕ) → r ≡ arbitrateReason device (streamsOf self) s (headOf h)
           → streamOf x ≡ (if eqb r 0 then bound (h .role) (idOf (h .id)) else if eqb r 4 then there else closed)
           → idOf v ≡ (if eqb r 0 && ltb (h .role) 8 && ltb (idOf mark) (idOf (h .id)) then idOf (h .id) else idOf mark)
           → streamsOf put-both ≡ arbitrate device (streamsOf self) s (headOf h) .after
-      arbitrates device r er = go (eqb r 0) (eqb-true r 0) (eqb-false r 0) (eqb r 4) (eqb-true r 4) (eqb-false r 4)
+      arbitrates-stream device r er = go (eqb r 0) (eqb-true r 0) (eqb-false r 0) (eqb r 4) (eqb-true r 4) (eqb-false r 4)
         where
           e : rules.Streams
           e = streamsOf self
@@ -120,7 +120,7 @@ module _ (self : Streams) (size : length (self .streams) ≡ 32) (s : ℕ) where
               let zero = z refl in
               let w = reason-within e s device (headOf h) er (λ q. omega arith) (sized self size) in
               rw (mod-eq-of-lt w)
-              (bound-stored self s h (set (self .marks) (h .role % 8) v) x ex (raised-at (self .marks) marks (h .role) (h .id) v ev))
+              (bound-stored self s h (set (self .marks) (h .role % 8) v) x ex (mark-stored (self .marks) marks (h .role) (h .id) v ev))
               ∙ ap (λ (o : rules.Outcome). o .after) (arbitrate-binds e s device (headOf h) (sym zero ∙ er))
           go false z nz true y ny ex ev =
               mark-same ev (put-same ex) ∙ ap (λ (o : rules.Outcome). o .after) (arbitrate-refused e s device (headOf h) (sym (y refl) ∙ er))

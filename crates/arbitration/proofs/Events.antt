@@ -4,11 +4,9 @@ use Prim.Native.Nat.{ℕ}
 use mathlib.Core.Path.{_≡_, refl, sym, ap, _∙_}
 use mathlib.Core.Bool.{true, false}
 use mathlib.Core.List.{[]}
-use lib.Dec.{eqb}
 use lib.ListN.{set}
 use lib.Seq.{set-getD}
 use borrow.Author.Tests.{ne-eqb}
-use Rattle.rules.specs.Bytes.{if_then_else_}
 use Rattle.rules.specs.Reason.{first}
 use Rattle.rules.specs.Frame.{Head}
 use Rattle.rules.specs.Streams.{Stream, closed, unbound, bound, Streams, streamAt, isOpen, notifyAll, become, openStream, closeStream}
@@ -45,15 +43,15 @@ module _ (e : Streams) (s : ℕ) where
   -- ---- CLOSE
 
   -- to close what is closed changes nothing, and notifies nobody
-  pub shut : {x : Stream} → x ≡ streamAt e s → isOpen x ≡ false → e ≡ become e s closed
-  shut {x} h o = λ i. record {
+  pub closed-already : {x : Stream} → x ≡ streamAt e s → isOpen x ≡ false → e ≡ become e s closed
+  closed-already {x} h o = λ i. record {
     streams = (sym (set-getD (e .streams) s closed) ∙ ap (set (e .streams) s) (sym h ∙ not-open x o)) i;
     marks = e .marks;
   }
 
   pub close-closed : {x : Stream} → x ≡ streamAt e s → isOpen x ≡ false → closedUnder e s 4 ≡ closeStream e s
   unfolding closeStream closeRecords first
-  close-closed {x} h o = rw (← h, o, not-open x o, ← shut h o)
+  close-closed {x} h o = rw (← h, o, not-open x o, ← closed-already h o)
 
   pub close-open : {x : Stream} → x ≡ streamAt e s → isOpen x ≡ true → closedUnder e s 0 ≡ closeStream e s
   unfolding closeStream first

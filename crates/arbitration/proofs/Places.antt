@@ -45,8 +45,8 @@ abbrev pub noStream : Stream
 noStream = record { id = unset; phase = 0; role = 0 }
 
 -- the marks after an accepted ARBITRATE of role r with id i, where m are those before
-abbrev pub raised : List ℕ → ℕ → ℕ → List ℕ
-raised m r i = set m r (max (getD m r 0) i)
+abbrev pub marksAfter : List ℕ → ℕ → ℕ → List ℕ
+marksAfter m r i = set m r (max (getD m r 0) i)
 
 max-if : (a b : ℕ) → (if ltb a b then b else a) ≡ max a b
 max-if a b = go (ltb a b) (ltb-true a b) (ltb-false a b)
@@ -57,13 +57,13 @@ max-if a b = go (ltb a b) (ltb-true a b) (ltb-false a b)
 
 -- what the mark at the role modulo 8 becomes
 module _ (ms : List ElectionId) (n : length ms ≡ 8) (r : ℕ) (id v : ElectionId) where
-  pub raised-at : idOf v ≡ (if ltb r 8 && ltb (idOf (getD ms (r % 8) unset)) (idOf id) then idOf id else idOf (getD ms (r % 8) unset))
-      → map idOf (set ms (r % 8) v) ≡ raised (map idOf ms) r (idOf id)
-  raised-at e = map-set idOf ms (r % 8) v ∙ go (ltb r 8) (ltb-true r 8) (ltb-false r 8) e
+  pub mark-stored : idOf v ≡ (if ltb r 8 && ltb (idOf (getD ms (r % 8) unset)) (idOf id) then idOf id else idOf (getD ms (r % 8) unset))
+      → map idOf (set ms (r % 8) v) ≡ marksAfter (map idOf ms) r (idOf id)
+  mark-stored e = map-set idOf ms (r % 8) v ∙ go (ltb r 8) (ltb-true r 8) (ltb-false r 8) e
     where
       go : (b : Bool) → (b ≡ true → r < 8) → (b ≡ false → 8 ≤ r)
           → idOf v ≡ (if b && ltb (idOf (getD ms (r % 8) unset)) (idOf id) then idOf id else idOf (getD ms (r % 8) unset))
-          → set (map idOf ms) (r % 8) (idOf v) ≡ raised (map idOf ms) r (idOf id)
+          → set (map idOf ms) (r % 8) (idOf v) ≡ marksAfter (map idOf ms) r (idOf id)
       go true l g e =
           let q : r % 8 ≡ r = mod-eq-of-lt (l refl) in
           let m : idOf (getD ms (r % 8) unset) ≡ getD (map idOf ms) r 0 =
@@ -121,10 +121,10 @@ stored self k x e = λ i. record {
   marks = map idOf (self .marks);
 }
 
--- a stream bound in place, and the marks with one raised
+-- a stream bound in place, and the marks after it
 pub bound-stored : (self : Streams) (s : ℕ) (h : Head) (ms : List ElectionId) (x : Stream)
     → streamOf x ≡ rules.bound (h .role) (idOf (h .id))
-    → map idOf ms ≡ raised (map idOf (self .marks)) (h .role) (idOf (h .id))
+    → map idOf ms ≡ marksAfter (map idOf (self .marks)) (h .role) (idOf (h .id))
     → streamsOf (record { streams = set (self .streams) s x; marks = ms }) ≡ rules.binds (streamsOf self) s (headOf h)
 unfolding streamsOf rules.binds
 bound-stored self s h ms x e q = λ i. record {

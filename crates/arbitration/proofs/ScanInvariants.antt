@@ -1,15 +1,15 @@
 -- What a scan has found before stream k, with what it has still to pass, is what the whole record shows. Assumes nothing.
 use Prim.Native.Nat.{ℕ, _+_, _%_, _<_, _≤_}
-use native.Mathlib.Nat.{add-zero, mod-eq-of-lt}
+use native.Mathlib.Nat.{mod-eq-of-lt}
 use native.Mathlib.Numerals.{add-one}
 use native.Mathlib.Omega.{arith}
 use mathlib.Core.Path.{_≡_, refl, sym, ap, _∙_}
-use mathlib.Core.Bool.{Bool, true, false, _&&_, _||_, or-assoc, or-false as or-none, and-true as and-unit, and-false as and-none}
+use mathlib.Core.Bool.{Bool, true, false, _&&_, _||_, not, or-assoc, or-false as or-none, and-true as and-unit, and-false as and-none}
 use mathlib.Core.List.{List, [], _∷_, _++_, append-nil}
 use mathlib.Core.Option.{Option, some}
-use lib.Dec.{ltb}
+use lib.Dec.{eqb, ltb}
 use lib.ListN.{length, getD, take, drop, set, List·getD-map, drop-of-length-le}
-use lib.Seq.{drop-cons, append-snoc, take-set-le, take-suc-set}
+use lib.Seq.{drop-cons, append-snoc, take-suc-set}
 use borrow.Author.Tests.{ltb-true, ltb-false, lt-ltb}
 use Rattle.rules.specs.Bytes.{if_then_else_, some-of}
 use Rattle.rules.specs.Streams as rules
@@ -31,6 +31,12 @@ mark-read self n r = go (ltb r 8) (ltb-true r 8) (ltb-false r 8)
         → (if b then idOf (getD (self .marks) (r % 8) unset) else 0) ≡ markOf (streamsOf self) r
     go true p q = rw (mod-eq-of-lt (p refl)) (sym (List·getD-map idOf (self .marks) r unset))
     go false p q = let h : 8 ≤ r = q refl in sym (past-read idOf (self .marks) r 0 (omega arith))
+
+-- so an id that was tested against it was tested against the mark
+pub mark-tested : (self : Streams) → length (self .marks) ≡ 8 → (r i : ℕ) {t : Bool}
+    → t ≡ not (eqb i 0) && eqb i (if ltb r 8 then idOf (getD (self .marks) (r % 8) unset) else 0)
+    → not (eqb i 0) && eqb i (markOf (streamsOf self) r) ≡ t
+mark-tested self n r i e = sym (e ∙ ap (λ (x : ℕ). not (eqb i 0) && eqb i x) (mark-read self n r))
 
 -- the streams that pass a test, from stream k on
 abbrev pub rest : (rules.Stream → Bool) → rules.Streams → ℕ → List ℕ

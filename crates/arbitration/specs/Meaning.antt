@@ -8,7 +8,7 @@ use Rattle.election.specs.declared.Head.{Head}
 use Rattle.election.specs.Meaning.{idOf, headOf, streamOf, roleOr}
 use Rattle.leadership.specs.declared.Scan.{Scan}
 use Rattle.leadership.specs.Meaning.{noticeBy}
-use Rattle.leadership.specs.Scanning.{Shows, leads}
+use Rattle.leadership.specs.Scanning.{ScanOf, leads}
 use Rattle.arbitration.specs.declared.Streams.{Streams}
 use Rattle.arbitration.specs.declared.Notify.{Notify}
 use Rattle.arbitration.specs.declared.Notify.the-variants.{None, Only, All}
@@ -17,7 +17,7 @@ use Rattle.arbitration.specs.declared.Outcome.{Outcome}
 unfoldable pub streamsOf : Streams → rules.Streams
 streamsOf e = record { streams = map streamOf (e .streams); marks = map idOf (e .marks) }
 
--- the records of who is to be notified: nobody, one stream of a leadership, or all streams of a role
+-- the records of who is to be notified: nobody, one stream, with the leadership that its record shows, or all streams of a role
 unfoldable pub recordsOf : Notify → rules.Streams → List (List ℕ)
 recordsOf None e = []
 recordsOf (Only s l) e = noticeBy l s ∷ []
@@ -48,5 +48,5 @@ ClosingOf n r t =
 -- n is who is to be notified of an ARBITRATE of stream s, in every record that the scan shows and on every device where reason is its reason
 abbrev pub AudienceOf : Notify → ℕ → ℕ → Head → Scan → Type 0
 AudienceOf n reason s h scan =
-    (device : ℕ) (e : rules.Streams) → Shows scan e s (h .role) (idOf (h .id)) → reason ≡ rules.arbitrateReason device e s (headOf h)
+    (device : ℕ) (e : rules.Streams) → ScanOf scan e s (h .role) (idOf (h .id)) → reason ≡ rules.arbitrateReason device e s (headOf h)
     → recordsOf n (rules.arbitrate device e s (headOf h) .after) ≡ rules.arbitrate device e s (headOf h) .records

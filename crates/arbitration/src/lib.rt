@@ -7,7 +7,7 @@ ghost use Rattle.rules.specs.Bytes.{concat};
 ghost use Rattle.rules.specs.Streams as rules;
 ghost use Rattle.buffers.specs.Splice.{splice};
 ghost use Rattle.election.specs.Meaning.{idOf, headOf, bindingOf};
-ghost use Rattle.leadership.specs.Scanning.{Shows, LeadershipIn, leads};
+ghost use Rattle.leadership.specs.Scanning.{ScanOf, LeadershipIn, leads};
 ghost use Rattle.arbitration.specs.Meaning.{streamsOf, recordsOf, outcomeOf, ClosingOf, AudienceOf};
 use election::Binding;
 use election::ElectionId;
@@ -23,7 +23,7 @@ pub struct Streams {
     pub marks: [ElectionId; 8],
 }
 
-// Who is to be notified of an event: nobody, one stream of the leadership of its role, or all streams of a role.
+// Who is to be notified of an event: nobody, one stream, with the leadership that its record shows, or all streams of a role.
 pub enum Notify {
     None,
     Only(u8, Leadership),
@@ -238,7 +238,7 @@ impl Streams {
 
     // The one scan of an ARBITRATE.
     fn scan(self, stream: u8, role: u8, id: ElectionId) -> Scan
-        ensures { λ r. ⌜ Shows r (streamsOf self) stream role (idOf id) ⌝ }
+        ensures { λ r. ⌜ ScanOf r (streamsOf self) stream role (idOf id) ⌝ }
     {
         let at = (stream % 32) as usize;
         let kept = self.streams[at];

@@ -8,23 +8,29 @@ use mathlib.Core.Option.{Option, none}
 use lib.Dec.{eqb, ltb}
 use lib.ListN.{length, getD, set, List·getD-eq-default}
 use lib.Seq.{set-out, set-getD, getD-set-same}
-use borrow.Author.Tests.{eqb-true, eqb-false, eq-eqb, ne-eqb, ltb-true, ltb-false}
+use borrow.Author.Tests.{eqb-true, eqb-false, eq-eqb, ne-eqb, ltb-true, ltb-false, not-true}
 use Rattle.rules.specs.Bytes.{if_then_else_, some-of}
 use Rattle.rules.specs.Frame.{Head}
 use Rattle.rules.specs.Streams.{bound, Streams, streamAt, holds, numbers, head, is, markOf, primary, heldElsewhere}
 use Rattle.rules.specs.Streams.{binds, sameOption, samePair}
-use Rattle.rules.proofs.Tests.{clash, and-false, both-true}
+use Rattle.rules.proofs.Tests.{clash, and-true, and-false, both-true}
 use Rattle.leadership.proofs.FirstPassing.{other, not-passing, passes-no-more, passes-alone}
 
 -- ---- the primary, by the mark
 
-pub unset-primary : (e : Streams) (r : ℕ) → markOf e r ≡ 0 → none ≡ primary e r
+unset-primary : (e : Streams) (r : ℕ) → markOf e r ≡ 0 → none ≡ primary e r
 unfolding primary
 unset-primary e r z = rw z
 
-pub set-primary : (e : Streams) (r : ℕ) {m : ℕ} → markOf e r ≡ m → eqb m 0 ≡ false → head (numbers (holds r m) 0 (e .streams)) ≡ primary e r
+set-primary : (e : Streams) (r : ℕ) {m : ℕ} → markOf e r ≡ m → eqb m 0 ≡ false → head (numbers (holds r m) 0 (e .streams)) ≡ primary e r
 unfolding primary
 set-primary e r z t = rw (z, t)
+
+-- an id that is set and the mark: the primary is its first holder
+pub mark-primary : (e : Streams) (r i : ℕ) → not (eqb i 0) && eqb i (markOf e r) ≡ true → head (numbers (holds r i) 0 (e .streams)) ≡ primary e r
+mark-primary e r i t =
+    let q = and-true (not (eqb i 0)) (eqb i (markOf e r)) t in
+    set-primary e r (sym (eqb-true i (markOf e r) (q .1))) (not-true (eqb i 0) (q .0))
 
 -- a stream with another id than the mark is not the primary
 other-id : (e : Streams) (s : ℕ) {r i : ℕ} → bound r i ≡ streamAt e s → eqb i (markOf e r) ≡ false → false ≡ is s (primary e r)

@@ -11,7 +11,7 @@ use Rattle.leadership.specs.declared.Scan.{Scan}
 use Rattle.leadership.specs.Meaning.{primaryOf, numbered}
 
 -- the scan shows the record e to stream s, which asks for role r with id i
-pub record Shows (scan : Scan) (e : rules.Streams) (s r i : ℕ) : Type 0 where
+pub record ScanOf (scan : Scan) (e : rules.Streams) (s r i : ℕ) : Type 0 where
   pub streams : length (e .streams) ≡ 32
   pub marks : length (e .marks) ≡ 8
   pub own : bindingOf (scan .own) ≡ rules.streamAt e s
@@ -24,7 +24,7 @@ pub record Shows (scan : Scan) (e : rules.Streams) (s r i : ℕ) : Type 0 where
 -- n is the reason of an ARBITRATE in every record that the scan shows
 abbrev pub ReasonOf : ℕ → ℕ → Head → Scan → Type 0
 ReasonOf n device h scan =
-    (e : rules.Streams) (s : ℕ) → Shows scan e s (h .role) (idOf (h .id)) → n ≡ rules.arbitrateReason device e s (headOf h)
+    (e : rules.Streams) (s : ℕ) → ScanOf scan e s (h .role) (idOf (h .id)) → n ≡ rules.arbitrateReason device e s (headOf h)
 
 -- l is the leadership of its role in e
 pub record LeadershipIn (l : Leadership) (e : rules.Streams) : Type 0 where
@@ -34,7 +34,7 @@ pub record LeadershipIn (l : Leadership) (e : rules.Streams) : Type 0 where
 -- l is the leadership of the scan's role in every record that the scan shows
 pub record LeadershipOf (l : Leadership) (scan : Scan) : Type 0 where
   pub role : l .role ≡ scan .role
-  pub shown : (e : rules.Streams) (s r i : ℕ) → Shows scan e s r i → LeadershipIn l e
+  pub shown : (e : rules.Streams) (s r i : ℕ) → ScanOf scan e s r i → LeadershipIn l e
 
 -- whether stream s, which is x, is the primary of its role
 abbrev pub leads : rules.Streams → ℕ → rules.Stream → Bool
@@ -44,10 +44,10 @@ leads e s (rules.bound r i) = rules.is s (rules.primary e r)
 
 -- t says whether stream s is the primary of its role, in every record that the scan shows
 abbrev pub LeadsOf : Bool → ℕ → Scan → Type 0
-LeadsOf t s scan = (e : rules.Streams) (r i : ℕ) → Shows scan e s r i → t ≡ leads e s (bindingOf (scan .own))
+LeadsOf t s scan = (e : rules.Streams) (r i : ℕ) → ScanOf scan e s r i → t ≡ leads e s (bindingOf (scan .own))
 
 -- t says whether an accepted ARBITRATE of stream s leaves the pair of its role the same, in every record that the scan shows
 abbrev pub KeepsOf : Bool → ℕ → Head → Scan → Type 0
 KeepsOf t s h scan =
-    (device : ℕ) (e : rules.Streams) → Shows scan e s (h .role) (idOf (h .id)) → 0 ≡ rules.arbitrateReason device e s (headOf h)
+    (device : ℕ) (e : rules.Streams) → ScanOf scan e s (h .role) (idOf (h .id)) → 0 ≡ rules.arbitrateReason device e s (headOf h)
     → t ≡ rules.samePair e (rules.binds e s (headOf h)) (h .role)

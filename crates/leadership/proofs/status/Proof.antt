@@ -1,4 +1,4 @@
--- Right because the arm of a primary is told its stream. Assumes nothing.
+-- Right because the arm of a primary is given its stream. Assumes nothing.
 use borrow.Author.Tests.{eq-eqb, ne-eqb}
 use borrow.Author.Needs.{needs}
 use Rattle.leadership.proofs.status.Statement.{statement}

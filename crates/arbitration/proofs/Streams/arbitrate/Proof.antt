@@ -6,7 +6,7 @@ use Rattle.election.specs.Meaning.{headOf}
 use Rattle.arbitration.specs.Meaning.{streamsOf}
 use Rattle.rules.proofs.Lists.{length-mapped}
 use Rattle.arbitration.proofs.Events.{arbitrate-leaves}
-use Rattle.arbitration.proofs.EventStores.{arbitrates}
+use Rattle.arbitration.proofs.EventStores.{arbitrates-stream}
 use Rattle.arbitration.proofs.Streams.arbitrate.Statement.{statement}
 use Rattle.arbitration.proofs.Streams.arbitrate.Tie as tie
 
@@ -73,7 +73,7 @@ returns c =
     let w = v .scan .ensures in
     let p = d .reason .ensures e (a .stream) w in
     arbitrate-leaves e (a .stream) (a .device) (headOf (a .head)) (t .audience .result)
-    (arbitrates (a .self) (size i) (a .stream) (x .after-arbitrate .result) (marks i) (a .head) (c .mark-after .result) (a .device)
+    (arbitrates-stream (a .self) (size i) (a .stream) (x .after-arbitrate .result) (marks i) (a .head) (c .mark-after .result) (a .device)
     (d .reason .result) p (x .after-arbitrate .ensures) (c .mark-after .ensures))
     p (t .audience .ensures (a .device) e w p)
 

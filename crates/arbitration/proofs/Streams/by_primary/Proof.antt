@@ -1,19 +1,19 @@
 -- Right because the primary of a role whose mark is set is the first stream that holds it. Assumes nothing.
 use Prim.Native.Nat.{ℕ, _-_, _≤_}
-use mathlib.Core.Path.{_≡_, refl, sym, ap, _∙_}
+use mathlib.Core.Path.{_≡_, refl, sym, _∙_}
 use mathlib.Core.Bool.{Bool, true, false, _&&_, not, and-true as and-all}
 use mathlib.Core.Option.{Option}
 use lib.Dec.{eqb}
 use lib.ListN.{length}
-use borrow.Author.Tests.{eqb-true, not-true, not-false}
+use borrow.Author.Tests.{not-true, not-false}
 use borrow.Author.Needs.{needs}
 use Rattle.rules.specs.Streams.{Streams, holds, numbers, head, markOf, primary, isSome, byPrimary}
 use Rattle.rules.proofs.Tests.{and-true}
 use Rattle.rules.proofs.Lists.{length-mapped}
 use Rattle.election.specs.Meaning.{idOf}
-use Rattle.leadership.proofs.PairKept.{set-primary}
+use Rattle.leadership.proofs.PairKept.{mark-primary}
 use Rattle.arbitration.specs.Meaning.{streamsOf}
-use Rattle.arbitration.proofs.ScanInvariants.{mark-read, First, first-none, first-hit, first-same, first-all}
+use Rattle.arbitration.proofs.ScanInvariants.{mark-tested, First, first-none, first-hit, first-same, first-all}
 use Rattle.arbitration.proofs.Streams.by_primary.Statement.{statement}
 use Rattle.arbitration.proofs.Streams.by_primary.Tie as tie
 
@@ -40,26 +40,20 @@ mark-held : (e : Streams) (r i : ℕ) {o : Option ℕ} → not (eqb i 0) && eqb 
     → o ≡ head (numbers (holds r i) 0 (e .streams)) → isSome o ≡ byPrimary e r i
 unfolding byPrimary
 mark-held e r i {o} t h =
+    let p = h ∙ mark-primary e r i t in
     let q = and-true (not (eqb i 0)) (eqb i (markOf e r)) t in
-    let p = h ∙ set-primary e r (sym (eqb-true i (markOf e r) (q .1))) (not-true (eqb i 0) (q .0)) in
     rw (← p, q .0, q .1) (sym (and-all (isSome o)))
-
--- whether the id is set and the mark
-tested : (c : tie.After-is-mark Inv-loop μ-loop) → let a = c .before .before .args in
-    (not (eqb (idOf (a .id)) 0) && eqb (idOf (a .id)) (markOf (streamsOf (a .t1)) (a .role))) ≡ c .is-mark .result
-tested c =
-    let t = c .before .before in
-    let a = t .args in
-    let m = mark-read (a .t1) (marks t) (a .role) in
-    sym (c .is-mark .ensures ∙ ap (λ (x : ℕ). not (eqb (idOf (a .id)) 0) && eqb (idOf (a .id)) x) m)
 
 found : (c : tie.Else1 Inv-loop μ-loop) {o : Option ℕ} → let a = c .before .before .before .args in
     let e = streamsOf (a .t1) in
     o ≡ head (numbers (holds (a .role) (idOf (a .id))) 0 (e .streams)) → isSome o ≡ byPrimary e (a .role) (idOf (a .id))
-found c q =
-    let i = c .before in
-    let a = i .before .before .args in
-    mark-held (streamsOf (a .t1)) (a .role) (idOf (a .id)) (tested i ∙ not-false (i .is-mark .result) (c .if1 .left)) q
+found c h =
+    let m = c .before in
+    let t = m .before .before in
+    let a = t .args in
+    let i = idOf (a .id) in
+    let q = mark-tested (a .t1) (marks t) (a .role) i (m .is-mark .ensures) ∙ not-false (m .is-mark .result) (c .if1 .left) in
+    mark-held (streamsOf (a .t1)) (a .role) i q h
 
 cast-place : tie.Need-cast-place Inv-loop μ-loop
 cast-place c = search needs
@@ -76,11 +70,13 @@ is-mark-requires c κs = search needs
 returns : tie.Need-returns Inv-loop μ-loop
 unfolding byPrimary
 returns c =
-    let i = c .before in
-    let a = i .before .before .args in
+    let m = c .before in
+    let t = m .before .before in
+    let a = t .args in
     let e = streamsOf (a .t1) in
-    not-mark (not (eqb (idOf (a .id)) 0)) (isSome (primary e (a .role))) (eqb (idOf (a .id)) (markOf e (a .role)))
-    (tested i ∙ not-true (i .is-mark .result) (c .if1 .taken))
+    let i = idOf (a .id) in
+    not-mark (not (eqb i 0)) (isSome (primary e (a .role))) (eqb i (markOf e (a .role)))
+    (mark-tested (a .t1) (marks t) (a .role) i (m .is-mark .ensures) ∙ not-true (m .is-mark .result) (c .if1 .taken))
 
 loop-holds : tie.Need-loop-holds Inv-loop μ-loop
 loop-holds c =

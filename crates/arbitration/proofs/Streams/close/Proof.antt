@@ -8,7 +8,7 @@ use Rattle.arbitration.specs.Meaning.{streamsOf}
 use Rattle.rules.proofs.Lists.{length-mapped}
 use Rattle.arbitration.proofs.Places.{read-at}
 use Rattle.arbitration.proofs.Events.{own-role}
-use Rattle.arbitration.proofs.EventStores.{shuts}
+use Rattle.arbitration.proofs.EventStores.{closes-stream}
 use Rattle.arbitration.proofs.Streams.close.Statement.{statement}
 use Rattle.arbitration.proofs.Streams.close.Tie as tie
 
@@ -63,7 +63,7 @@ returns c =
     let a = b .before .before .args in
     let x = bindingOf (b .binding-of .result) in
     let q : roleOr (o .role-or .result) x ≡ o .role-or .result = rw (o .role-or .ensures) (own-role x 0) in
-    shuts (a .t1) (size b) (a .stream) (c .after-close .result) (as-is b) (r .close-reason .ensures) (c .after-close .ensures)
+    closes-stream (a .t1) (size b) (a .stream) (c .after-close .result) (as-is b) (r .close-reason .ensures) (c .after-close .ensures)
     (n .closing-audience .result) (n .closing-audience .ensures (streamsOf (a .t1)) (a .stream) x (as-is b) q (l .leads .ensures))
 
 pub close-spec : {M : Type 1} → statement M

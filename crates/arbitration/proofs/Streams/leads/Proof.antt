@@ -1,20 +1,17 @@
 -- Right because the primary is the first holder of a mark that is set: another id, or an unset one, is not the primary's. Assumes nothing.
 use Prim.Native.Nat.{ℕ, _-_, _≤_}
 use mathlib.Core.Path.{_≡_, sym, ap, _∙_}
-use mathlib.Core.Bool.{_&&_, not}
 use mathlib.Core.Option.{Option}
-use lib.Dec.{eqb}
 use lib.ListN.{length}
-use borrow.Author.Tests.{eqb-true, not-true, not-false}
+use borrow.Author.Tests.{not-true, not-false}
 use borrow.Author.Needs.{needs}
-use Rattle.rules.specs.Streams.{bound, streamAt, holds, numbers, head, is, markOf}
-use Rattle.rules.proofs.Tests.{and-true}
+use Rattle.rules.specs.Streams.{bound, streamAt, holds, numbers, head, is}
 use Rattle.rules.proofs.Lists.{length-mapped}
 use Rattle.election.specs.Meaning.{idOf, bindingOf}
 use Rattle.leadership.specs.Scanning.{leads}
-use Rattle.leadership.proofs.PairKept.{set-primary, not-primary}
+use Rattle.leadership.proofs.PairKept.{mark-primary, not-primary}
 use Rattle.arbitration.specs.Meaning.{streamsOf}
-use Rattle.arbitration.proofs.ScanInvariants.{mark-read, First, first-none, first-hit, first-same, first-all}
+use Rattle.arbitration.proofs.ScanInvariants.{mark-tested, First, first-none, first-hit, first-same, first-all}
 use Rattle.arbitration.proofs.Streams.leads.Statement.{statement}
 use Rattle.arbitration.proofs.Streams.leads.Tie as tie
 
@@ -38,18 +35,7 @@ bound-is : (c : tie.After-binding Inv-loop μ-loop) → let t = c .before .befor
     bound (c .binding .given .0 .0) (idOf (c .binding .given .0 .1 .0)) ≡ streamAt (streamsOf (t .args .t1)) (t .args .stream)
 bound-is c = ap bindingOf (sym (c .binding .given .1)) ∙ c .before .before .pre
 
--- whether the id is set and the mark
-tested : (c : tie.After-is-mark Inv-loop μ-loop) → let b = c .before .before .before in
-    let i = idOf (b .binding .given .0 .1 .0) in
-    (not (eqb i 0) && eqb i (markOf (streamsOf (b .before .before .args .t1)) (b .binding .given .0 .0))) ≡ c .is-mark .result
-tested c =
-    let b = c .before .before .before in
-    let t = b .before .before in
-    let i = idOf (b .binding .given .0 .1 .0) in
-    let m = mark-read (t .args .t1) (marks t) (b .binding .given .0 .0) in
-    sym (c .is-mark .ensures ∙ ap (λ (x : ℕ). not (eqb i 0) && eqb i x) m)
-
--- where it is, the first that holds it is the primary
+-- where its id is set and the mark, the first that holds it is the primary
 found : (c : tie.Else1 Inv-loop μ-loop) {o : Option ℕ} → let b = c .before .before .before .before in
     let e = streamsOf (b .before .before .args .t1) in
     o ≡ head (numbers (holds (b .binding .given .0 .0) (idOf (b .binding .given .0 .1 .0))) 0 (e .streams))
@@ -57,13 +43,12 @@ found : (c : tie.Else1 Inv-loop μ-loop) {o : Option ℕ} → let b = c .before 
 found c h =
     let m = c .before in
     let b = m .before .before .before in
-    let a = b .before .before .args in
-    let e = streamsOf (a .t1) in
+    let t = b .before .before in
+    let a = t .args in
     let r = b .binding .given .0 .0 in
     let i = idOf (b .binding .given .0 .1 .0) in
-    let q = and-true (not (eqb i 0)) (eqb i (markOf e r)) (tested m ∙ not-false (m .is-mark .result) (c .if1 .left)) in
-    rw (b .binding .given .1)
-    (ap (is (a .stream)) (h ∙ set-primary e r (sym (eqb-true i (markOf e r) (q .1))) (not-true (eqb i 0) (q .0))))
+    let q = mark-tested (a .t1) (marks t) r i (m .is-mark .ensures) ∙ not-false (m .is-mark .result) (c .if1 .left) in
+    rw (b .binding .given .1) (ap (is (a .stream)) (h ∙ mark-primary (streamsOf (a .t1)) r i q))
 
 enum-told : tie.Need-enum-told Inv-loop μ-loop
 enum-told c = search needs
@@ -90,9 +75,12 @@ returns : tie.Need-returns Inv-loop μ-loop
 returns c =
     let m = c .before in
     let b = m .before .before .before in
-    let a = b .before .before .args in
-    let t = tested m ∙ not-true (m .is-mark .result) (c .if1 .taken) in
-    rw (b .binding .given .1) (not-primary (streamsOf (a .t1)) (a .stream) (bound-is b) t)
+    let t = b .before .before in
+    let a = t .args in
+    let r = b .binding .given .0 .0 in
+    let i = idOf (b .binding .given .0 .1 .0) in
+    let q = mark-tested (a .t1) (marks t) r i (m .is-mark .ensures) ∙ not-true (m .is-mark .result) (c .if1 .taken) in
+    rw (b .binding .given .1) (not-primary (streamsOf (a .t1)) (a .stream) (bound-is b) q)
 
 loop-holds : tie.Need-loop-holds Inv-loop μ-loop
 loop-holds c =

@@ -4,7 +4,7 @@ use lib.ListN.{length}
 use borrow.Author.Needs.{needs}
 use Rattle.arbitration.specs.Meaning.{recordsOf}
 use Rattle.rules.proofs.Lists.{length-mapped}
-use Rattle.arbitration.proofs.EventStores.{opens}
+use Rattle.arbitration.proofs.EventStores.{opens-stream}
 use Rattle.arbitration.proofs.Streams.open.Statement.{statement}
 use Rattle.arbitration.proofs.Streams.open.Tie as tie
 
@@ -39,7 +39,7 @@ returns c =
     let b = o .before in
     let a = b .before .before .args in
     let n : length (a .t1 .streams) ≡ 32 = search (needs, length-mapped) in
-    opens (a .t1) n (a .stream) (c .after-open .result) (b .binding .ensures) (o .open-reason .ensures) (c .after-open .ensures)
+    opens-stream (a .t1) n (a .stream) (c .after-open .result) (b .binding .ensures) (o .open-reason .ensures) (c .after-open .ensures)
 
 pub open-spec : {M : Type 1} → statement M
 open-spec =

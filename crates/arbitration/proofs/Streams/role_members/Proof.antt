@@ -1,5 +1,5 @@
--- Right because what the walk has listed and found, with what is left of the streams, is what the whole record shows. Assumes nothing.
-use Prim.Native.Nat.{ℕ, _+_, _-_, _≤_}
+-- Right because what the scan has listed and found, with what is left of the streams, is what the whole record shows. Assumes nothing.
+use Prim.Native.Nat.{_-_, _≤_}
 use native.Mathlib.Omega.{arith}
 use mathlib.Core.Path.{_≡_, refl, sym, ap, _∙_}
 use mathlib.Core.Logic.{⊎-elim}

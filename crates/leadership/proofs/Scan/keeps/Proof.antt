@@ -1,7 +1,6 @@
 -- Right because the scan shows the mark and its first holder, and each way out is one way that the pair can go. Assumes nothing.
 use mathlib.Core.Path.{_≡_, sym, ap, _∙_}
 use mathlib.Core.Bool.{Bool, false, _&&_, not}
-use mathlib.Core.Option.{Option}
 use Prim.Native.Nat.{ℕ, _≤_, _<_}
 use native.Mathlib.Omega.{arith}
 use lib.Dec.{eqb, ltb}
@@ -13,8 +12,7 @@ use Rattle.rules.specs.Streams.{holds, numbers, head, markOf, heldElsewhere}
 use Rattle.election.specs.declared.Head.{Head}
 use Rattle.election.specs.Meaning.{idOf, headOf}
 use Rattle.leadership.specs.declared.Scan.{Scan}
-use Rattle.leadership.specs.Meaning.{numbered}
-use Rattle.leadership.specs.Scanning.{Shows}
+use Rattle.leadership.specs.Scanning.{ScanOf}
 use Rattle.leadership.proofs.FirstPassing.{is-numbered}
 use Rattle.leadership.proofs.ArbitrateReason.{reason-within, accepted-role, accepted-alone}
 use Rattle.leadership.proofs.PairKept.{pair-unset, pair-raised, pair-holder, pair-other}
@@ -29,7 +27,7 @@ record Accepted (scan : Scan) (e : rules.Streams) (s : ℕ) (h : Head) : Type 0 
   mark : idOf (scan .mark) ≡ markOf e (h .role)
   holder : eqb (scan .holder) s ≡ rules.is s (head (numbers (holds (h .role) (markOf e (h .role))) 0 (e .streams)))
 
-accepted : (scan : Scan) (h : Head) (s device : ℕ) (e : rules.Streams) → Shows scan e s (h .role) (idOf (h .id))
+accepted : (scan : Scan) (h : Head) (s device : ℕ) (e : rules.Streams) → ScanOf scan e s (h .role) (idOf (h .id))
     → 0 ≡ rules.arbitrateReason device e s (headOf h) → Accepted scan e s h
 accepted scan h s device e w z =
     let r : scan .role ≡ h .role = w .role ∙ accepted-role e s device (headOf h) z (w .own) in

@@ -1,18 +1,16 @@
 -- Right because a bound stream is the primary where the mark is set and it is the mark's first holder. Assumes nothing.
 use Prim.Native.Nat.{ℕ, _<_}
-use mathlib.Core.Path.{_≡_, refl, sym, ap, ap₂, _∙_}
+use mathlib.Core.Path.{_≡_, refl, sym, ap, _∙_}
 use mathlib.Core.Bool.{Bool, true, false, _&&_, not}
 use mathlib.Core.Option.{none}
 use lib.Dec.{eqb}
 use borrow.Author.Needs.{needs}
 use Rattle.rules.specs.Bytes.{if_then_else_}
-use Rattle.rules.specs.Streams as rules
 use Rattle.rules.specs.Streams.{isOpen, is, primary}
 use Rattle.rules.proofs.Tests.{clash}
 use Rattle.election.specs.declared.Binding.{Binding}
 use Rattle.election.specs.Meaning.{idOf, bindingOf, roleOr}
 use Rattle.leadership.specs.Meaning.{numbered}
-use Rattle.leadership.specs.Scanning.{leads}
 use Rattle.leadership.proofs.FirstPassing.{is-numbered}
 use Rattle.leadership.proofs.ArbitrateReason.{within}
 use Rattle.leadership.proofs.Scan.leads.Statement.{statement}

@@ -12,12 +12,12 @@ use Rattle.rules.specs.Reason.{first}
 use Rattle.rules.specs.Streams as rules
 use Rattle.election.specs.declared.Binding.{Binding}
 use Rattle.election.specs.Meaning.{idOf, headOf, bindingOf, roleOr}
-use Rattle.leadership.specs.Scanning.{Shows}
+use Rattle.leadership.specs.Scanning.{ScanOf}
 use Rattle.leadership.proofs.ArbitrateReason.{reason-closed, reason-unbound, reason-bound}
 use Rattle.leadership.proofs.Scan.reason.Statement.{statement}
 use Rattle.leadership.proofs.Scan.reason.Tie as tie
 
-module _ (c : tie.Start) {e : rules.Streams} {s : ℕ} (w : Shows (c .args .self) e s (c .args .head .role) (idOf (c .args .head .id))) {b : Binding}
+module _ (c : tie.Start) {e : rules.Streams} {s : ℕ} (w : ScanOf (c .args .self) e s (c .args .head .role) (idOf (c .args .head .id))) {b : Binding}
     (p : c .args .self .own ≡ b) where
   -- the stream is what the scan shows
   stream-is : bindingOf b ≡ rules.streamAt e s
@@ -31,7 +31,7 @@ module _ (c : tie.Start) {e : rules.Streams} {s : ℕ} (w : Shows (c .args .self
   used-is = w .used ∙ ap (λ (r : ℕ). rules.heldElsewhere e s r (idOf (c .args .head .id))) role-is
 
 unbound-reason : (c : tie.After-address-reason) → let a = c .before .before .before .before .args in
-    (e : rules.Streams) (s : ℕ) → Shows (a .self) e s (a .head .role) (idOf (a .head .id))
+    (e : rules.Streams) (s : ℕ) → ScanOf (a .self) e s (a .head .role) (idOf (a .head .id))
     → (if eqb (c .address-reason .result) 0 then first ((a .self .used, 8) ∷ (leb 8 (a .self .members), 9) ∷ []) else c .address-reason .result)
     ≡ rules.arbitrateReason (a .device) e s (headOf (a .head))
 unbound-reason c e s w =
@@ -43,7 +43,7 @@ unbound-reason c e s w =
     (w .members ∙ ap (λ (r : ℕ). length (rules.members e r)) (role-is t w p))
 
 bound-reason : (c : tie.After-own) → let a = c .before .before .args in
-    (e : rules.Streams) (s : ℕ) → Shows (a .self) e s (a .head .role) (idOf (a .head .id))
+    (e : rules.Streams) (s : ℕ) → ScanOf (a .self) e s (a .head .role) (idOf (a .head .id))
     → first ((not (eqb (a .head .device) (a .device)) || not (eqb (a .head .role) (c .own .given .0 .0)), 7) ∷ (a .self .used, 8) ∷ [])
     ≡ rules.arbitrateReason (a .device) e s (headOf (a .head))
 bound-reason c e s w =
