@@ -123,11 +123,8 @@ command-body =
 abbrev pub take-body : Body
 take-body = assign (place 5 []) (rvOpd (copy (place 16 (variant 0 ∷ field 1 ∷ []))))
 
-abbrev pub frame-body : Body
-frame-body =
-    call #read-frame (copies (2 ∷ [])) (place 16 [])
-    ⨟ switch (copy (place 16 (variant 0 ∷ field 0 ∷ []))) (arm (0 ∷ []) take-body (arm (1 ∷ []) malformed-body noDefault))
-    ⨟ command-body
+abbrev pub switch-body : Body
+switch-body = switch (copy (place 16 (variant 0 ∷ field 0 ∷ []))) (arm (0 ∷ []) take-body (arm (1 ∷ []) malformed-body noDefault)) ⨟ command-body
 
 abbrev pub whole-body : Body
 whole-body =
@@ -135,4 +132,5 @@ whole-body =
     ⨟ assign (place 15 []) (rvOpd (copy (place 4 (field 1 ∷ []))))
     ⨟ call #too-short (copies (14 ∷ 15 ∷ [])) (place 13 [])
     ⨟ cond (copy (place 13 [])) short-body skip
-    ⨟ frame-body
+    ⨟ call #read-frame (copies (2 ∷ [])) (place 16 [])
+    ⨟ switch-body
