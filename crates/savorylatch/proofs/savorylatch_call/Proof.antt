@@ -97,9 +97,9 @@ use Rattle.table_commands.proofs.carry_out.Symbol as tc-def
 use Rattle.table_commands.proofs.carry_out.Met as tc-thm
 use Rattle.savorylatch.proofs.Known.{Known, Stands, number, truth, no-value, fits-in, puts, stands}
 use Rattle.savorylatch.proofs.Locals.{forks, holding, holdings, fulls, copies, storing, There, tyAt, Typed, Held, held, here, allots, started, in-local, at-local, gets, gets-all, sets, sets-last, leaves}
-use Rattle.savorylatch.proofs.Places.{gets-field, gets-tag, gets-payload, copies-field, stores-field, lends}
+use Rattle.savorylatch.proofs.Places.{length-of, gets-field, gets-tag, gets-payload, copies-field, stores-field, lends}
 use Rattle.savorylatch.proofs.Calls.{calls-into}
-use Rattle.savorylatch.proofs.savorylatch_call.Proof.Types.{record-of, device-of, streams-of, configuration-of, tables-of, frame-of, command-of, event-of, pipeline-of, table-of, outcome-of, configured-of, table-outcome-of, Parts, parts, from-parts, outcome-parts, configured-parts, table-outcome-parts, asked, event, pipeline, table}
+use Rattle.savorylatch.proofs.savorylatch_call.Proof.Types.{record-of, device-of, streams-of, configuration-of, tables-of, frame-of, command-of, event-of, pipeline-of, table-of, outcome-of, configured-of, table-outcome-of, device-in-record, streams-in-record, configuration-in-record, tables-in-record, streams-in-outcome, reason-in-outcome, configuration-in-configured, tables-in-configured, tables-in-table-outcome, reason-in-table-outcome, command-in-frame, event-in-command, pipeline-in-command, table-in-command, Parts, parts, from-parts, outcome-parts, configured-parts, table-outcome-parts, asked, event, pipeline, table}
 use Rattle.savorylatch.proofs.savorylatch_call.Proof.Mir.{_⨟_, locals, short-body, malformed-body, stream-body, refused-body, accepted-body, pipeline-body, table-body, end-body, command-body, take-body, switch-body, whole-body}
 use Rattle.savorylatch.proofs.savorylatch_call.Key.{name as #savorylatch·savorylatch-call}
 use Rattle.savorylatch.proofs.savorylatch_call as f
@@ -432,18 +432,18 @@ module _ {M : Type 1} (𝓤 : URA M) (H : Heap 𝓤) (A : Atoms 𝓤) (W : Given
               → At K (Cell h) ST AN (Read y (Stream x)) stream-body (Then end-body q)
           stream-way x stood means =
               let some-space : 644 ≤ length (xa .now) = omega (arith, space) in
-              sets t 10 here ty tt (of-opd t (gets-payload t 10 here ty tt refl refl refl refl refl refl)) (fits-in event-of W stood refl) $
-              copies-field t 0 10 refl here ty tt tt refl refl (fits-in device-of W (p .device) refl) $
-              copies-field t 0 10 refl here ty tt tt refl refl (fits-in streams-of W (p .streams) refl) $
+              sets t 10 here ty tt (of-opd t (gets-payload t 10 here ty tt event-in-command refl)) (fits-in event-of W stood refl) $
+              copies-field t 0 10 refl here ty tt tt device-in-record refl (fits-in device-of W (p .device) refl) $
+              copies-field t 0 10 refl here ty tt tt streams-in-record refl (fits-in streams-of W (p .streams) refl) $
               -- `stream_events::carry_out`
               nothing t $ puts t event-of stood $ puts t streams-of (p .streams) $ puts t device-of (p .device) $ nothing t $
               calls-into t fm sc.ended (sc.clauses 𝓤 H A at-mem run) (callees .stream-carry-out)
               (tt, tt, tt, (h .device, (h .streams, (x, tt))), (device-of .val (h .device) ∷ [], (streams-of .val (h .streams) ∷ [], (event-of .val x ∷ [], tt)))) tt refl (id⊢ 𝓤 (emp 𝓤))
               outcome-of 10 here ty tt refl (gets-all t (21 ∷ 22 ∷ 6 ∷ []) _ 11 here ty tt refl) (λ r _ left. drop t $ drop t $ heard t _ (λ e.
-              stores-field t 0 10 refl here ty tt refl refl (of-opd t (gets-field t 10 here ty tt refl refl refl)) (fits-in streams-of W (outcome-parts r left .0) refl) $
+              stores-field t 0 10 refl here ty tt streams-in-record refl (of-opd t (gets-field t 10 here ty tt streams-in-outcome refl)) (fits-in streams-of W (outcome-parts r left .0) refl) $
               lends t 10 here here ty tt tt tt refl refl refl refl (tt, tt) (tt, (tt, (record { fits = ra .0 }, tt))) $
               responds t _ r left some-space refl (λ ws la out.
-              sets-last t 10 here ty tt (of-opd t (gets-field t 10 here ty tt refl refl refl)) (fits-in (number w8) W (outcome-parts r left .1) refl) $
+              sets-last t 10 here ty tt (of-opd t (gets-field t 10 here ty tt reason-in-outcome refl)) (fits-in (number w8) W (outcome-parts r left .1) refl) $
               exec t C Λ E end-body q $ store-kept t $
               ends t _ (withStreams h (r .streams)) (r .reason) (xs .now) ws end refl
               (record {
@@ -457,10 +457,10 @@ module _ {M : Type 1} (𝓤 : URA M) (H : Heap 𝓤) (A : Atoms 𝓤) (W : Given
               → At K (Cell h) ST AN (Read y (Pipeline x)) pipeline-body (Then end-body q)
           pipeline-way x stood means there =
               let some-space : 4 ≤ length (xa .now) = omega (arith, space) in
-              sets t 10 here ty tt (of-opd t (gets-payload t 10 here ty tt refl refl refl refl refl refl)) (fits-in pipeline-of W stood refl) $
-              copies-field t 0 10 refl here ty tt tt refl refl (fits-in device-of W (p .device) refl) $
-              copies-field t 0 10 refl here ty tt tt refl refl (fits-in streams-of W (p .streams) refl) $
-              copies-field t 0 10 refl here ty tt tt refl refl (fits-in configuration-of W (p .configuration) refl) $
+              sets t 10 here ty tt (of-opd t (gets-payload t 10 here ty tt pipeline-in-command refl)) (fits-in pipeline-of W stood refl) $
+              copies-field t 0 10 refl here ty tt tt device-in-record refl (fits-in device-of W (p .device) refl) $
+              copies-field t 0 10 refl here ty tt tt streams-in-record refl (fits-in streams-of W (p .streams) refl) $
+              copies-field t 0 10 refl here ty tt tt configuration-in-record refl (fits-in configuration-of W (p .configuration) refl) $
               refuses t _ x p stood there refl (λ n number-n refused.
               lends t 10 here here ty tt tt tt refl refl refl refl (tt, tt) (tt, (tt, (record { fits = ra .0 }, tt))) $
               heads t _ n number-n some-space (λ _ j it. gets t j it ty tt refl) tt refl tt refl (λ ws la out.
@@ -475,8 +475,8 @@ module _ {M : Type 1} (𝓤 : URA M) (H : Heap 𝓤) (A : Atoms 𝓤) (W : Given
               }))
               (λ zero.
               configures t _ x stood there refl (λ r left done.
-              stores-field t 0 10 refl here ty tt refl refl (of-opd t (gets-field t 10 here ty tt refl refl refl)) (fits-in configuration-of W (configured-parts r left .0) refl) $
-              stores-field t 0 10 refl here ty tt refl refl (of-opd t (gets-field t 10 here ty tt refl refl refl)) (fits-in tables-of W (configured-parts r left .1) refl) $
+              stores-field t 0 10 refl here ty tt configuration-in-record refl (of-opd t (gets-field t 10 here ty tt configuration-in-configured refl)) (fits-in configuration-of W (configured-parts r left .0) refl) $
+              stores-field t 0 10 refl here ty tt tables-in-record refl (of-opd t (gets-field t 10 here ty tt tables-in-configured refl)) (fits-in tables-of W (configured-parts r left .1) refl) $
               sets-last t 10 here ty tt (of-opd t (lit t tt)) (fits-in (number w8) W (byte 0 (ltb-true 0 (2 ^ 8) refl)) refl) $
               exec t C Λ E end-body q $ store-kept t $
               ends t _ (withConfiguration h (r .configuration) (r .tables)) 0 (xs .now) ws end refl
@@ -490,13 +490,13 @@ module _ {M : Type 1} (𝓤 : URA M) (H : Heap 𝓤) (A : Atoms 𝓤) (W : Given
           table-way : (x : TableCommand) → Stands table-of x → onTables (tableOf x (xf .now)) ≡ readFrame (xf .now) → OperandsThere x (xf .now)
               → At K (Cell h) ST AN (Read y (Table x)) table-body (Then end-body q)
           table-way x stood means there =
-              sets t 10 here ty tt (of-opd t (gets-payload t 10 here ty tt refl refl refl refl refl refl)) (fits-in table-of W stood refl) $
+              sets t 10 here ty tt (of-opd t (gets-payload t 10 here ty tt table-in-command refl)) (fits-in table-of W stood refl) $
               sets t 10 here ty tt (of-opd t (load t (at-local t ty (hop t (look-in t 10 (in-local t 1 here ty tt refl)) (stop t))) (look-raw t 0 refl))) (fits-in record-of W (from-parts h p) refl) $
               lends t 10 here here ty tt tt tt refl refl refl refl (tt, tt) (tt, (tt, (record { fits = rs .0 }, tt))) $
               lends t 10 here here ty tt tt tt refl refl refl refl (tt, tt) (tt, (tt, (record { fits = ra .0 }, tt))) $
               tables-change t _ x p stood there room space refl (λ r ss ws left ls la handles.
-              stores-field t 0 10 refl here ty tt refl refl (of-opd t (gets-field t 10 here ty tt refl refl refl)) (fits-in tables-of W (table-outcome-parts r left .0) refl) $
-              sets-last t 10 here ty tt (of-opd t (gets-field t 10 here ty tt refl refl refl)) (fits-in (number w8) W (table-outcome-parts r left .1) refl) $
+              stores-field t 0 10 refl here ty tt tables-in-record refl (of-opd t (gets-field t 10 here ty tt tables-in-table-outcome refl)) (fits-in tables-of W (table-outcome-parts r left .0) refl) $
+              sets-last t 10 here ty tt (of-opd t (gets-field t 10 here ty tt reason-in-table-outcome refl)) (fits-in (number w8) W (table-outcome-parts r left .1) refl) $
               exec t C Λ E end-body q $
               ends t _ (withTables h (r .tables)) (r .reason) ss ws end refl
               (record {
@@ -509,25 +509,25 @@ module _ {M : Type 1} (𝓤 : URA M) (H : Heap 𝓤) (A : Atoms 𝓤) (W : Given
           command-way : (x : Command) → Stands command-of x → commandOf x (xf .now) ≡ readFrame (xf .now) → CommandThere x (xf .now)
               → At K (Cell h) ST AN (Read y x) command-body q
           command-way (Stream x) stood means there =
-              first t $ switches-on t (gets-tag t 10 here ty tt refl refl refl refl) $ exec t C Λ E stream-body (Then end-body q) $ stream-way x (event x stood) means
+              first t $ switches-on t (gets-tag t 10 here ty tt event-in-command refl) $ exec t C Λ E stream-body (Then end-body q) $ stream-way x (event x stood) means
           command-way (Pipeline x) stood means there =
-              first t $ switches-on t (gets-tag t 10 here ty tt refl refl refl refl) $ exec t C Λ E pipeline-body (Then end-body q) $ pipeline-way x (pipeline x stood) means there
+              first t $ switches-on t (gets-tag t 10 here ty tt event-in-command refl) $ exec t C Λ E pipeline-body (Then end-body q) $ pipeline-way x (pipeline x stood) means there
           command-way (Table x) stood means there =
-              first t $ switches-on t (gets-tag t 10 here ty tt refl refl refl refl) $ exec t C Λ E table-body (Then end-body q) $ table-way x (table x stood) means there
+              first t $ switches-on t (gets-tag t 10 here ty tt event-in-command refl) $ exec t C Λ E table-body (Then end-body q) $ table-way x (table x stood) means there
 
           frame-way : (x : Frame) → Stands frame-of x → frameOf x (xf .now) ≡ readFrame (xf .now) → FrameThere x (xf .now)
               → At K (Cell h) ST AN (Began y (full (frame-of .val x) ∷ [])) switch-body q
           frame-way Malformed stood means there =
-              first t $ switches-on t (gets-tag t 10 here ty tt refl refl refl refl) $ exec t C Λ E malformed-body (Then command-body q) $ malformed-way t end means
+              first t $ switches-on t (gets-tag t 10 here ty tt command-in-frame refl) $ exec t C Λ E malformed-body (Then command-body q) $ malformed-way t end means
           frame-way (Asks x) stood means there =
-              first t $ switches-on t (gets-tag t 10 here ty tt refl refl refl refl) $ exec t C Λ E take-body (Then command-body q) $
-              sets-last t 10 here ty tt (of-opd t (gets-payload t 10 here ty tt refl refl refl refl refl refl)) (fits-in command-of W (asked x stood) refl) $
+              first t $ switches-on t (gets-tag t 10 here ty tt command-in-frame refl) $ exec t C Λ E take-body (Then command-body q) $
+              sets-last t 10 here ty tt (of-opd t (gets-payload t 10 here ty tt command-in-frame refl)) (fits-in command-of W (asked x stood) refl) $
               exec t C Λ E command-body q $ command-way x (asked x stood) means there
 
     whole-way : {K : Type 0} {q : Post 𝓤 H} → K → Ends-in q → Parts h → At K (Cell h) ST AN (empty ∷ full (vptr b o) ∷ full vf ∷ full vs ∷ full va ∷ []) whole-body q
     whole-way t end p =
-        sets t 10 here ty tt (of-opd t (gets-field t 10 here ty tt refl refl refl)) (tt, record { fits = rs .0 }) $
-        sets t 10 here ty tt (of-opd t (gets-field t 10 here ty tt refl refl refl)) (tt, record { fits = ra .0 }) $
+        sets t 10 here ty tt (of-opd t (gets-field t 10 here ty tt (length-of _) refl)) (tt, record { fits = rs .0 }) $
+        sets t 10 here ty tt (of-opd t (gets-field t 10 here ty tt (length-of _) refl)) (tt, record { fits = ra .0 }) $
         asks-room t _ refl (λ y e. forks t (gets t 10 here ty tt refl)
         (λ short. short-way p y t end (not-true _ (sym e ∙ is-true y short)))
         (λ long. reads t _ refl (λ x stood means there. frame-way p y (not-false _ (sym e ∙ is-false y long)) t _ end x stood means there)))

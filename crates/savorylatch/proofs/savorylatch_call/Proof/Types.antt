@@ -1,5 +1,6 @@
 -- The types that the call's locals have, as plain data of a walk by hand. Right because each has the laws of its kind. Assumes nothing.
-use mir.Syntax.{w8}
+use mathlib.Core.Path.{refl}
+use mir.Syntax.{w8, tyInt}
 use denote.Struct.Laws as SL
 use denote.Enum.Laws as EL
 use Rattle.arbitration.specs.declared.Outcome.{Outcome}
@@ -12,6 +13,7 @@ use Rattle.frames.specs.declared.Frame.the-variants.{Asks}
 use Rattle.memory.specs.declared.Agent.{Agent}
 use Rattle.pipeline.specs.declared.Configured.{Configured}
 use Rattle.table_commands.specs.declared.TableOutcome.{TableOutcome}
+use Rattle.savorylatch.proofs.Places.{Field-of, Variant-of}
 use Rattle.savorylatch.proofs.Known.{Known, Stands, of-struct, of-enum, number}
 use Rattle.arbitration.proofs.Streams as S
 use Rattle.arbitration.proofs.Streams.Laws as S′
@@ -81,6 +83,49 @@ configured-of = of-struct PO.the-type PO′.the-laws PO′.the-plain
 
 abbrev pub table-outcome-of : Known TO.the-row
 table-outcome-of = of-struct TO.the-type TO′.the-laws TO′.the-plain
+
+-- ---- where the parts lie
+pub device-in-record : Field-of A′.mir 0 D′.mir
+device-in-record = record { ν = _; τs = _; d = _; struct = refl; lies = refl }
+
+pub streams-in-record : Field-of A′.mir 1 S′.mir
+streams-in-record = record { ν = _; τs = _; d = _; struct = refl; lies = refl }
+
+pub configuration-in-record : Field-of A′.mir 2 N′.mir
+configuration-in-record = record { ν = _; τs = _; d = _; struct = refl; lies = refl }
+
+pub tables-in-record : Field-of A′.mir 3 B′.mir
+tables-in-record = record { ν = _; τs = _; d = _; struct = refl; lies = refl }
+
+pub streams-in-outcome : Field-of O′.mir 0 S′.mir
+streams-in-outcome = record { ν = _; τs = _; d = _; struct = refl; lies = refl }
+
+pub reason-in-outcome : Field-of O′.mir 1 (tyInt w8)
+reason-in-outcome = record { ν = _; τs = _; d = _; struct = refl; lies = refl }
+
+pub configuration-in-configured : Field-of PO′.mir 0 N′.mir
+configuration-in-configured = record { ν = _; τs = _; d = _; struct = refl; lies = refl }
+
+pub tables-in-configured : Field-of PO′.mir 1 B′.mir
+tables-in-configured = record { ν = _; τs = _; d = _; struct = refl; lies = refl }
+
+pub tables-in-table-outcome : Field-of TO′.mir 0 B′.mir
+tables-in-table-outcome = record { ν = _; τs = _; d = _; struct = refl; lies = refl }
+
+pub reason-in-table-outcome : Field-of TO′.mir 1 (tyInt w8)
+reason-in-table-outcome = record { ν = _; τs = _; d = _; struct = refl; lies = refl }
+
+pub command-in-frame : Variant-of F′.mir 0 C′.mir
+command-in-frame = record { ν = _; τss = _; τs = _; ω = _; d = _; enum = refl; has = refl; tag = refl; payload = refl; fields = refl; lies = refl }
+
+pub event-in-command : Variant-of C′.mir 0 SE′.mir
+event-in-command = record { ν = _; τss = _; τs = _; ω = _; d = _; enum = refl; has = refl; tag = refl; payload = refl; fields = refl; lies = refl }
+
+pub pipeline-in-command : Variant-of C′.mir 1 PC′.mir
+pipeline-in-command = record { ν = _; τss = _; τs = _; ω = _; d = _; enum = refl; has = refl; tag = refl; payload = refl; fields = refl; lies = refl }
+
+pub table-in-command : Variant-of C′.mir 2 TC′.mir
+table-in-command = record { ν = _; τss = _; τs = _; ω = _; d = _; enum = refl; has = refl; tag = refl; payload = refl; fields = refl; lies = refl }
 
 -- ---- what stands has parts that stand
 pub record Parts (k : Agent) : Type 0 where
