@@ -532,5 +532,56 @@ module _ {M : Type 1} (𝓤 : URA M) (H : Heap 𝓤) (A : Atoms 𝓤) (W : Given
         (λ short. short-way p y t end (not-true _ (sym e ∙ is-true y short)))
         (λ long. reads t _ refl (λ x stood means there. frame-way p y (not-false _ (sym e ∙ is-false y long)) t _ end x stood means there)))
 
+  module _ (C : Calls 𝓤 H) (Λ : Loops 𝓤 H) (fm : FmC 𝓤 H (W .laws) C) (callees : Met 𝓤 H A at-mem run C) where
+    walk : Room u8 (length (xf .now)) → Room u8 (length (xs .now)) → Room u8 (length (xa .now))
+        → ent 𝓤 (onEntry 𝓤 H A f.signature (κ₀, (κ₁, (κ₂, (κ₃, tt)))) (q₀, (q₁, (q₂, (q₃, tt)))) a vals) (WpFn 𝓤 H C Λ code.function (vptr b o ∷ vf ∷ vs ∷ va ∷ []) Ends)
+    walk rf rs ra =
+        qed W ((t₀ ⊛ t₁ ⊛ t₂ ⊛ t₃ ⊛ ‵ ftrue) ∷ ‵ (owns (MutRef (named 0) κ₀ A′′.the-row ∷ ShrSlice (named 1) κ₁ u8 ∷ MutSlice (named 2) κ₂ u8 ∷ MutSlice (named 3) κ₃ u8 ∷ []) a vals) ∷ []) ∵
+        enter ! C Λ code.function (vptr b o ∷ vf ∷ vs ∷ va ∷ []) _ $
+        allots ! (code.function .locals) (λ E ty. started ! E (vptr b o ∷ vf ∷ vs ∷ va ∷ []) ty
+        ((tt, tt), ((tt, (tt, (record { fits = rf .0 }, tt))), ((tt, (tt, (record { fits = rs .0 }, tt))), ((tt, (tt, (record { fits = ra .0 }, tt))), tt)))) (
+        -- the tokens and what the parameters own are taken apart
+        move ! (2 ∷ []) $ fsplit ! $ move ! (1 ∷ []) $ fsplit ! $ move ! (1 ∷ []) $ fsplit ! $ move ! (1 ∷ []) $ fsplit ! $
+        move ! (6 ∷ []) $ split ! $ move ! (1 ∷ []) $ split ! $ move ! (1 ∷ []) $ split ! $ move ! (1 ∷ []) $ split ! $ move ! (9 ∷ []) $ fsplit3 ! $ drop ! $
+        keep ! (0 ∷ 1 ∷ 6 ∷ 5 ∷ 4 ∷ 2 ∷ 10 ∷ 9 ∷ 7 ∷ 11 ∷ []) $
+        -- the borrow of the record is opened
+        opens ! tt A′′.the-row {h = h} b o (λ us.
+        spelt ! A′′.the-row (Is A′′.the-row) (shows 𝓤 H A A′′.the-row) (λ k. record-of .val k ∷ []) (record-of .tells) fullShare h us b o $
+        move ! (1 ∷ []) $ facts ! A′′.the-row (Is A′′.the-row) (shows 𝓤 H A A′′.the-row) h (record-of .val h ∷ []) (λ is.
+        whole-way C Λ fm callees rs ra _ E ty ! refl (parts h (record { is = is }))))))
+
+module _ {M : Type 1} (𝓤 : URA M) (H : Heap 𝓤) (A : Atoms 𝓤) (W : Given 𝓤 H A) (at-mem : Memory → SProp 𝓤) (run : Routine → Fun 𝓤) where
+  savorylatch-call-walks : (C : Calls 𝓤 H) (Λ : Loops 𝓤 H) → FmC 𝓤 H (W .laws) C → Met 𝓤 H A at-mem run C
+      → Walks 𝓤 H A f.ended stayed (WpFn 𝓤 H C Λ code.function) (f.clauses 𝓤 H A at-mem run)
+  unfolding Ends
+  savorylatch-call-walks C Λ fm callees =
+      walked 𝓤 H A f.ended stayed (f.clauses 𝓤 H A at-mem run) (WpFn 𝓤 H C Λ code.function) (λ κs. (ptr-vals, (slice-vals, (slice-vals, (slice-vals, tt)))))
+      (λ κs. (mut-tells (named 0) (κs .0) A′′.the-row, (shr-slice-tells (named 1) (κs .1 .0) u8, (mut-slice-tells (named 2) (κs .1 .1 .0) u8, (mut-slice-tells (named 3) (κs .1 .1 .1 .0) u8, tt)))))
+      (λ κs qs bounds a _ are. via 𝓤 _ (fst∗ 𝓤 _ (emp 𝓤))
+      (walk 𝓤 H A W at-mem run (κs .0) (κs .1 .0) (κs .1 .1 .0) (κs .1 .1 .1 .0) bounds (qs .0) (qs .1 .0) (qs .1 .1 .0) (qs .1 .1 .1 .0)
+      (a .0 .ptr .0) (a .0 .ptr .1) (a .0 .name) (a .0 .now) (a .1 .0) (a .1 .1 .0) (a .1 .1 .1 .0) C Λ fm callees (are .1 .0 .0 .1) (are .1 .1 .0 .0 .1) (are .1 .1 .1 .0 .0 .1)))
+
+  savorylatch-call-meets : (𝓣 : Tables 𝓤 H) → Met 𝓤 H A at-mem run (𝓣 .C) → Meets 𝓤 H A f.signature (WpFn 𝓤 H (𝓣 .C) (𝓣 .Λ) code.function) (f.spec 𝓤 H A at-mem run)
+  savorylatch-call-meets 𝓣 callees =
+      walk-meets 𝓤 H A f.ended stayed W
+      (goes-ref 𝓤 H A W 4 0 tt (plain (λ _. A′′.the-row)), (goes-none-slice 𝓤 H A W 4 (1 ∷ []) tt (plain (λ _. u8)) yes,
+      (goes-gave-slice 𝓤 H A W 4 2 tt (plain (λ _. u8)), (goes-gave-slice 𝓤 H A W 4 3 tt (plain (λ _. u8)), tt))))
+      (f.clauses 𝓤 H A at-mem run) (WpFn 𝓤 H (𝓣 .C) (𝓣 .Λ) code.function) (WpFn-mono 𝓤 H (W .laws) 𝓣 code.function)
+      (savorylatch-call-walks (𝓣 .C) (𝓣 .Λ) (fmOf 𝓤 H (W .laws) 𝓣) callees)
+
 pub savorylatch-call-spec : {M : Type 1} → stated.statement M
-savorylatch-call-spec 𝓤 H 𝓜 𝓖 𝓡 = ?
+unfolding code.routine tablesOf
+savorylatch-call-spec 𝓤 H 𝓜 𝓖 𝓡 =
+    entered 𝓤 H (tripleOf 𝓤 H (𝓖 .A) f.signature (f.spec 𝓤 H (𝓖 .A) (𝓜 .mem) (𝓡 .run)))
+    (tables 𝓤 H 𝓜 𝓡 code.env .C) (tables 𝓤 H 𝓜 𝓡 code.env .Λ) #savorylatch·savorylatch-call code.function (code.unfolded 𝓤 H 𝓜 𝓡)
+    (savorylatch-call-meets 𝓤 H (𝓖 .A) (givenOf 𝓤 H 𝓜 𝓖) (𝓜 .mem) (𝓡 .run) (tablesOf 𝓤 H 𝓜 (tables 𝓤 H 𝓜 𝓡 code.env))
+    (record {
+      too-short = cited 𝓤 H (tripleOf 𝓤 H (𝓖 .A) ts.signature (ts.spec 𝓤 H (𝓖 .A) (𝓜 .mem) (𝓡 .run))) 𝓜 𝓡 code.env ts-def.name ts-def.routine code.calls-answers·too-short (ts-thm.met 𝓤 H 𝓜 𝓖 𝓡);
+      write-head = cited 𝓤 H _ 𝓜 𝓡 code.env wh-def.name wh-def.routine code.calls-answers·write-head (wh-thm.met 𝓤 H 𝓜 𝓖 𝓡);
+      read-frame = cited 𝓤 H _ 𝓜 𝓡 code.env rf-def.name rf-def.routine code.calls-frames·read-frame (rf-thm.met 𝓤 H 𝓜 𝓖 𝓡);
+      stream-carry-out = cited 𝓤 H _ 𝓜 𝓡 code.env sc-def.name sc-def.routine code.calls-stream-events·carry-out (sc-thm.met 𝓤 H 𝓜 𝓖 𝓡);
+      respond = cited 𝓤 H _ 𝓜 𝓡 code.env sr-def.name sr-def.routine code.calls-stream-events·respond (sr-thm.met 𝓤 H 𝓜 𝓖 𝓡);
+      refusal = cited 𝓤 H _ 𝓜 𝓡 code.env pr-def.name pr-def.routine code.calls-pipeline·refusal (pr-thm.met 𝓤 H 𝓜 𝓖 𝓡);
+      pipeline-carry-out = cited 𝓤 H _ 𝓜 𝓡 code.env pc-def.name pc-def.routine code.calls-pipeline·carry-out (pc-thm.met 𝓤 H 𝓜 𝓖 𝓡);
+      table-carry-out = cited 𝓤 H _ 𝓜 𝓡 code.env tc-def.name tc-def.routine code.calls-table-commands·carry-out (tc-thm.met 𝓤 H 𝓜 𝓖 𝓡);
+    }))
