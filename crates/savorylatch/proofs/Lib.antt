@@ -1,2 +1,5 @@
--- Rules that the walks of this crate share.
-mod Locals
+-- The rules that the walks share.
+pub mod Known
+pub mod Locals
+pub mod Places
+pub mod Calls
