@@ -54,7 +54,7 @@ use Rattle.answers.proofs.Answers.{head-alone}
 use Rattle.arbitration.specs.Meaning.{streamsOf, outcomeOf}
 use Rattle.arbitration.specs.declared.Outcome.{Outcome}
 use Rattle.calls.specs.Contract as calls
-use Rattle.frames.specs.Meaning.{eventOf, pipelineOf, tableOf, commandOf, frameOf, RowsThere, OperandsThere, CommandThere, FrameThere}
+use Rattle.frames.specs.Meaning.{eventRead, pipelineRead, tableRead, commandRead, frameRead, RowsThere, OperandsThere, CommandThere, FrameThere}
 use Rattle.frames.specs.declared.Command.{Command}
 use Rattle.frames.specs.declared.Command.the-variants.{Stream, Pipeline, Table}
 use Rattle.frames.specs.declared.Frame.{Frame}
@@ -288,13 +288,13 @@ module _ {M : Type 1} (𝓤 : URA M) (H : Heap 𝓤) (A : Atoms 𝓤) (W : Given
 
       -- ---- `read_frame`
       reads : K → {n : Item 𝓤} (ms : List (Option Val)) → holdings (2 ∷ []) ms ≡ fulls (vf ∷ [])
-          → ((x : Frame) → Stands frame-of x → frameOf x (xf .now) ≡ readFrame (xf .now) → FrameThere x (xf .now) → At K c s n (storing 16 (frame-of .val x) ms) rest q)
+          → ((x : Frame) → Stands frame-of x → frameRead x (xf .now) ≡ readFrame (xf .now) → FrameThere x (xf .now) → At K c s n (storing 16 (frame-of .val x) ms) rest q)
           → At K c s n ms (call rf-def.name (copies (2 ∷ [])) (place 16 []) ⨟ rest) q
       reads t ms has go =
           frame-out t $ token t $
           calls-into t fm rf.ended (rf.clauses 𝓤 H A at-mem run) (callees .read-frame) ((κ₁, tt), (q₁, tt), tt, (xf, tt), (vf ∷ [], tt)) tt refl (id⊢ 𝓤 (emp 𝓤))
           frame-of 9 here ty tt refl (gets-all t (2 ∷ []) _ 10 here ty tt has) (λ x _ stood.
-          move t (2 ∷ []) $ use1 W (raw (fact 𝓤 (frameOf x (xf .now) ≡ readFrame (xf .now))) ⊛ raw (fact 𝓤 (FrameThere x (xf .now)))) (id⊢ 𝓤 _) $ split t $
+          move t (2 ∷ []) $ use1 W (raw (fact 𝓤 (frameRead x (xf .now) ≡ readFrame (xf .now))) ⊛ raw (fact 𝓤 (FrameThere x (xf .now)))) (id⊢ 𝓤 _) $ split t $
           heard t _ (λ means. heard t _ (λ there. move t (1 ∷ []) $ drop t $ frame-back t $ go x stood means there)))
 
       -- ---- `write_head`: an answer with no record. Its operands are the reason, 0, and the answer, which was lent on in local l
@@ -325,7 +325,7 @@ module _ {M : Type 1} (𝓤 : URA M) (H : Heap 𝓤) (A : Atoms 𝓤) (W : Given
       refuses : K → {n : Item 𝓤} (ms : List (Option Val)) (x : PipelineCommand) → Parts h → Stands pipeline-of x → RowsThere x (xf .now)
           → holdings (26 ∷ 27 ∷ 28 ∷ 8 ∷ 2 ∷ []) ms
           ≡ fulls (device-of .val (h .device) ∷ streams-of .val (h .streams) ∷ configuration-of .val (h .configuration) ∷ pipeline-of .val x ∷ vf ∷ [])
-          → ((r : ℕ) → Stands (number w8) r → Refuses (controlOf h) (pipelineOf x (xf .now)) r → At K c s n (storing 9 (vint w8 r) ms) rest q)
+          → ((r : ℕ) → Stands (number w8) r → Refuses (controlOf h) (pipelineRead x (xf .now)) r → At K c s n (storing 9 (vint w8 r) ms) rest q)
           → At K c s n ms (call pr-def.name (copies (26 ∷ 27 ∷ 28 ∷ 8 ∷ 2 ∷ [])) (place 9 []) ⨟ rest) q
       refuses t ms x p stood there has go =
           frame-out t $ puts t pipeline-of stood $ puts t configuration-of (p .configuration) $ puts t streams-of (p .streams) $ puts t device-of (p .device) $ token t $
@@ -336,7 +336,7 @@ module _ {M : Type 1} (𝓤 : URA M) (H : Heap 𝓤) (A : Atoms 𝓤) (W : Given
           move t (2 ∷ []) $ heard t _ (λ e. move t (1 ∷ []) $ drop t $ frame-back t $ go r byte e))
 
       configures : K → {n : Item 𝓤} (ms : List (Option Val)) (x : PipelineCommand) → Stands pipeline-of x → RowsThere x (xf .now) → holdings (8 ∷ 2 ∷ []) ms ≡ fulls (pipeline-of .val x ∷ vf ∷ [])
-          → ((r : Configured) → Stands configured-of r → CarriesOut (pipelineOf x (xf .now)) r → At K c s n (storing 10 (configured-of .val r) ms) rest q)
+          → ((r : Configured) → Stands configured-of r → CarriesOut (pipelineRead x (xf .now)) r → At K c s n (storing 10 (configured-of .val r) ms) rest q)
           → At K c s n ms (call pc-def.name (copies (8 ∷ 2 ∷ [])) (place 10 []) ⨟ rest) q
       configures t ms x stood there has go =
           frame-out t $ puts t pipeline-of stood $ token t $
@@ -349,7 +349,7 @@ module _ {M : Type 1} (𝓤 : URA M) (H : Heap 𝓤) (A : Atoms 𝓤) (W : Given
       tables-change : K → (ms : List (Option Val)) (x : TableCommand) → Parts h → Stands table-of x → OperandsThere x (xf .now) → 56320 ≤ length (xs .now) → 57344 ≤ length (xa .now)
           → holdings (33 ∷ 11 ∷ 2 ∷ 35 ∷ 37 ∷ []) ms ≡ fulls (record-of .val h ∷ table-of .val x ∷ vf ∷ vs ∷ va ∷ [])
           → ((r : TableOutcome) (ss ws : List ℕ) → Stands table-outcome-of r → length ss ≡ length (xs .now) → length ws ≡ length (xa .now)
-          → Handles (memory h (xs .now)) (onTables (tableOf x (xf .now))) (xa .now) (result (withTables h (r .tables)) (r .reason) ss ws)
+          → Handles (memory h (xs .now)) (onTables (tableRead x (xf .now))) (xa .now) (result (withTables h (r .tables)) (r .reason) ss ws)
           → At K c (Last xs ss) (Last xa ws) (storing 12 (table-outcome-of .val r) ms) rest q)
           → At K c ST AN ms (call tc-def.name (copies (33 ∷ 11 ∷ 2 ∷ 35 ∷ 37 ∷ [])) (place 12 []) ⨟ rest) q
       tables-change t ms x p stood there room space has go =
@@ -428,7 +428,7 @@ module _ {M : Type 1} (𝓤 : URA M) (H : Heap 𝓤) (A : Atoms 𝓤) (W : Given
 
         module _ {K : Type 0} (t : K) (q : Post 𝓤 H) (end : Ends-in q) where
           -- ---- a stream event
-          stream-way : (x : StreamEvent) → Stands event-of x → onStreams (eventOf x) ≡ readFrame (xf .now)
+          stream-way : (x : StreamEvent) → Stands event-of x → onStreams (eventRead x) ≡ readFrame (xf .now)
               → At K (Cell h) ST AN (Read y (Stream x)) stream-body (Then end-body q)
           stream-way x stood means =
               let some-space : 644 ≤ length (xa .now) = omega (arith, space) in
@@ -447,13 +447,13 @@ module _ {M : Type 1} (𝓤 : URA M) (H : Heap 𝓤) (A : Atoms 𝓤) (W : Given
               exec t C Λ E end-body q $ store-kept t $
               ends t _ (withStreams h (r .streams)) (r .reason) (xs .now) ws end refl
               (record {
-                meets = event-met h (xf .now) (xs .now) (xa .now) long (eventOf x) ws r means e out;
+                meets = event-met h (xf .now) (xs .now) (xa .now) long (eventRead x) ws r means e out;
                 stood = record { device = p .device; streams = outcome-parts r left .0; configuration = p .configuration; tables = p .tables };
                 reason = outcome-parts r left .1; store-long = refl; answer-long = la;
               }))))
 
           -- ---- a pipeline command
-          pipeline-way : (x : PipelineCommand) → Stands pipeline-of x → onPipeline (pipelineOf x (xf .now)) ≡ readFrame (xf .now) → RowsThere x (xf .now)
+          pipeline-way : (x : PipelineCommand) → Stands pipeline-of x → onPipeline (pipelineRead x (xf .now)) ≡ readFrame (xf .now) → RowsThere x (xf .now)
               → At K (Cell h) ST AN (Read y (Pipeline x)) pipeline-body (Then end-body q)
           pipeline-way x stood means there =
               let some-space : 4 ≤ length (xa .now) = omega (arith, space) in
@@ -470,7 +470,7 @@ module _ {M : Type 1} (𝓤 : URA M) (H : Heap 𝓤) (A : Atoms 𝓤) (W : Given
               sets t 10 here ty tt (of-opd t (gets t 10 here ty tt refl)) (fits-in (number w8) W number-n refl) $ store-kept t $
               finish t _ h n (xs .now) ws end refl
               (record {
-                meets = pipeline-refused-met h (xf .now) (xs .now) (xa .now) long (pipelineOf x (xf .now)) ws n means refused out (eqb-false n 0 (not-true (eqb n 0) (is-true _ other)));
+                meets = pipeline-refused-met h (xf .now) (xs .now) (xa .now) long (pipelineRead x (xf .now)) ws n means refused out (eqb-false n 0 (not-true (eqb n 0) (is-true _ other)));
                 stood = p; reason = number-n; store-long = refl; answer-long = la;
               }))
               (λ zero.
@@ -481,13 +481,13 @@ module _ {M : Type 1} (𝓤 : URA M) (H : Heap 𝓤) (A : Atoms 𝓤) (W : Given
               exec t C Λ E end-body q $ store-kept t $
               ends t _ (withConfiguration h (r .configuration) (r .tables)) 0 (xs .now) ws end refl
               (record {
-                meets = pipeline-met h (xf .now) (xs .now) (xa .now) long (pipelineOf x (xf .now)) ws n means refused out (eqb-true n 0 (not-false (eqb n 0) (is-false _ zero))) r done;
+                meets = pipeline-met h (xf .now) (xs .now) (xa .now) long (pipelineRead x (xf .now)) ws n means refused out (eqb-true n 0 (not-false (eqb n 0) (is-false _ zero))) r done;
                 stood = record { device = p .device; streams = p .streams; configuration = configured-parts r left .0; tables = configured-parts r left .1 };
                 reason = byte 0 (ltb-true 0 (2 ^ 8) refl); store-long = refl; answer-long = la;
               })))))
 
           -- ---- a table command
-          table-way : (x : TableCommand) → Stands table-of x → onTables (tableOf x (xf .now)) ≡ readFrame (xf .now) → OperandsThere x (xf .now)
+          table-way : (x : TableCommand) → Stands table-of x → onTables (tableRead x (xf .now)) ≡ readFrame (xf .now) → OperandsThere x (xf .now)
               → At K (Cell h) ST AN (Read y (Table x)) table-body (Then end-body q)
           table-way x stood means there =
               sets t 10 here ty tt (of-opd t (gets-payload t 10 here ty tt table-in-command refl)) (fits-in table-of W stood refl) $
@@ -506,7 +506,7 @@ module _ {M : Type 1} (𝓤 : URA M) (H : Heap 𝓤) (A : Atoms 𝓤) (W : Given
               }))
 
           -- ---- by cases on what was read: a tag is then a numeral, and only the arm that runs is walked
-          command-way : (x : Command) → Stands command-of x → commandOf x (xf .now) ≡ readFrame (xf .now) → CommandThere x (xf .now)
+          command-way : (x : Command) → Stands command-of x → commandRead x (xf .now) ≡ readFrame (xf .now) → CommandThere x (xf .now)
               → At K (Cell h) ST AN (Read y x) command-body q
           command-way (Stream x) stood means there =
               first t $ switches-on t (gets-tag t 10 here ty tt event-in-command refl) $ exec t C Λ E stream-body (Then end-body q) $ stream-way x (event x stood) means
@@ -515,7 +515,7 @@ module _ {M : Type 1} (𝓤 : URA M) (H : Heap 𝓤) (A : Atoms 𝓤) (W : Given
           command-way (Table x) stood means there =
               first t $ switches-on t (gets-tag t 10 here ty tt event-in-command refl) $ exec t C Λ E table-body (Then end-body q) $ table-way x (table x stood) means there
 
-          frame-way : (x : Frame) → Stands frame-of x → frameOf x (xf .now) ≡ readFrame (xf .now) → FrameThere x (xf .now)
+          frame-way : (x : Frame) → Stands frame-of x → frameRead x (xf .now) ≡ readFrame (xf .now) → FrameThere x (xf .now)
               → At K (Cell h) ST AN (Began y (full (frame-of .val x) ∷ [])) switch-body q
           frame-way Malformed stood means there =
               first t $ switches-on t (gets-tag t 10 here ty tt command-in-frame refl) $ exec t C Λ E malformed-body (Then command-body q) $ malformed-way t end means

@@ -19,8 +19,8 @@ use Rattle.arbitration.proofs.Streams as S
 use Rattle.arbitration.proofs.Streams.Laws as S′
 use Rattle.arbitration.proofs.Outcome as O
 use Rattle.arbitration.proofs.Outcome.Laws as O′
-use Rattle.entries.proofs.Tables as B
-use Rattle.entries.proofs.Tables.Laws as B′
+use Rattle.store.proofs.Tables as B
+use Rattle.store.proofs.Tables.Laws as B′
 use Rattle.frames.proofs.Frame as F
 use Rattle.frames.proofs.Frame.Laws as F′
 use Rattle.frames.proofs.Command as C
