@@ -1,3 +1,3 @@
--- Laws of the checks.
-pub mod Alongside
-pub mod Asked
+-- Laws of the checks: slots and parameters walked in order, and a key as it is lent.
+pub mod SlotWalk
+pub mod LentKey

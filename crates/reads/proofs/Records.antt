@@ -22,7 +22,7 @@ use Rattle.buffers.specs.Splice.{splice}
 use Rattle.buffers.proofs.Splice.{splice-none, splice-next, length-splice, length-window, part-copied}
 use Rattle.rows.specs.declared.Rows.{Rows}
 use Rattle.rows.specs.Meaning.{rowOf, rowsOf}
-use Rattle.rows.proofs.Counted.{blank, rows-next, rows-none}
+use Rattle.rows.proofs.RowsWalk.{blank, rows-next, rows-none}
 use Rattle.rules.specs.Sound.{Distinct}
 use Rattle.store.specs.declared.Tables.{Tables as Held}
 use Rattle.store.specs.Store.{entriesIn, tablesIn, place}

@@ -1,5 +1,5 @@
 -- Laws of configuration rows.
 pub mod Bytes
 pub mod Records
-pub mod Counted
+pub mod RowsWalk
 pub mod Reading

@@ -13,7 +13,7 @@ use Rattle.rules.proofs.Tests.{clash}
 use Rattle.rows.specs.declared.Row.{Row}
 use Rattle.rows.specs.Meaning.{rowOf, rowsIn, countsFit}
 use Rattle.rows.proofs.Bytes.{read-all, every-part, every-parts}
-use Rattle.rows.proofs.Counted.{blank}
+use Rattle.rows.proofs.RowsWalk.{blank}
 
 pub fit-read : (rows : List (List ℕ)) → every countsFit rows ≡ true → rowsIn rows ≡ map rules.rowOf rows
 unfolding rowsIn

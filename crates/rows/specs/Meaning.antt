@@ -3,7 +3,7 @@ use mathlib.Core.Bool.{Bool, _&&_}
 use mathlib.Core.List.{List, [], map}
 use Prim.Native.Nat.{ℕ}
 use lib.Dec.{leb}
-use lib.ListN.{take}
+use lib.ListN.{take, getD}
 use Rattle.rules.specs.Bytes.{if_then_else_, every, parts}
 use Rattle.rules.specs.Row as rules
 use Rattle.rows.specs.declared.Field.{Field}
@@ -30,6 +30,10 @@ rowOf r = record {
 -- the rows in force
 unfoldable pub rowsOf : Rows → List rules.Row
 rowsOf c = map rowOf (take (c .count) (c .rows))
+
+-- the row at place i, also past the count; an empty one past the eighth
+unfoldable pub rowAt : Rows → ℕ → rules.Row
+rowAt c i = getD (map rowOf (c .rows)) i rules.noRow
 
 -- of a row's 53 bytes: no count is over 4, so that nothing is left out when it is read
 unfoldable pub countsFit : List ℕ → Bool

@@ -3,11 +3,12 @@ ghost use mathlib.Core.Path.{_≡_};
 ghost use mathlib.Core.Bool.{true, _&&_};
 ghost use mathlib.Core.List.{[]};
 ghost use Prim.Native.Nat.{_+_, _*_, _≤_, _<_};
+ghost use lib.Dec.{ltb};
 ghost use lib.ListN.{length};
 ghost use Rattle.rules.specs.Bytes.{part, parts};
 ghost use Rattle.rules.specs.Call.{unconfigured};
 ghost use Rattle.rules.specs.Row as rules;
-ghost use Rattle.rows.specs.Meaning.{fieldOf, actionOf, rowOf, rowsOf, rowsIn, countsFit};
+ghost use Rattle.rows.specs.Meaning.{fieldOf, actionOf, rowOf, rowsOf, rowAt, rowsIn, countsFit};
 use numbers::integer;
 
 // A match field: a kind and a width in bits.
@@ -218,23 +219,36 @@ impl Rows {
         }
     }
 
-    // The row of a table.
-    pub fn find(self, table: u64) -> Lookup
-        ensures known { λ r. ⌜ r .known ≡ rules.known table (rowsOf self) ⌝ }
-        ensures row { λ r. ⌜ rowOf (r .row) ≡ rules.rowFor table (rowsOf self) ⌝ }
+    // The place of a table's row, 8 where the table is not known.
+    fn position(self, table: u64) -> usize
+        ensures known { λ r. ⌜ ltb r 8 ≡ rules.known table (rowsOf self) ⌝ }
+        ensures row { λ r. ⌜ rowAt self r ≡ rules.rowFor table (rowsOf self) ⌝ }
     {
         let n = self.count as usize;
         let mut i: usize = 0;
         while i < 8 {
             if n <= i {
-                return Lookup::NONE;
+                return 8;
             }
             let row = self.rows[i];
             if row.table as u64 == table {
-                return Lookup { known: true, row };
+                return i;
             }
             i += 1;
         }
-        Lookup::NONE
+        8
+    }
+
+    // The row of a table. It is copied once it is found: a search that hands on rows copies each that it passes.
+    pub fn find(self, table: u64) -> Lookup
+        ensures known { λ r. ⌜ r .known ≡ rules.known table (rowsOf self) ⌝ }
+        ensures row { λ r. ⌜ rowOf (r .row) ≡ rules.rowFor table (rowsOf self) ⌝ }
+    {
+        let place = self.position(table);
+        if 8 <= place {
+            return Lookup::NONE;
+        }
+        let row = self.rows[place];
+        Lookup { known: true, row }
     }
 }

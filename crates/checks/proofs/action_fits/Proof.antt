@@ -11,7 +11,7 @@ use Rattle.rules.specs.Bytes.{parts}
 use Rattle.rules.specs.Value.{fits}
 use Rattle.rules.specs.Key.{alongside}
 use Rattle.rules.proofs.Lists.{length-mapped}
-use Rattle.checks.proofs.Alongside.{counted-next, counted-none, left, left-next, left-none}
+use Rattle.checks.proofs.SlotWalk.{counted-next, counted-none, left, left-next, left-none}
 use borrow.Author.Needs.{needs}
 use Rattle.checks.proofs.action_fits.Statement.{statement}
 use Rattle.checks.proofs.action_fits.Tie as tie

@@ -12,7 +12,7 @@ use Rattle.rules.specs.Bytes.{parts, allZero}
 use Rattle.rules.specs.Value.{isValue}
 use Rattle.rules.specs.Key.{alongsideAll}
 use Rattle.rules.proofs.Lists.{length-mapped}
-use Rattle.checks.proofs.Alongside.{counted-next, counted-none, leftAll, leftAll-next, leftAll-unused, leftAll-none}
+use Rattle.checks.proofs.SlotWalk.{counted-next, counted-none, leftAll, leftAll-next, leftAll-unused, leftAll-none}
 use borrow.Author.Needs.{needs}
 use Rattle.checks.proofs.action_formed.Statement.{statement}
 use Rattle.checks.proofs.action_formed.Tie as tie

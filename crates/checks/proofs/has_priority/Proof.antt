@@ -9,7 +9,7 @@ use Rattle.rules.specs.Bytes.{between, some-of}
 use Rattle.rules.specs.Row as rules
 use Rattle.rows.specs.Meaning.{rowOf}
 use Rattle.rules.proofs.Lists.{length-mapped}
-use Rattle.checks.proofs.Alongside.{noField, fields-next, fields-none}
+use Rattle.checks.proofs.SlotWalk.{noField, fields-next, fields-none}
 use Rattle.checks.proofs.has_priority.Statement.{statement}
 use Rattle.checks.proofs.has_priority.Tie as tie
 

@@ -13,7 +13,7 @@ use Rattle.rules.specs.Key.{slotFits, alongside}
 use Rattle.rules.specs.Row as rules
 use Rattle.rows.specs.Meaning.{rowOf}
 use Rattle.rules.proofs.Lists.{length-mapped}
-use Rattle.checks.proofs.Alongside.{fields-next, fields-none, left, left-next, left-none}
+use Rattle.checks.proofs.SlotWalk.{fields-next, fields-none, left, left-next, left-none}
 use Rattle.checks.proofs.key_fits.Statement.{statement}
 use Rattle.checks.proofs.key_fits.Tie as tie
 

@@ -14,7 +14,7 @@ use Rattle.rules.specs.Key.{slotFormed, alongsideAll}
 use Rattle.rules.specs.Row as rules
 use Rattle.rows.specs.Meaning.{fieldOf, rowOf}
 use Rattle.rules.proofs.Lists.{length-mapped}
-use Rattle.checks.proofs.Alongside.{noField, fields-next, fields-none, leftAll, leftAll-next, leftAll-unused, leftAll-none}
+use Rattle.checks.proofs.SlotWalk.{noField, fields-next, fields-none, leftAll, leftAll-next, leftAll-unused, leftAll-none}
 use Rattle.checks.proofs.key_formed.Statement.{statement}
 use Rattle.checks.proofs.key_formed.Tie as tie
 

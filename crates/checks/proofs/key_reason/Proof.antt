@@ -9,7 +9,7 @@ use Rattle.rules.specs.Bytes.{part}
 use Rattle.rules.specs.Reason.{first}
 use Rattle.rules.specs.Key.{keyFormed, keyFits, keyRules}
 use Rattle.rows.specs.Meaning.{rowOf}
-use Rattle.checks.proofs.Asked.{formed-lent, fits-lent, rules-lent, slots-behind, priority-behind}
+use Rattle.checks.proofs.LentKey.{formed-lent, fits-lent, rules-lent, slots-behind, priority-behind}
 use borrow.Author.Needs.{needs}
 use Rattle.checks.proofs.key_reason.Statement.{statement}
 use Rattle.checks.proofs.key_reason.Tie as tie

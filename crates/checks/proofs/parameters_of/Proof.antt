@@ -12,7 +12,7 @@ use Rattle.rules.specs.Bytes.{if_then_else_}
 use Rattle.rules.specs.Entry.{hasAction, widthsOf}
 use Rattle.rows.specs.Meaning.{rowOf}
 use Rattle.rules.proofs.Lists.{length-mapped}
-use Rattle.checks.proofs.Alongside.{noAction, actions-next, actions-none}
+use Rattle.checks.proofs.SlotWalk.{noAction, actions-next, actions-none}
 use Rattle.checks.proofs.parameters_of.Statement.{statement}
 use Rattle.checks.proofs.parameters_of.Tie as tie
 

@@ -10,7 +10,7 @@ use Rattle.rules.specs.Row.{Row}
 use Rattle.rules.specs.Key.{keyFormed, keyFits, keyRules}
 use Rattle.rules.specs.Entry.{actionFormed, actionFits}
 use Rattle.rows.specs.Meaning.{rowOf}
-use Rattle.checks.proofs.Asked.{formed-lent, fits-lent, rules-lent, action-unknown, action-formed, action-fits}
+use Rattle.checks.proofs.LentKey.{formed-lent, fits-lent, rules-lent, action-unknown, action-formed, action-fits}
 use borrow.Author.Needs.{needs}
 use Rattle.checks.proofs.whole_reason.Statement.{statement}
 use Rattle.checks.proofs.whole_reason.Tie as tie

@@ -4,7 +4,6 @@ use native.Mathlib.Omega.{arith}
 use mathlib.Core.Path.{_≡_, ap, _∙_}
 use mathlib.Core.List.{List}
 use lib.ListN.{length}
-use denote.Ref.{now}
 use Rattle.rules.specs.Key.{shortKey}
 use Rattle.rules.proofs.Shortest.{key-length}
 use Rattle.buffers.specs.Splice.{splice}
@@ -33,14 +32,7 @@ same-length : tie.Need-same-length
 same-length c = search needs
 
 returns : tie.Need-returns
-returns c =
-    let k = c .before .before .before .before in
-    let a = k .before .before .before .before .before .args in
-    let f = c .find in (
-      short-found (f .result) (now (a .key)) (now (a .short)) (k .shorten-key .last .1 .0) (a .tables) (now (a .store)) (k .shorten-key .ensures)
-          (omega arith) (omega arith) (f .ensures .0),
-      f .ensures .1,
-    )
+returns c = (search (needs, short-found), c .find .ensures .1)
 
 pub look-up-spec : {M : Type 1} → statement M
 look-up-spec = tie.close (tie.spec shorten-key-requires find-requires same-length returns)

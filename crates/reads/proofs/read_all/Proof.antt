@@ -9,7 +9,7 @@ use denote.Ref.{now}
 use Rattle.rules.specs.Call.{gathered}
 use Rattle.rows.specs.Meaning.{rowOf, rowsOf}
 use Rattle.rules.proofs.Lists.{length-mapped}
-use Rattle.rows.proofs.Counted.{blank}
+use Rattle.rows.proofs.RowsWalk.{blank}
 use Rattle.store.specs.Store.{tablesIn}
 use Rattle.reads.specs.Read.{Reads}
 use Rattle.reads.proofs.Records.{ReadSoFar, reading-start, reading-gather, reading-end, unread, unread-hit, unread-miss, unread-none}

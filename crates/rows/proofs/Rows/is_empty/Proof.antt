@@ -5,7 +5,7 @@ use lib.ListN.{length}
 use borrow.Author.Needs.{needs}
 use Rattle.rows.specs.Meaning.{rowsOf}
 use Rattle.rules.proofs.Lists.{length-mapped}
-use Rattle.rows.proofs.Counted.{none-within}
+use Rattle.rows.proofs.RowsWalk.{none-within}
 use Rattle.rows.proofs.Rows.is_empty.Statement.{statement}
 use Rattle.rows.proofs.Rows.is_empty.Tie as tie
 
