@@ -5,7 +5,7 @@ use mathlib.Core.List.{List, map}
 use Prim.Native.Nat.{ℕ}
 use lib.Dec.{eqb}
 use Rattle.rules.specs.Bytes.{every, concat, parts}
-use Rattle.rules.specs.Frame.{Update, updateOf}
+use Rattle.rules.specs.Frame.{updateSize, Update, updateOf}
 use Rattle.rules.specs.Update as rules
 use Rattle.rules.specs.Call.{pairOf}
 use Rattle.rules.specs.Sound.{Distinct}
@@ -19,7 +19,7 @@ use Rattle.batches.specs.declared.Written.{Written}
 
 -- the updates of a batch, 221 bytes each
 abbrev pub updatesIn : ℕ → List ℕ → List Update
-updatesIn n us = map updateOf (parts n 221 us)
+updatesIn n us = map updateOf (parts n updateSize us)
 
 -- what the rules make of n updates, by the tables before them: each alone, or by the atomicity
 abbrev pub alone : Rows → ℕ → ℕ → List ℕ → rules.Tables → rules.Batch

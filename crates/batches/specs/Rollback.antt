@@ -4,6 +4,7 @@ use mathlib.Core.List.{List}
 use mathlib.Core.Option.{some}
 use Prim.Native.Nat.{ℕ, zero, suc, _*_, _≤_, _<_}
 use lib.ListN.{length, take}
+use Rattle.rules.specs.Frame.{updateSize}
 use Rattle.rules.specs.Bytes.{part}
 use Rattle.rules.specs.Row.{Row}
 use Rattle.rules.specs.Sound.{Distinct}
@@ -22,7 +23,7 @@ use Rattle.batches.specs.declared.Progress.{Progress}
 
 -- note k of a log, 74 bytes each, with update k, 221 bytes each
 abbrev pub noteAt : ℕ → List ℕ → List ℕ → Note
-noteAt k log us = noteOf (part (74 * k) 74 log) (part (221 * k) 221 us)
+noteAt k log us = noteOf (part (74 * k) 74 log) (part (updateSize * k) updateSize us)
 
 -- with atomicity 1 a log has room for n notes
 abbrev pub NotesFit : ℕ → ℕ → List ℕ → Type 0

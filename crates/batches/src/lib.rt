@@ -4,6 +4,7 @@ ghost use mathlib.Core.List.{map};
 ghost use Prim.Native.Nat.{_+_, _*_, _≤_};
 ghost use lib.Dec.{eqb};
 ghost use lib.ListN.{length, drop};
+ghost use Rattle.rules.specs.Frame.{updateSize};
 ghost use Rattle.rules.specs.Bytes.{if_then_else_, concat};
 ghost use Rattle.rules.specs.Update.{rolledBack};
 ghost use Rattle.rules.specs.Call.{pairOf};
@@ -82,7 +83,7 @@ fn step(
     i: usize,
     answer: &mut [u8],
 ) -> Taken
-    requires { ⌜ Sized tables (now store) × (length (now update) ≡ 221) × NotesFit atomicity (i + 1) (now log) × (2 * i + 2 ≤ length (now answer)) ⌝ }
+    requires { ⌜ Sized tables (now store) × (length (now update) ≡ updateSize) × NotesFit atomicity (i + 1) (now log) × (2 * i + 2 ≤ length (now answer)) ⌝ }
     ensures reason { λ r. ⌜ StepJudged r found role tables (now (store .entry)) (now (update .entry)) ⌝ }
     ensures pair { λ r. ⌜ now (answer .exit) ≡ splice (now (answer .entry)) (2 * i) (pairOf (r .reason)) ⌝ }
     ensures few { λ r. ⌜ r .tables .count ≤ 256 ⌝ }
@@ -117,7 +118,7 @@ fn take(
     log: &mut [u8],
     answer: &mut [u8],
 ) -> Progress
-    requires { ⌜ Sized tables (now store) × (length (now updates) ≡ 221 * n) × (2 * n ≤ length (now answer)) × NotesFit atomicity n (now log) ⌝ }
+    requires { ⌜ Sized tables (now store) × (length (now updates) ≡ updateSize * n) × (2 * n ≤ length (now answer)) × NotesFit atomicity n (now log) ⌝ }
     ensures bound { λ r. ⌜ (r .tables .count ≤ 256) × (r .done ≤ n) ⌝ }
     ensures none { λ r. ⌜ (atomicity ≡ 1 → r .done ≡ n → r .reason ≡ 0) ⌝ }
     ensures left { λ r. ⌜ (r .done ≡ n → StoreLeft (alone rows role n (now (updates .entry))) tables (now (store .entry)) (now (store .exit)) (writtenOf r)) ⌝ }
@@ -129,8 +130,8 @@ fn take(
     let mut failure: u8 = 0;
     let mut i: usize = 0;
     while i < n {
-        let from = 221 * i;
-        let end = from + 221;
+        let from = rules::UPDATE * i;
+        let end = from + rules::UPDATE;
         // the row alone is handed on: a step that was given the rows would copy them
         let found = rows.find(integer(updates, from + 1, 4));
         let taken = step(
@@ -168,7 +169,7 @@ fn take(
 
 // Undoes the first n updates by their notes, the last one first.
 fn roll_back(log: &[u8], updates: &[u8], n: usize, store: &mut [u8], tables: Tables) -> Tables
-    requires { ⌜ Sized tables (now store) × (74 * n ≤ length (now log)) × (221 * n ≤ length (now updates)) ⌝ }
+    requires { ⌜ Sized tables (now store) × (74 * n ≤ length (now log)) × (updateSize * n ≤ length (now updates)) ⌝ }
     ensures { λ r. ⌜ RolledBack n (now (log .entry)) (now (updates .entry)) tables (now (store .entry)) (now (store .exit)) r ⌝ }
 {
     let mut held = tables;
@@ -177,8 +178,8 @@ fn roll_back(log: &[u8], updates: &[u8], n: usize, store: &mut [u8], tables: Tab
         i -= 1;
         let at = 74 * i;
         let end = at + 74;
-        let from = 221 * i;
-        let to = from + 221;
+        let from = rules::UPDATE * i;
+        let to = from + rules::UPDATE;
         held = changes::undo(&log[at..end], &updates[from..to], store, held);
     }
     held
@@ -221,7 +222,7 @@ fn batch_in(
     log: &mut [u8],
     answer: &mut [u8],
 ) -> Written
-    requires { ⌜ Sized tables (now store) × (length (now updates) ≡ 221 * n) × (2 * n ≤ length (now answer)) × NotesFit atomicity n (now log) ⌝ }
+    requires { ⌜ Sized tables (now store) × (length (now updates) ≡ updateSize * n) × (2 * n ≤ length (now answer)) × NotesFit atomicity n (now log) ⌝ }
     ensures left { λ r. ⌜ StoreLeft (ruled atomicity rows role n (now (updates .entry))) tables (now (store .entry)) (now (store .exit)) r ⌝ }
     ensures pairs { λ _. ⌜ Pairs (ruled atomicity rows role n (now (updates .entry))) tables (now (store .entry)) (now (answer .entry)) (now (answer .exit)) ⌝ }
 {
@@ -258,7 +259,7 @@ pub fn batch(
     n: usize,
     answer: &mut [u8],
 ) -> Written
-    requires { ⌜ (tables .count ≤ 256) × (56320 ≤ length (now store)) × (length (now updates) ≡ 221 * n) × (n ≤ 64) × (2 * n ≤ length (now answer)) ⌝ }
+    requires { ⌜ (tables .count ≤ 256) × (56320 ≤ length (now store)) × (length (now updates) ≡ updateSize * n) × (n ≤ 64) × (2 * n ≤ length (now answer)) ⌝ }
     ensures left { λ r. ⌜ StoreLeft (ruled atomicity rows role n (now (updates .entry))) tables (now (store .entry)) (now (store .exit)) r ⌝ }
     ensures pairs { λ _. ⌜ Pairs (ruled atomicity rows role n (now (updates .entry))) tables (now (store .entry)) (now (answer .entry)) (now (answer .exit)) ⌝ }
 {

@@ -4,7 +4,7 @@ use Prim.Native.Nat.{ℕ}
 use lib.ListN.{drop}
 use Rattle.rules.specs.Entry.{shortEntry}
 use Rattle.rules.specs.Bytes.{byte}
-use Rattle.rules.specs.Frame.{updateOf}
+use Rattle.rules.specs.Frame.{keySize, updateOf}
 use Rattle.rules.specs.Update.{apply}
 use Rattle.rules.specs.Sound.{Distinct}
 use Rattle.store.specs.declared.Tables.{Tables}
@@ -17,7 +17,7 @@ use Rattle.judging.specs.declared.Verdict.the-variants.{Refused, Insert, Modify
 abbrev pub effect : Verdict → List ℕ → List (List ℕ) → List (List ℕ)
 effect (Refused r) e es = es
 effect Insert e es = es ++ (shortEntry e ∷ [])
-effect (Modify i) e es = changedAt i (drop 148 (shortEntry e)) es
+effect (Modify i) e es = changedAt i (drop keySize (shortEntry e)) es
 effect (Delete i) e es = without i es
 
 -- so much is left of a store by doing it

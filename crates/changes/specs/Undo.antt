@@ -5,6 +5,7 @@ use mathlib.Core.List.{List, [], _∷_, _++_}
 use Prim.Native.Nat.{ℕ, _-_, _≤_, _<_}
 use lib.Dec.{eqb}
 use lib.ListN.{length, take, drop, getD}
+use Rattle.rules.specs.Frame.{keySize, updateSize}
 use Rattle.rules.specs.Bytes.{if_then_else_, byte}
 use Rattle.rules.specs.Key.{shortKey}
 use Rattle.store.specs.declared.Tables.{Tables}
@@ -35,8 +36,8 @@ noteOf b u =
 abbrev pub noted : Verdict → List (List ℕ) → List ℕ → List ℕ
 noted (Refused r) es note = note
 noted Insert es note = 1 ∷ drop 1 note
-noted (Modify i) es note = 2 ∷ i ∷ drop 148 (getD es i [])
-noted (Delete i) es note = 3 ∷ i ∷ drop 148 (getD es i [])
+noted (Modify i) es note = 2 ∷ i ∷ drop keySize (getD es i [])
+noted (Delete i) es note = 3 ∷ i ∷ drop keySize (getD es i [])
 
 -- ---- undoing it
 
@@ -75,5 +76,5 @@ pub record Undoing (note : Note) (after es : List (List ℕ)) : Type 0 where
 abbrev pub UndoAfterApply : Type 0
 UndoAfterApply =
     (v : Verdict) (type : ℕ) (u : List ℕ) (es : List (List ℕ)) (note : List ℕ)
-    → length es ≤ 256 → length u ≡ 221 → reasonOf v ≡ 0 → Justified v type (drop 1 u) es
+    → length es ≤ 256 → length u ≡ updateSize → reasonOf v ≡ 0 → Justified v type (drop 1 u) es
     → Undoing (noteOf (noted v es note) u) (effect v (drop 1 u) es) es

@@ -4,6 +4,7 @@ ghost use mathlib.Core.Path.{_≡_};
 ghost use mathlib.Core.List.{_∷_};
 ghost use Prim.Native.Nat.{_+_, _*_, _≤_, _<_};
 ghost use lib.ListN.{length, drop};
+ghost use Rattle.rules.specs.Frame.{entrySize, keySize, updateSize};
 ghost use Rattle.rules.specs.Bytes.{part};
 ghost use Rattle.store.specs.Store.{entriesIn};
 ghost use Rattle.judging.specs.Verdict.{Possible};
@@ -15,27 +16,27 @@ use store::Tables;
 
 // Writes an entry after the last one, in shortest form.
 fn insert(store: &mut [u8], tables: Tables, entry: &[u8]) -> Tables
-    requires { ⌜ (tables .count < 256) × (56320 ≤ length (now store)) × (length (now entry) ≡ 220) ⌝ }
+    requires { ⌜ (tables .count < 256) × (56320 ≤ length (now store)) × (length (now entry) ≡ entrySize) ⌝ }
     ensures { λ r. ⌜ Done Insert (now (entry .entry)) tables (now (store .entry)) (now (store .exit)) r ⌝ }
 {
     let count = tables.count;
-    let at = 220 * count;
+    let at = rules::ENTRY * count;
     values::shorten_entry(entry, &mut store[at..]);
     Tables { count: count + 1 }
 }
 
 // Writes the action and parameters of an entry over those of entry i, in shortest form.
 fn modify(store: &mut [u8], tables: Tables, i: usize, entry: &[u8])
-    requires { ⌜ (i < tables .count) × (tables .count ≤ 256) × (56320 ≤ length (now store)) × (length (now entry) ≡ 220) ⌝ }
+    requires { ⌜ (i < tables .count) × (tables .count ≤ 256) × (56320 ≤ length (now store)) × (length (now entry) ≡ entrySize) ⌝ }
     ensures { λ _. ⌜ Done (Modify i) (now (entry .entry)) tables (now (store .entry)) (now (store .exit)) tables ⌝ }
 {
-    let at = 220 * i + 148;
+    let at = rules::ENTRY * i + rules::KEY;
     values::shorten_action(entry, &mut store[at..]);
 }
 
 // Does what a verdict says with an entry.
 fn perform(verdict: Verdict, store: &mut [u8], tables: Tables, entry: &[u8]) -> Tables
-    requires { ⌜ Possible verdict tables × (tables .count ≤ 256) × (56320 ≤ length (now store)) × (length (now entry) ≡ 220) ⌝ }
+    requires { ⌜ Possible verdict tables × (tables .count ≤ 256) × (56320 ≤ length (now store)) × (length (now entry) ≡ entrySize) ⌝ }
     ensures { λ r. ⌜ Done verdict (now (entry .entry)) tables (now (store .entry)) (now (store .exit)) r ⌝ }
 {
     match verdict {
@@ -51,7 +52,7 @@ fn perform(verdict: Verdict, store: &mut [u8], tables: Tables, entry: &[u8]) -> 
 
 // Does what was judged of an update of 221 bytes.
 pub fn apply(verdict: Verdict, store: &mut [u8], tables: Tables, update: &[u8]) -> Tables
-    requires { ⌜ Possible verdict tables × (tables .count ≤ 256) × (56320 ≤ length (now store)) × (length (now update) ≡ 221) ⌝ }
+    requires { ⌜ Possible verdict tables × (tables .count ≤ 256) × (56320 ≤ length (now store)) × (length (now update) ≡ updateSize) ⌝ }
     ensures done { λ r. ⌜ Done verdict (drop 1 (now (update .entry))) tables (now (store .entry)) (now (store .exit)) r ⌝ }
     ensures left { λ r. ⌜ Ruled verdict (now (update .entry)) tables (now (store .entry)) (now (store .exit)) r ⌝ }
 {
@@ -62,10 +63,10 @@ pub fn apply(verdict: Verdict, store: &mut [u8], tables: Tables, update: &[u8]) 
 
 // Notes the action and parameters of entry i as they are: a note of 74 bytes.
 fn note_entry(kind: u8, store: &[u8], i: usize, note: &mut [u8])
-    requires { ⌜ (i < 256) × (220 * i + 220 ≤ length (now store)) × (length (now note) ≡ 74) ⌝ }
-    ensures { λ _. ⌜ now (note .exit) ≡ kind ∷ i ∷ part (220 * i + 148) 72 (now (store .entry)) ⌝ }
+    requires { ⌜ (i < 256) × (entrySize * i + entrySize ≤ length (now store)) × (length (now note) ≡ 74) ⌝ }
+    ensures { λ _. ⌜ now (note .exit) ≡ kind ∷ i ∷ part (entrySize * i + keySize) 72 (now (store .entry)) ⌝ }
 {
-    let from = 220 * i + 148;
+    let from = rules::ENTRY * i + rules::KEY;
     let end = from + 72;
     note[0] = kind;
     note[1] = i as u8;
@@ -93,26 +94,26 @@ pub fn note(verdict: Verdict, store: &[u8], tables: Tables, note: &mut [u8])
 
 // Makes the entry that was deleted: its key is the update's in shortest form, its action and parameters were noted.
 fn old_entry(note: &[u8], update: &[u8], out: &mut [u8])
-    requires { ⌜ (length (now note) ≡ 74) × (length (now update) ≡ 221) × (length (now out) ≡ 220) ⌝ }
+    requires { ⌜ (length (now note) ≡ 74) × (length (now update) ≡ updateSize) × (length (now out) ≡ entrySize) ⌝ }
     ensures { λ _. ⌜ now (out .exit) ≡ deletedEntry (now (note .entry)) (now (update .entry)) ⌝ }
 {
     values::shorten_key(&update[1..], out);
-    buffers::copy(&note[2..74], &mut out[148..220]);
+    buffers::copy(&note[2..74], &mut out[rules::KEY..rules::ENTRY]);
 }
 
 // Puts the entry that was deleted back at its place.
 fn put_back(note: &[u8], update: &[u8], store: &mut [u8], tables: Tables, i: usize) -> Tables
-    requires { ⌜ (i ≤ tables .count) × (tables .count < 256) × (56320 ≤ length (now store)) × (length (now note) ≡ 74) × (length (now update) ≡ 221) ⌝ }
+    requires { ⌜ (i ≤ tables .count) × (tables .count < 256) × (56320 ≤ length (now store)) × (length (now note) ≡ 74) × (length (now update) ≡ updateSize) ⌝ }
     ensures { λ r. ⌜ PutBack i (now (note .entry)) (now (update .entry)) tables (now (store .entry)) (now (store .exit)) r ⌝ }
 {
-    let mut old = [0; 220];
+    let mut old = [0; rules::ENTRY];
     old_entry(note, update, &mut old);
     store::put_back(store, tables, i, &old)
 }
 
 // Undoes what was noted last of an update of 221 bytes. A note that cannot be undone, which none is that was made, changes nothing.
 pub fn undo(note: &[u8], update: &[u8], store: &mut [u8], tables: Tables) -> Tables
-    requires { ⌜ (tables .count ≤ 256) × (56320 ≤ length (now store)) × (length (now note) ≡ 74) × (length (now update) ≡ 221) ⌝ }
+    requires { ⌜ (tables .count ≤ 256) × (56320 ≤ length (now store)) × (length (now note) ≡ 74) × (length (now update) ≡ updateSize) ⌝ }
     ensures bound { λ r. ⌜ r .count ≤ 256 ⌝ }
     ensures left { λ r. ⌜ Undone (now (note .entry)) (now (update .entry)) tables (now (store .entry)) (now (store .exit)) r ⌝ }
 {

@@ -4,6 +4,7 @@ ghost use mathlib.Core.Bool.{_&&_};
 ghost use mathlib.Core.List.{List};
 ghost use Prim.Native.Nat.{ℕ};
 ghost use lib.ListN.{length, take, drop};
+ghost use Rattle.rules.specs.Frame.{entrySize};
 ghost use Rattle.rules.specs.Bytes.{between, some-of, part, parts};
 ghost use Rattle.rules.specs.Reason.{first};
 ghost use Rattle.rules.specs.Row.{tableOrder};
@@ -225,7 +226,7 @@ fn parameters_of(row: Row, id: u64) -> Parameters
 
 // 17 of an entry's parameters: as many values as their action has, and zeros past them.
 fn action_formed(action: Parameters, entry: &[u8]) -> bool
-    requires { ⌜ length (now entry) ≡ 220 ⌝ }
+    requires { ⌜ length (now entry) ≡ entrySize ⌝ }
     ensures { λ r. ⌜ r ≡ alongsideAll (λ _. isValue) (take (action .count) (action .widths)) (parts 4 17 (drop 152 (now (entry .entry)))) ⌝ }
 {
     let n = action.count as usize;
@@ -249,7 +250,7 @@ fn action_formed(action: Parameters, entry: &[u8]) -> bool
 
 // 18 of an entry's parameters.
 fn action_fits(action: Parameters, entry: &[u8]) -> bool
-    requires { ⌜ length (now entry) ≡ 220 ⌝ }
+    requires { ⌜ length (now entry) ≡ entrySize ⌝ }
     ensures { λ r. ⌜ r ≡ alongside fits (take (action .count) (action .widths)) (parts 4 17 (drop 152 (now (entry .entry)))) ⌝ }
 {
     let n = action.count as usize;
@@ -273,11 +274,11 @@ fn action_fits(action: Parameters, entry: &[u8]) -> bool
 
 // 17, 18 and 19 of a whole entry.
 fn whole_reason(row: Row, entry: &[u8]) -> u8
-    requires { ⌜ length (now entry) ≡ 220 ⌝ }
+    requires { ⌜ length (now entry) ≡ entrySize ⌝ }
     ensures { λ r. ⌜ r ≡ first (wholeOrder (rowOf row) (now (entry .entry))) ⌝ }
 {
-    let action = parameters_of(row, integer(entry, 148, 4));
-    if !key_formed(row, &entry[8..148]) {
+    let action = parameters_of(row, integer(entry, rules::KEY, 4));
+    if !key_formed(row, &entry[8..rules::KEY]) {
         return 17;
     }
     if !action.known {
@@ -286,13 +287,13 @@ fn whole_reason(row: Row, entry: &[u8]) -> u8
     if !action_formed(action, entry) {
         return 17;
     }
-    if !key_fits(row, &entry[8..148]) {
+    if !key_fits(row, &entry[8..rules::KEY]) {
         return 18;
     }
     if !action_fits(action, entry) {
         return 18;
     }
-    if !key_rules(row, integer(entry, 4, 4), &entry[8..148]) {
+    if !key_rules(row, integer(entry, 4, 4), &entry[8..rules::KEY]) {
         return 19;
     }
     0
@@ -300,11 +301,11 @@ fn whole_reason(row: Row, entry: &[u8]) -> u8
 
 // 17, 18 and 19 of an update's entry, by its type. Of a DELETE's only the key is looked at.
 pub fn entry_reason(row: Row, kind: u8, entry: &[u8]) -> u8
-    requires { ⌜ length (now entry) ≡ 220 ⌝ }
+    requires { ⌜ length (now entry) ≡ entrySize ⌝ }
     ensures { λ r. ⌜ r ≡ first (entryOrder (rowOf row) kind (now (entry .entry))) ⌝ }
 {
     if kind == 3 {
-        return key_reason(row, &entry[4..148]);
+        return key_reason(row, &entry[4..rules::KEY]);
     }
     whole_reason(row, entry)
 }

@@ -4,6 +4,7 @@ ghost use mathlib.Core.Bool.{_&&_};
 ghost use Prim.Native.Nat.{_+_, _*_, _≤_, _<_};
 ghost use lib.ListN.{length, drop};
 ghost use lib.Dec.{eqb};
+ghost use Rattle.rules.specs.Frame.{rowSize};
 ghost use Rattle.rules.specs.Bytes.{some-of, parts, sum};
 ghost use Rattle.rules.specs.Row as rules;
 ghost use Rattle.configuration.specs.Passing.{fieldsPass, actionPasses, actionIds, actionsPass, tableIds, rowsPass, tableSizes};
@@ -14,7 +15,7 @@ use rows::Field;
 
 // Kinds 1 to 5 and widths 1 to 128 of the fields, 1 to 4 of them, and nothing past their count.
 fn fields_allowed(b: &[u8]) -> bool
-    requires { ⌜ length (now b) ≡ 53 ⌝ }
+    requires { ⌜ length (now b) ≡ rowSize ⌝ }
     ensures { λ r. ⌜ r ≡ fieldsPass (now (b .entry)) ⌝ }
 {
     let n = b[7] as usize;
@@ -61,7 +62,7 @@ fn action_allowed(a: &[u8]) -> bool
 
 // Whether one of the actions from `from` on, of n, has the id.
 fn action_repeated(b: &[u8], id: u64, from: usize, n: usize) -> bool
-    requires { ⌜ (length (now b) ≡ 53) × (n ≤ 4) ⌝ }
+    requires { ⌜ (length (now b) ≡ rowSize) × (n ≤ 4) ⌝ }
     ensures { λ r. ⌜ r ≡ some-of (eqb id) (drop from (actionIds n (now (b .entry)))) ⌝ }
 {
     let mut j = from;
@@ -76,7 +77,7 @@ fn action_repeated(b: &[u8], id: u64, from: usize, n: usize) -> bool
 
 // The actions, 1 to 4 of them, no id repeated, and nothing past their count.
 fn actions_allowed(b: &[u8]) -> bool
-    requires { ⌜ length (now b) ≡ 53 ⌝ }
+    requires { ⌜ length (now b) ≡ rowSize ⌝ }
     ensures { λ r. ⌜ r ≡ actionsPass (now (b .entry)) ⌝ }
 {
     let n = b[16] as usize;
@@ -99,12 +100,12 @@ fn actions_allowed(b: &[u8]) -> bool
         i += 1;
     }
     let past = 17 + 9 * n;
-    buffers::all_zero(&b[past..53])
+    buffers::all_zero(&b[past..rules::ROW])
 }
 
 // A row by itself: 02 in its table id's top byte, owner 0 to 7, a size, its fields and its actions.
 fn row_allowed(b: &[u8]) -> bool
-    requires { ⌜ length (now b) ≡ 53 ⌝ }
+    requires { ⌜ length (now b) ≡ rowSize ⌝ }
     ensures { λ r. ⌜ r ≡ (rules.rowAllowed (rules.rowOf (now (b .entry))) && rules.unusedZero (now (b .entry))) ⌝ }
 {
     if b[0] != 2 {
@@ -126,12 +127,12 @@ fn row_allowed(b: &[u8]) -> bool
 
 // Whether one of the rows from `from` on has the table id.
 fn table_repeated(b: &[u8], table: u64, from: usize, t: usize) -> bool
-    requires { ⌜ (t ≤ 8) × (length (now b) ≡ 53 * t) ⌝ }
-    ensures { λ r. ⌜ r ≡ some-of (eqb table) (drop from (tableIds (parts t 53 (now (b .entry))))) ⌝ }
+    requires { ⌜ (t ≤ 8) × (length (now b) ≡ rowSize * t) ⌝ }
+    ensures { λ r. ⌜ r ≡ some-of (eqb table) (drop from (tableIds (parts t rowSize (now (b .entry))))) ⌝ }
 {
     let mut j = from;
     while j < t {
-        if integer(b, 53 * j, 4) == table {
+        if integer(b, rules::ROW * j, 4) == table {
             return true;
         }
         j += 1;
@@ -141,13 +142,13 @@ fn table_repeated(b: &[u8], table: u64, from: usize, t: usize) -> bool
 
 // Each row by itself, and no table id repeated.
 fn each_allowed(b: &[u8], t: usize) -> bool
-    requires { ⌜ (t ≤ 8) × (length (now b) ≡ 53 * t) ⌝ }
-    ensures { λ r. ⌜ r ≡ rowsPass (parts t 53 (now (b .entry))) ⌝ }
+    requires { ⌜ (t ≤ 8) × (length (now b) ≡ rowSize * t) ⌝ }
+    ensures { λ r. ⌜ r ≡ rowsPass (parts t rowSize (now (b .entry))) ⌝ }
 {
     let mut i: usize = 0;
     while i < t {
-        let at = 53 * i;
-        let end = at + 53;
+        let at = rules::ROW * i;
+        let end = at + rules::ROW;
         if !row_allowed(&b[at..end]) {
             return false;
         }
@@ -161,13 +162,13 @@ fn each_allowed(b: &[u8], t: usize) -> bool
 
 // The sizes of all rows together.
 fn sizes(b: &[u8], t: usize) -> u64
-    requires { ⌜ (t ≤ 8) × (length (now b) ≡ 53 * t) ⌝ }
-    ensures { λ r. ⌜ r ≡ sum (tableSizes (parts t 53 (now (b .entry)))) ⌝ }
+    requires { ⌜ (t ≤ 8) × (length (now b) ≡ rowSize * t) ⌝ }
+    ensures { λ r. ⌜ r ≡ sum (tableSizes (parts t rowSize (now (b .entry)))) ⌝ }
 {
     let mut total: u64 = 0;
     let mut i: usize = 0;
     while i < t {
-        total += integer(b, 53 * i + 5, 2);
+        total += integer(b, rules::ROW * i + 5, 2);
         i += 1;
     }
     total
@@ -175,8 +176,8 @@ fn sizes(b: &[u8], t: usize) -> u64
 
 // Whether 14 allows the t rows of 53 bytes each. Told from the bytes: where it does not, no row is read.
 pub fn allowed(b: &[u8], t: usize) -> bool
-    requires { ⌜ (t ≤ 8) × (length (now b) ≡ 53 * t) ⌝ }
-    ensures { λ r. ⌜ r ≡ rules.configurationAllowed (parts t 53 (now (b .entry))) ⌝ }
+    requires { ⌜ (t ≤ 8) × (length (now b) ≡ rowSize * t) ⌝ }
+    ensures { λ r. ⌜ r ≡ rules.configurationAllowed (parts t rowSize (now (b .entry))) ⌝ }
 {
     each_allowed(b, t) && sizes(b, t) <= 256
 }

@@ -4,7 +4,7 @@ ghost use mathlib.Core.Bool.{false};
 ghost use lib.ListN.{length, drop};
 ghost use Rattle.rules.specs.Bytes.{byte};
 ghost use Rattle.rules.specs.Reason.{first};
-ghost use Rattle.rules.specs.Frame.{updateOf};
+ghost use Rattle.rules.specs.Frame.{entrySize, keySize, updateSize, updateOf};
 ghost use Rattle.rules.specs.Row as rules;
 ghost use Rattle.rules.specs.Key.{shortKey};
 ghost use Rattle.rules.specs.Update.{isInsert, placeOrder};
@@ -40,7 +40,7 @@ impl Verdict {
 
 // Where the entry of a key of 148 bytes is. Keys are compared in shortest form, into which this one is brought at `short`.
 fn look_up(store: &[u8], tables: Tables, key: &[u8], short: &mut [u8]) -> Found
-    requires { ⌜ InStore tables (now store) × (length (now key) ≡ 148) × (length (now short) ≡ 148) ⌝ }
+    requires { ⌜ InStore tables (now store) × (length (now key) ≡ keySize) × (length (now short) ≡ keySize) ⌝ }
     ensures place { λ r. ⌜ placeOf r ≡ place (shortKey (now (key .entry))) (entriesIn tables (now (store .entry))) ⌝ }
     ensures range { λ r. ⌜ InRange r tables ⌝ }
 {
@@ -50,17 +50,17 @@ fn look_up(store: &[u8], tables: Tables, key: &[u8], short: &mut [u8]) -> Found
 
 // Where the entry of an update's key is.
 fn locate(store: &[u8], tables: Tables, entry: &[u8]) -> Found
-    requires { ⌜ InStore tables (now store) × (length (now entry) ≡ 220) ⌝ }
+    requires { ⌜ InStore tables (now store) × (length (now entry) ≡ entrySize) ⌝ }
     ensures place { λ r. ⌜ placeOf r ≡ place (shortKey (now (entry .entry))) (entriesIn tables (now (store .entry))) ⌝ }
     ensures range { λ r. ⌜ InRange r tables ⌝ }
 {
-    let mut short = [0; 148];
-    look_up(store, tables, &entry[0..148], &mut short)
+    let mut short = [0; rules::KEY];
+    look_up(store, tables, &entry[0..rules::KEY], &mut short)
 }
 
 // 20, 22 and 24 of an INSERT.
 fn judge_insert(row: Row, store: &[u8], tables: Tables, entry: &[u8]) -> Verdict
-    requires { ⌜ InStore tables (now store) × (length (now entry) ≡ 220) ⌝ }
+    requires { ⌜ InStore tables (now store) × (length (now entry) ≡ entrySize) ⌝ }
     ensures reason { λ r. ⌜ reasonOf r ≡ first (placeOrder (rowOf row) 1 (now (entry .entry)) (tablesIn tables (now (store .entry)))) ⌝ }
     ensures justified { λ r. ⌜ Justified r 1 (now (entry .entry)) (entriesIn tables (now (store .entry))) ⌝ }
     ensures possible { λ r. ⌜ Possible r tables ⌝ }
@@ -82,7 +82,7 @@ fn judge_insert(row: Row, store: &[u8], tables: Tables, entry: &[u8]) -> Verdict
 
 // 21 of a MODIFY or a DELETE.
 fn judge_change(kind: u8, store: &[u8], tables: Tables, entry: &[u8]) -> Verdict
-    requires { ⌜ InStore tables (now store) × (length (now entry) ≡ 220) × (isInsert kind ≡ false) ⌝ }
+    requires { ⌜ InStore tables (now store) × (length (now entry) ≡ entrySize) × (isInsert kind ≡ false) ⌝ }
     ensures reason { λ r. ⌜ ((row : rules.Row) → reasonOf r ≡ first (placeOrder row kind (now (entry .entry)) (tablesIn tables (now (store .entry))))) ⌝ }
     ensures justified { λ r. ⌜ Justified r kind (now (entry .entry)) (entriesIn tables (now (store .entry))) ⌝ }
     ensures possible { λ r. ⌜ Possible r tables ⌝ }
@@ -101,7 +101,7 @@ fn judge_change(kind: u8, store: &[u8], tables: Tables, entry: &[u8]) -> Verdict
 
 // 15 to 19 of an update of 221 bytes: what is asked of it by its table's row, before the entries stored.
 fn row_reason(found: Lookup, role: u8, update: &[u8]) -> u8
-    requires { ⌜ length (now update) ≡ 221 ⌝ }
+    requires { ⌜ length (now update) ≡ updateSize ⌝ }
     ensures { λ r. ⌜ r ≡ first (rowOrder (found .known) (rowOf (found .row)) role (updateOf (now (update .entry)))) ⌝ }
 {
     let kind = update[0];
@@ -120,7 +120,7 @@ fn row_reason(found: Lookup, role: u8, update: &[u8]) -> u8
 
 // Judges an update of 221 bytes by what the rows say of its table, the role and the entries stored.
 pub fn judge(found: Lookup, role: u8, store: &[u8], tables: Tables, update: &[u8]) -> Verdict
-    requires { ⌜ InStore tables (now store) × (length (now update) ≡ 221) ⌝ }
+    requires { ⌜ InStore tables (now store) × (length (now update) ≡ updateSize) ⌝ }
     ensures reason { λ r. ⌜ reasonOf r ≡ judgedBy found role tables (now (store .entry)) (now (update .entry)) ⌝ }
     ensures justified { λ r. ⌜ Justified r (byte 0 (now (update .entry))) (drop 1 (now (update .entry))) (entriesIn tables (now (store .entry))) ⌝ }
     ensures possible { λ r. ⌜ Possible r tables ⌝ }

@@ -6,6 +6,7 @@ ghost use mathlib.Core.List.{[], _∷_, _++_};
 ghost use Prim.Native.Nat.{_*_, _≤_};
 ghost use lib.Dec.{ltb};
 ghost use lib.ListN.{length};
+ghost use Rattle.rules.specs.Frame.{rowSize};
 ghost use Rattle.rules.specs.Bytes.{parts};
 ghost use Rattle.rules.specs.Reason.{first};
 ghost use Rattle.rules.specs.Streams.{addressOrder};
@@ -54,8 +55,8 @@ fn configure_reason(
     t: usize,
     rows: &[u8],
 ) -> u8
-    requires { ⌜ (t ≤ 8) × (length (now rows) ≡ 53 * t) ⌝ }
-    ensures { λ r. ⌜ r ≡ configureReason (controlIn device streams configuration) (headOf head) (parts t 53 (now (rows .entry))) ⌝ }
+    requires { ⌜ (t ≤ 8) × (length (now rows) ≡ rowSize * t) ⌝ }
+    ensures { λ r. ⌜ r ≡ configureReason (controlIn device streams configuration) (headOf head) (parts t rowSize (now (rows .entry))) ⌝ }
 {
     let primary = streams.by_primary(head.role, head.id);
     let reason = head_reason(head.device == device.id, head.role, primary);

@@ -4,6 +4,7 @@ use mathlib.Core.List.{List, _++_}
 use Prim.Native.Nat.{ℕ, _/_, min}
 use lib.Dec.{eqb}
 use lib.ListN.{length, take}
+use Rattle.rules.specs.Frame.{entrySize, restSize}
 use Rattle.rules.specs.Bytes.{if_then_else_, keep, concat, part}
 use Rattle.rules.specs.Row.{Row}
 use Rattle.rules.specs.Key.{shortKey, hasKey}
@@ -18,7 +19,7 @@ use Rattle.store.specs.Store.{entriesIn, tablesIn}
 
 -- the key of a READ in its 149 bytes from the table on: table 4, only 1, key 144
 abbrev pub keyIn : List ℕ → List ℕ
-keyIn b = part 0 4 b ++ part 5 144 b
+keyIn b = part 0 4 b ++ part 5 restSize b
 
 -- the entries that a READ asks for: with only 1 that of the key
 unfoldable pub readIn : List Row → ℕ → ℕ → ℕ → List ℕ → rules.Tables → List (List ℕ)
@@ -27,7 +28,7 @@ readIn rows role table only k t =
 
 -- the first n of these entries are written to the start of an answer: all of them, or as many as it has room for
 abbrev pub Reads : List (List ℕ) → List ℕ → List ℕ → ℕ → Type 0
-Reads es before after n = (n ≡ min (length es) (length before / 220)) × (after ≡ splice before 0 (concat (take n es)))
+Reads es before after n = (n ≡ min (length es) (length before / entrySize)) × (after ≡ splice before 0 (concat (take n es)))
 
 -- Where keys are distinct, a READ writes the entry of a key in shortest form, or what it asks for.
 abbrev pub ReadsKey : List ℕ → Tables → List ℕ → List ℕ → List ℕ → ℕ → Type 0

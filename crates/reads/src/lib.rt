@@ -4,6 +4,7 @@ ghost use mathlib.Core.Bool.{not};
 ghost use Prim.Native.Nat.{_≤_};
 ghost use lib.Dec.{eqb};
 ghost use lib.ListN.{length};
+ghost use Rattle.rules.specs.Frame.{entrySize, keySize};
 ghost use Rattle.rules.specs.Reason.{when, first};
 ghost use Rattle.rules.specs.Row.{tableOrder};
 ghost use Rattle.rules.specs.Key.{shortKey};
@@ -80,7 +81,7 @@ fn read_all(
         }
         let row = rows.rows[i];
         if asks(row, role, table) {
-            let at = 220 * n;
+            let at = rules::ENTRY * n;
             n += store::gather(store, tables, row.table as u64, &mut answer[at..]);
         }
         i += 1;
@@ -90,14 +91,14 @@ fn read_all(
 
 // Writes the entry of a key of 148 bytes in shortest form, if it is there; the number of entries written.
 fn read_one(store: &[u8], tables: Tables, key: &[u8], answer: &mut [u8]) -> usize
-    requires { ⌜ InStore tables (now store) × (length (now key) ≡ 148) × (220 ≤ length (now answer)) ⌝ }
+    requires { ⌜ InStore tables (now store) × (length (now key) ≡ keySize) × (entrySize ≤ length (now answer)) ⌝ }
     ensures { λ r. ⌜ ReadsKey (now (key .entry)) tables (now (store .entry)) (now (answer .entry)) (now (answer .exit)) r ⌝ }
 {
     let found = store::find(store, tables, key);
     match found {
         Found::At(i) => {
-            let from = 220 * i;
-            let end = from + 220;
+            let from = rules::ENTRY * i;
+            let end = from + rules::ENTRY;
             store::write_entry(&store[from..end], answer);
             1
         }
@@ -107,7 +108,7 @@ fn read_one(store: &[u8], tables: Tables, key: &[u8], answer: &mut [u8]) -> usiz
 
 // Copies the key of a READ to the start of key: its table, and what follows `only`.
 fn copy_key(query: &[u8], key: &mut [u8])
-    requires { ⌜ (length (now query) ≡ 149) × (148 ≤ length (now key)) ⌝ }
+    requires { ⌜ (length (now query) ≡ 149) × (keySize ≤ length (now key)) ⌝ }
     ensures { λ _. ⌜ now (key .exit) ≡ splice (now (key .entry)) 0 (keyIn (now (query .entry))) ⌝ }
 {
     buffers::copy(&query[0..4], key);
@@ -116,12 +117,12 @@ fn copy_key(query: &[u8], key: &mut [u8])
 
 // Writes the entry of the key of a READ, if it is there; the number of entries written.
 fn read_key(query: &[u8], store: &[u8], tables: Tables, answer: &mut [u8]) -> usize
-    requires { ⌜ (length (now query) ≡ 149) × InStore tables (now store) × (220 ≤ length (now answer)) ⌝ }
+    requires { ⌜ (length (now query) ≡ 149) × InStore tables (now store) × (entrySize ≤ length (now answer)) ⌝ }
     ensures { λ r. ⌜ ReadsKey (shortKey (keyIn (now (query .entry)))) tables (now (store .entry)) (now (answer .entry)) (now (answer .exit)) r ⌝ }
 {
-    let mut key = [0; 148];
+    let mut key = [0; rules::KEY];
     copy_key(query, &mut key);
-    let mut short = [0; 148];
+    let mut short = [0; rules::KEY];
     values::shorten_key(&key, &mut short);
     read_one(store, tables, &short, answer)
 }

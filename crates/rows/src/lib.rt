@@ -5,6 +5,7 @@ ghost use mathlib.Core.List.{[]};
 ghost use Prim.Native.Nat.{_+_, _*_, _≤_, _<_};
 ghost use lib.Dec.{ltb};
 ghost use lib.ListN.{length};
+ghost use Rattle.rules.specs.Frame.{rowSize};
 ghost use Rattle.rules.specs.Bytes.{part, parts};
 ghost use Rattle.rules.specs.Call.{unconfigured};
 ghost use Rattle.rules.specs.Row as rules;
@@ -131,7 +132,7 @@ impl Row {
 
     // The row of 53 bytes, none of its counts being over 4.
     fn read(b: &[u8]) -> Row
-        requires { ⌜ length (now b) ≡ 53 ⌝ }
+        requires { ⌜ length (now b) ≡ rowSize ⌝ }
         ensures { λ r. ⌜ (countsFit (now (b .entry)) ≡ true → rowOf r ≡ rules.rowOf (now (b .entry))) ⌝ }
     {
         Row {
@@ -173,7 +174,7 @@ impl Lookup {
 
 // Whether no count of a row is over 4, so that nothing is left out when it is read.
 fn counts_fit(b: &[u8]) -> bool
-    requires { ⌜ length (now b) ≡ 53 ⌝ }
+    requires { ⌜ length (now b) ≡ rowSize ⌝ }
     ensures { λ r. ⌜ r ≡ countsFit (now (b .entry)) ⌝ }
 {
     b[7] <= 4 && b[16] <= 4 && b[21] <= 4 && b[30] <= 4 && b[39] <= 4 && b[48] <= 4
@@ -199,14 +200,14 @@ impl Rows {
 
     // The t rows of 53 bytes each; none where a count in them is over 4, which 14 does not allow.
     pub fn read(b: &[u8], t: usize) -> Rows
-        requires { ⌜ (t ≤ 8) × (length (now b) ≡ 53 * t) ⌝ }
-        ensures { λ r. ⌜ rowsOf r ≡ rowsIn (parts t 53 (now (b .entry))) ⌝ }
+        requires { ⌜ (t ≤ 8) × (length (now b) ≡ rowSize * t) ⌝ }
+        ensures { λ r. ⌜ rowsOf r ≡ rowsIn (parts t rowSize (now (b .entry))) ⌝ }
     {
         let mut rows = [Row::NONE; 8];
         let mut i: usize = 0;
         while i < t {
-            let at = 53 * i;
-            let end = at + 53;
+            let at = rules::ROW * i;
+            let end = at + rules::ROW;
             if !counts_fit(&b[at..end]) {
                 return Rows::fresh();
             }

@@ -5,6 +5,7 @@ use mathlib.Core.List.{List, [], _∷_, _++_}
 use mathlib.Core.Option.{Option, none, some}
 use Prim.Native.Nat.{ℕ, suc, _*_, _≤_, _<_}
 use lib.ListN.{length, take, drop, getD, set}
+use Rattle.rules.specs.Frame.{entrySize, keySize}
 use Rattle.rules.specs.Bytes.{if_then_else_, keep, parts}
 use Rattle.rules.specs.Key.{hasKey}
 use Rattle.rules.specs.Update as rules
@@ -14,7 +15,7 @@ use Rattle.store.specs.declared.Found.the-variants.{At, Absent}
 
 -- the entries of a store
 abbrev pub entriesIn : Tables → List ℕ → List (List ℕ)
-entriesIn tables store = parts (tables .count) 220 store
+entriesIn tables store = parts (tables .count) entrySize store
 
 -- in the rules' terms
 abbrev pub tablesIn : Tables → List ℕ → rules.Tables
@@ -26,7 +27,7 @@ entriesOf table tables store = keep (rules.inTable table) (entriesIn tables stor
 
 -- the store has the bytes of all its entries
 abbrev pub InStore : Tables → List ℕ → Type 0
-InStore tables store = 220 * tables .count ≤ length store
+InStore tables store = entrySize * tables .count ≤ length store
 
 -- the place of the first entry that has the key, counted from i
 unfoldable pub placeFrom : ℕ → List ℕ → List (List ℕ) → Option ℕ
@@ -56,7 +57,7 @@ insertedAt i e es = take i es ++ (e ∷ drop i es)
 
 -- a list whose element i has another action, with its parameters, behind its key of 148 bytes
 abbrev pub changedAt : ℕ → List ℕ → List (List ℕ) → List (List ℕ)
-changedAt i action es = set es i (take 148 (getD es i []) ++ action)
+changedAt i action es = set es i (take keySize (getD es i []) ++ action)
 
 -- After a change the store holds these entries, 256 at most; it is as long as before, and its bytes from 56,320 on are untouched.
 pub record Holds (before after : List ℕ) (tables : Tables) (entries : List (List ℕ)) : Type 0 where

@@ -142,7 +142,7 @@ fn put_line(ordinal: u64, answer: &[u8], size: usize, out: &mut [u8]) -> usize
 fn line_fits(room: usize, size: usize, answer: &[u8]) -> bool
     ensures { λ r. ⌜ r ≡ fits room size (now (answer .entry)) ⌝ }
 {
-    if 220 < size {
+    if rules::ENTRY < size {
         return false;
     }
     if answer.len() < 4 {
@@ -168,7 +168,7 @@ pub fn record_size(frame: &[u8]) -> usize
         1..=3 => 20,
         4 => 0,
         5 => 2,
-        6 => 220,
+        6 => rules::ENTRY,
         7..=255 => 0,
     }
 }

@@ -3,6 +3,7 @@
 ghost use mathlib.Core.Path.{_≡_};
 ghost use Prim.Native.Nat.{_+_, _-_, _≤_, _<_};
 ghost use lib.ListN.{length, drop};
+ghost use Rattle.rules.specs.Frame.{entrySize, keySize};
 ghost use Rattle.rules.specs.Bytes.{part};
 ghost use Rattle.rules.specs.Value.{isValue, fits as below, stripped, padded, short};
 ghost use Rattle.rules.specs.Key.{shortSlot, shortKey};
@@ -106,10 +107,10 @@ fn shorten_slot(dst: &mut [u8], at: usize)
 // known length needs no loop over bytes; then each value is shortened where it stands, the last first: a value is
 // not read just after zeros were written below it, which was seen to be slow.
 pub fn shorten_key(entry: &[u8], dst: &mut [u8])
-    requires { ⌜ (148 ≤ length (now entry)) × (148 ≤ length (now dst)) ⌝ }
+    requires { ⌜ (keySize ≤ length (now entry)) × (keySize ≤ length (now dst)) ⌝ }
     ensures { λ _. ⌜ now (dst .exit) ≡ splice (now (dst .entry)) 0 (shortKey (now (entry .entry))) ⌝ }
 {
-    buffers::copy(&entry[0..148], dst);
+    buffers::copy(&entry[0..rules::KEY], dst);
     let mut i: usize = 4;
     while 0 < i {
         i -= 1;
@@ -119,10 +120,10 @@ pub fn shorten_key(entry: &[u8], dst: &mut [u8])
 
 // Writes the action of an entry of 220 bytes and its parameters, the last 72 bytes, in shortest form.
 pub fn shorten_action(entry: &[u8], dst: &mut [u8])
-    requires { ⌜ (length (now entry) ≡ 220) × (72 ≤ length (now dst)) ⌝ }
-    ensures { λ _. ⌜ now (dst .exit) ≡ splice (now (dst .entry)) 0 (drop 148 (shortEntry (now (entry .entry)))) ⌝ }
+    requires { ⌜ (length (now entry) ≡ entrySize) × (72 ≤ length (now dst)) ⌝ }
+    ensures { λ _. ⌜ now (dst .exit) ≡ splice (now (dst .entry)) 0 (drop keySize (shortEntry (now (entry .entry)))) ⌝ }
 {
-    buffers::copy(&entry[148..220], dst);
+    buffers::copy(&entry[rules::KEY..rules::ENTRY], dst);
     let mut i: usize = 4;
     while 0 < i {
         i -= 1;
@@ -132,9 +133,9 @@ pub fn shorten_action(entry: &[u8], dst: &mut [u8])
 
 // Writes an entry of 220 bytes in shortest form.
 pub fn shorten_entry(entry: &[u8], dst: &mut [u8])
-    requires { ⌜ (length (now entry) ≡ 220) × (220 ≤ length (now dst)) ⌝ }
+    requires { ⌜ (length (now entry) ≡ entrySize) × (entrySize ≤ length (now dst)) ⌝ }
     ensures { λ _. ⌜ now (dst .exit) ≡ splice (now (dst .entry)) 0 (shortEntry (now (entry .entry))) ⌝ }
 {
     shorten_key(entry, dst);
-    shorten_action(entry, &mut dst[148..]);
+    shorten_action(entry, &mut dst[rules::KEY..]);
 }
