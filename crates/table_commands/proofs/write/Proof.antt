@@ -5,6 +5,7 @@ use mathlib.Core.Path.{_≡_, refl, sym, ap, _∙_, subst}
 use mathlib.Core.List.{List, map}
 use lib.ListN.{length, take, drop, length-map, length-take, length-drop}
 use denote.Ref.{now}
+use borrow.Rule.Slice.PartMut.{same-len-mid}
 use Rattle.rules.specs.Bytes.{parts, concat}
 use Rattle.rules.specs.Frame.{WRITE, updateOf}
 use Rattle.rules.specs.Call.{writeReason, batchOf, pairOf}
@@ -82,7 +83,12 @@ head-reason-requires : tie.Need-head-reason-requires
 head-reason-requires c κs = search needs
 
 write-head-requires-2 : tie.Need-write-head-requires-2
-write-head-requires-2 c κs = search needs
+write-head-requires-2 c κs =
+    let a = c .before .before .before .before .before .before .before .before .before .before .before .before .before .before .before .before .before .before .before .before .before .before .args in
+    let d = now (a .answer) in
+    let b = c .before .before .before .before .before .before .batch in
+    let l = same-len-mid 4 (length d - 4) d (b .last .1 .1 .1 .1 .1 .1 .1 .0) (b .kept .1 .1 .1 .1 .1 .1 .1 .0) in
+    omega (arith, l, c .before .before .before .before .before .before .before .before .before .before .before .before .before .before .before .before .before .before .before .before .before .before .pre .3)
 
 same-length-2 : tie.Need-same-length-2
 same-length-2 c = search needs
