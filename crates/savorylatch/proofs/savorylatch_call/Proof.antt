@@ -329,9 +329,13 @@ module _ {M : Type 1} (𝓤 : URA M) (H : Heap 𝓤) (A : Atoms 𝓤) (W : Given
           → At K c s n ms (call pr-def.name (copies (26 ∷ 27 ∷ 28 ∷ 8 ∷ 2 ∷ [])) (place 9 []) ⨟ rest) q
       refuses t ms x p stood there has go =
           frame-out t $ puts t pipeline-of stood $ puts t configuration-of (p .configuration) $ puts t streams-of (p .streams) $ puts t device-of (p .device) $ token t $
-          calls-into t fm pr.ended (pr.clauses 𝓤 H A at-mem run) (callees .refusal)
-          ((κ₁, tt), (q₁, tt), tt, (h .device, (h .streams, (h .configuration, (x, (xf, tt))))),
-          (device-of .val (h .device) ∷ [], (streams-of .val (h .streams) ∷ [], (configuration-of .val (h .configuration) ∷ [], (pipeline-of .val x ∷ [], (vf ∷ [], tt)))))) tt refl
+          calls-into t fm pr.ended (pr.clauses 𝓤 H A at-mem run) (callees .refusal) (
+            (κ₁, tt),
+            (q₁, tt),
+            tt,
+            (h .device, (h .streams, (h .configuration, (x, (xf, tt))))),
+            (device-of .val (h .device) ∷ [], (streams-of .val (h .streams) ∷ [], (configuration-of .val (h .configuration) ∷ [], (pipeline-of .val x ∷ [], (vf ∷ [], tt))))),
+          ) tt refl
           (guardI 𝓤 (RowsThere x (xf .now)) (emp 𝓤) there) (number w8) 9 here ty tt refl (gets-all t (26 ∷ 27 ∷ 28 ∷ 8 ∷ 2 ∷ []) _ 10 here ty tt has) (λ r _ byte.
           move t (2 ∷ []) $ heard t _ (λ e. move t (1 ∷ []) $ drop t $ frame-back t $ go r byte e))
 
@@ -449,7 +453,9 @@ module _ {M : Type 1} (𝓤 : URA M) (H : Heap 𝓤) (A : Atoms 𝓤) (W : Given
               (record {
                 meets = event-met h (xf .now) (xs .now) (xa .now) long (eventOf x) ws r means e out;
                 stood = record { device = p .device; streams = outcome-parts r left .0; configuration = p .configuration; tables = p .tables };
-                reason = outcome-parts r left .1; store-long = refl; answer-long = la;
+                reason = outcome-parts r left .1;
+                store-long = refl;
+                answer-long = la;
               }))))
 
           -- ---- a pipeline command
@@ -471,7 +477,10 @@ module _ {M : Type 1} (𝓤 : URA M) (H : Heap 𝓤) (A : Atoms 𝓤) (W : Given
               finish t _ h n (xs .now) ws end refl
               (record {
                 meets = pipeline-refused-met h (xf .now) (xs .now) (xa .now) long (pipelineOf x (xf .now)) ws n means refused out (eqb-false n 0 (not-true (eqb n 0) (is-true _ other)));
-                stood = p; reason = number-n; store-long = refl; answer-long = la;
+                stood = p;
+                reason = number-n;
+                store-long = refl;
+                answer-long = la;
               }))
               (λ zero.
               configures t _ x stood there refl (λ r left done.
@@ -483,7 +492,9 @@ module _ {M : Type 1} (𝓤 : URA M) (H : Heap 𝓤) (A : Atoms 𝓤) (W : Given
               (record {
                 meets = pipeline-met h (xf .now) (xs .now) (xa .now) long (pipelineOf x (xf .now)) ws n means refused out (eqb-true n 0 (not-false (eqb n 0) (is-false _ zero))) r done;
                 stood = record { device = p .device; streams = p .streams; configuration = configured-parts r left .0; tables = configured-parts r left .1 };
-                reason = byte 0 (ltb-true 0 (2 ^ 8) refl); store-long = refl; answer-long = la;
+                reason = byte 0 (ltb-true 0 (2 ^ 8) refl);
+                store-long = refl;
+                answer-long = la;
               })))))
 
           -- ---- a table command
@@ -502,7 +513,9 @@ module _ {M : Type 1} (𝓤 : URA M) (H : Heap 𝓤) (A : Atoms 𝓤) (W : Given
               (record {
                 meets = met h (xf .now) (xs .now) (xa .now) long means handles;
                 stood = record { device = p .device; streams = p .streams; configuration = p .configuration; tables = table-outcome-parts r left .0 };
-                reason = table-outcome-parts r left .1; store-long = ls; answer-long = la;
+                reason = table-outcome-parts r left .1;
+                store-long = ls;
+                answer-long = la;
               }))
 
           -- ---- by cases on what was read: a tag is then a numeral, and only the arm that runs is walked
@@ -563,9 +576,13 @@ module _ {M : Type 1} (𝓤 : URA M) (H : Heap 𝓤) (A : Atoms 𝓤) (W : Given
 
   savorylatch-call-meets : (𝓣 : Tables 𝓤 H) → Met 𝓤 H A at-mem run (𝓣 .C) → Meets 𝓤 H A f.signature (WpFn 𝓤 H (𝓣 .C) (𝓣 .Λ) code.function) (f.spec 𝓤 H A at-mem run)
   savorylatch-call-meets 𝓣 callees =
-      walk-meets 𝓤 H A f.ended stayed W
-      (goes-ref 𝓤 H A W 4 0 tt (plain (λ _. A′′.the-row)), (goes-none-slice 𝓤 H A W 4 (1 ∷ []) tt (plain (λ _. u8)) yes,
-      (goes-gave-slice 𝓤 H A W 4 2 tt (plain (λ _. u8)), (goes-gave-slice 𝓤 H A W 4 3 tt (plain (λ _. u8)), tt))))
+      walk-meets 𝓤 H A f.ended stayed W (
+        goes-ref 𝓤 H A W 4 0 tt (plain (λ _. A′′.the-row)),
+        (
+          goes-none-slice 𝓤 H A W 4 (1 ∷ []) tt (plain (λ _. u8)) yes,
+          (goes-gave-slice 𝓤 H A W 4 2 tt (plain (λ _. u8)), (goes-gave-slice 𝓤 H A W 4 3 tt (plain (λ _. u8)), tt)),
+        ),
+      )
       (f.clauses 𝓤 H A at-mem run) (WpFn 𝓤 H (𝓣 .C) (𝓣 .Λ) code.function) (WpFn-mono 𝓤 H (W .laws) 𝓣 code.function)
       (savorylatch-call-walks (𝓣 .C) (𝓣 .Λ) (fmOf 𝓤 H (W .laws) 𝓣) callees)
 
