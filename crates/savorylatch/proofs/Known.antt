@@ -12,7 +12,8 @@ use ghost.Atoms.{Atoms}
 use types.Kit.{Given, Item, ‵, Goal, Step, step, _$_, fjoin}
 use denote.RattleType.{RattleType}
 use denote.Laws.{Is, Tells, Lawful, Makes, Typed}
-use denote.Plain.{UInt, Boolean, Nothing, uint-tells, uint-lawful, uint-makes, bool-tells, bool-lawful, bool-makes, nothing-tells, nothing-lawful, nothing-makes}
+use denote.Plain.{UInt, Boolean, Nothing, uint-tells, uint-lawful, uint-makes, bool-tells, bool-lawful, bool-makes, nothing-tells, nothing-lawful}
+use denote.Plain.{nothing-makes}
 use denote.Steps.{owned}
 use denote.Struct.Struct.{Plains}
 use denote.Struct.Declared as SD

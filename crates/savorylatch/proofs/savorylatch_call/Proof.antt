@@ -1,5 +1,7 @@
--- Right because each way copies out from behind the reference what its group reads, stores there the parts that the group hands back, and leaves the others as they were.
--- A walk of the MIR. All that it knows of the callees is that they meet their contracts, of which the laws of crates/agent/proofs/Ways.antt make what a call is held to.
+-- Right because each way copies out from behind the reference what its group reads, stores there the parts that the group hands back, and
+-- leaves the others as they were.
+-- A walk of the MIR. All that it knows of the callees is that they meet their contracts, of which the laws of crates/agent/proofs/Ways.antt
+-- make what a call is held to.
 -- Assumes nothing.
 mod Types
 mod Mir
@@ -26,7 +28,8 @@ use ghost.Atoms.{Atoms}
 use contract.Monad.{Fun, fact}
 use contract.Running.{givenOf, tables, tablesOf}
 use contract.Lifetimes.{AllOutlive}
-use types.Kit.{Given, Item, ‵, raw, _⊛_, ⋆, mean, nth, Post, anyQ, post, Goal, Step, step, runs, Seq, _$_, _∵_, !, qed, move, keep, drop, use1, split, join, fsplit, fsplit3, fjoin, fjoin3, feqL, feqI, suffices, frame, done}
+use types.Kit.{Given, Item, ‵, raw, _⊛_, ⋆, mean, nth, Post, anyQ, post, Goal, Step, step, runs, Seq, _$_, _∵_, !, qed, move, keep, drop, use1, split, join}
+use types.Kit.{fsplit, fsplit3, fjoin, fjoin3, feqL, feqI, suffices, frame, done}
 use types.Run.{look-raw, stop, hop, load, lit, bin, of-opd, and-then, no-more, Opd, first, switches-on, exec, enter}
 use types.Part.{look-in}
 use types.SemTy.{Body as Referent}
@@ -43,7 +46,8 @@ use denote.Struct.Steps.{spelt}
 use denote.Triple.Entry.{onEntry}
 use denote.Triple.Spec.{Meets, tripleOf}
 use denote.Triple.Table.{entered, cited}
-use denote.Triple.Walked.{says, Stays, stay-ref, stay-none-slice, gave-slice, walkOf, goes-ref, goes-none-slice, goes-gave-slice, Walks, ends-at, walked, walk-meets}
+use denote.Triple.Walked.{says, Stays, stay-ref, stay-none-slice, gave-slice, walkOf, goes-ref, goes-none-slice, goes-gave-slice, Walks, ends-at, walked}
+use denote.Triple.Walked.{walk-meets}
 use denote.Exit.{yes}
 use Rattle.rules.specs.Frame.{readFrame, malformed, onStreams, onPipeline, onTables}
 use Rattle.rules.specs.Streams as rules
@@ -65,8 +69,8 @@ use Rattle.frames.specs.declared.TableCommand.{TableCommand}
 use Rattle.memory.specs.declared.Agent.{Agent}
 use Rattle.memory.specs.Layout.{Flat, controlOf, memory, input, result}
 use Rattle.memory.specs.Handles.{Handles, withStreams, withConfiguration, withTables}
-use Rattle.memory.proofs.Agent as A′′
-use Rattle.memory.proofs.Agent.Laws as A′
+use Rattle.memory.proofs.Agent as T
+use Rattle.memory.proofs.Agent.Laws as T′
 use Rattle.pipeline.specs.Pipeline.{Refuses, CarriesOut}
 use Rattle.pipeline.specs.declared.Configured.{Configured}
 use Rattle.table_commands.specs.declared.TableOutcome.{TableOutcome}
@@ -96,11 +100,19 @@ use Rattle.table_commands.proofs.carry_out as tc
 use Rattle.table_commands.proofs.carry_out.Symbol as tc-def
 use Rattle.table_commands.proofs.carry_out.Met as tc-thm
 use Rattle.savorylatch.proofs.Known.{Known, Stands, number, truth, no-value, fits-in, puts, stands}
-use Rattle.savorylatch.proofs.Locals.{forks, holding, holdings, fulls, copies, storing, There, tyAt, Typed, Held, held, here, allots, started, in-local, at-local, gets, gets-all, sets, sets-last, leaves}
+use Rattle.savorylatch.proofs.Locals.{forks, holding, holdings, fulls, copies, storing, There, tyAt, Typed, Held, held, here, allots, started, in-local}
+use Rattle.savorylatch.proofs.Locals.{at-local, gets, gets-all, sets, sets-last, leaves}
 use Rattle.savorylatch.proofs.Places.{length-of, gets-field, gets-tag, gets-payload, copies-field, stores-field, lends}
 use Rattle.savorylatch.proofs.Calls.{calls-into}
-use Rattle.savorylatch.proofs.savorylatch_call.Proof.Types.{record-of, device-of, streams-of, configuration-of, tables-of, frame-of, command-of, event-of, pipeline-of, table-of, outcome-of, configured-of, table-outcome-of, device-in-record, streams-in-record, configuration-in-record, tables-in-record, streams-in-outcome, reason-in-outcome, configuration-in-configured, tables-in-configured, tables-in-table-outcome, reason-in-table-outcome, command-in-frame, event-in-command, pipeline-in-command, table-in-command, Parts, parts, from-parts, outcome-parts, configured-parts, table-outcome-parts, asked, event, pipeline, table}
-use Rattle.savorylatch.proofs.savorylatch_call.Proof.Mir.{_⨟_, locals, short-body, malformed-body, stream-body, refused-body, accepted-body, pipeline-body, table-body, end-body, command-body, take-body, switch-body, whole-body}
+use Rattle.savorylatch.proofs.savorylatch_call.Proof.Types.{record-of, device-of, streams-of, configuration-of, tables-of, frame-of, command-of}
+use Rattle.savorylatch.proofs.savorylatch_call.Proof.Types.{event-of, pipeline-of, table-of, outcome-of, configured-of, table-outcome-of}
+use Rattle.savorylatch.proofs.savorylatch_call.Proof.Types.{device-in-record, streams-in-record, configuration-in-record, tables-in-record}
+use Rattle.savorylatch.proofs.savorylatch_call.Proof.Types.{streams-in-outcome, reason-in-outcome, configuration-in-configured, tables-in-configured}
+use Rattle.savorylatch.proofs.savorylatch_call.Proof.Types.{tables-in-table-outcome, reason-in-table-outcome, command-in-frame, event-in-command}
+use Rattle.savorylatch.proofs.savorylatch_call.Proof.Types.{pipeline-in-command, table-in-command, Parts, parts, from-parts, outcome-parts}
+use Rattle.savorylatch.proofs.savorylatch_call.Proof.Types.{configured-parts, table-outcome-parts, asked, event, pipeline, table}
+use Rattle.savorylatch.proofs.savorylatch_call.Proof.Mir.{_⨟_, locals, short-body, malformed-body, stream-body, refused-body, accepted-body}
+use Rattle.savorylatch.proofs.savorylatch_call.Proof.Mir.{pipeline-body, table-body, end-body, command-body, take-body, switch-body, whole-body}
 use Rattle.savorylatch.proofs.savorylatch_call.Key.{name as #savorylatch·savorylatch-call}
 use Rattle.savorylatch.proofs.savorylatch_call as f
 use Rattle.savorylatch.proofs.savorylatch_call.Statement as stated
@@ -115,16 +127,28 @@ is-false : (y : Bool) → T (not y) → y ≡ false
 is-false true z = absurd z
 is-false false z = refl
 
--- a small number is a byte
-byte : (n : ℕ) → n < 2 ^ 8 → Stands (number w8) n
-byte n fits = record { is = (refl, fits) }
+-- the reasons that are written out, and the number of records of an answer that has none
+zero-reason : Stands (number w8) 0
+zero-reason = record { is = (refl, ltb-true 0 (2 ^ 8) refl) }
 
-no-word : Stands (number w64) 0
-no-word = record { is = (refl, ltb-true 0 (2 ^ 64) refl) }
+one-reason : Stands (number w8) 1
+one-reason = record { is = (refl, ltb-true 1 (2 ^ 8) refl) }
+
+two-reason : Stands (number w8) 2
+two-reason = record { is = (refl, ltb-true 2 (2 ^ 8) refl) }
+
+no-records : Stands (number w64) 0
+no-records = record { is = (refl, ltb-true 0 (2 ^ 64) refl) }
 
 -- at exit the borrow of the record is still owned, and of store and answer only their last lists are known
 abbrev stayed : Stays (f.ended .signature .params) (f.ended .kept)
-stayed = (stay-ref (0 ∷ []) tt (plain (λ _. A′′.the-row)), (stay-none-slice (1 ∷ []) tt (plain (λ _. u8)) yes, (gave-slice (2 ∷ []) tt (plain (λ _. u8)), (gave-slice (3 ∷ []) tt (plain (λ _. u8)), tt))))
+stayed = (
+  stay-ref (0 ∷ []) tt (plain (λ _. T.the-row)),
+  (
+    stay-none-slice (1 ∷ []) tt (plain (λ _. u8)) yes,
+    (gave-slice (2 ∷ []) tt (plain (λ _. u8)), (gave-slice (3 ∷ []) tt (plain (λ _. u8)), tt)),
+  ),
+)
 
 -- the callees meet their contracts
 record Met {M : Type 1} (𝓤 : URA M) (H : Heap 𝓤) (A : Atoms 𝓤) (at-mem : Memory → SProp 𝓤) (run : Routine → Fun 𝓤) (C : Calls 𝓤 H) : Type 1 where
@@ -138,7 +162,8 @@ record Met {M : Type 1} (𝓤 : URA M) (H : Heap 𝓤) (A : Atoms 𝓤) (at-mem 
   table-carry-out : Meets 𝓤 H A tc.signature (C tc-def.name) (tc.spec 𝓤 H A at-mem run)
 
 module _ {M : Type 1} (𝓤 : URA M) (H : Heap 𝓤) (A : Atoms 𝓤) (W : Given 𝓤 H A) (at-mem : Memory → SProp 𝓤) (run : Routine → Fun 𝓤) (κ₀ κ₁ κ₂ κ₃ : Lft)
-    (bounds : AllOutlive 4 (f.signature .outlives) (κ₀, (κ₁, (κ₂, (κ₃, tt))))) (q₀ q₁ q₂ q₃ : Share) (b o : ℕ) (γ : GName) (h : Agent) (xf xs xa : RefT (List ℕ)) where
+    (bounds : AllOutlive 4 (f.signature .outlives) (κ₀, (κ₁, (κ₂, (κ₃, tt))))) (q₀ q₁ q₂ q₃ : Share) (b o : ℕ) (γ : GName) (h : Agent)
+    (xf xs xa : RefT (List ℕ)) where
   -- the machine values of the slices
   abbrev vf : Val
   vf = sliceVal (xf .ptr) (length (xf .now))
@@ -193,30 +218,30 @@ module _ {M : Type 1} (𝓤 : URA M) (H : Heap 𝓤) (A : Atoms 𝓤) (W : Given
   -- the record k in memory, by the machine values of its four parts
   abbrev Cell : Agent → Item 𝓤
   Cell k =
-      ‵ (fat fullShare (rawTy A′.mir) b o (vstruct (vcons (device-of .val (k .device)) (vcons (streams-of .val (k .streams))
+      ‵ (fat fullShare (rawTy T′.mir) b o (vstruct (vcons (device-of .val (k .device)) (vcons (streams-of .val (k .streams))
       (vcons (configuration-of .val (k .configuration)) (vcons (tables-of .val (k .tables)) vnil))))))
 
   -- Between any two statements the borrow of the record is open, and there are: the record's cell c; the open borrow, obs and auth; the other tokens;
   -- what the frame owns; of the store s, and of the answer n; the locals, l. So the cell is entry 0, and the locals are entry 10.
   abbrev Ctx : Item 𝓤 → Item 𝓤 → Item 𝓤 → Item 𝓤 → List (Item 𝓤)
   Ctx c s n l =
-      c ∷ ‵ (fobor κ₀ q₀ (Referent (mem A′′.the-row) b o γ)) ∷ ‵ (fobs γ (A′′.the-row .coded .code h)) ∷ ‵ (fauth γ (A′′.the-row .coded .code h))
+      c ∷ ‵ (fobor κ₀ q₀ (Referent (mem T.the-row) b o γ)) ∷ ‵ (fobs γ (T.the-row .coded .code h)) ∷ ‵ (fauth γ (T.the-row .coded .code h))
       ∷ t₁ ∷ t₂ ∷ t₃ ∷ FR ∷ s ∷ n ∷ l ∷ []
 
   -- the same while a callee has the frame, of which the caller keeps a copy, and while one has the answer
   abbrev Without-frame : Item 𝓤 → Item 𝓤 → Item 𝓤 → Item 𝓤 → List (Item 𝓤)
   Without-frame c s n l =
-      FR ∷ c ∷ ‵ (fobor κ₀ q₀ (Referent (mem A′′.the-row) b o γ)) ∷ ‵ (fobs γ (A′′.the-row .coded .code h)) ∷ ‵ (fauth γ (A′′.the-row .coded .code h))
+      FR ∷ c ∷ ‵ (fobor κ₀ q₀ (Referent (mem T.the-row) b o γ)) ∷ ‵ (fobs γ (T.the-row .coded .code h)) ∷ ‵ (fauth γ (T.the-row .coded .code h))
       ∷ t₂ ∷ t₃ ∷ s ∷ n ∷ l ∷ []
 
   abbrev Without-answer : Item 𝓤 → Item 𝓤 → Item 𝓤 → List (Item 𝓤)
   Without-answer c s l =
-      c ∷ ‵ (fobor κ₀ q₀ (Referent (mem A′′.the-row) b o γ)) ∷ ‵ (fobs γ (A′′.the-row .coded .code h)) ∷ ‵ (fauth γ (A′′.the-row .coded .code h))
+      c ∷ ‵ (fobor κ₀ q₀ (Referent (mem T.the-row) b o γ)) ∷ ‵ (fobs γ (T.the-row .coded .code h)) ∷ ‵ (fauth γ (T.the-row .coded .code h))
       ∷ t₁ ∷ t₂ ∷ FR ∷ s ∷ l ∷ []
 
   -- ---- the end of each way: what the walk has left there, and that this is what the contract says
   abbrev Left : Agent → List ℕ → List ℕ → List (Item 𝓤)
-  Left k ss ws = ‵ (fobs γ (A′′.the-row .coded .code k)) ∷ ‵ (fbor κ₀ (Referent (mem A′′.the-row) b o γ)) ∷ t₀ ∷ t₁ ∷ t₂ ∷ t₃ ∷ Last xa ws ∷ Last xs ss ∷ FR ∷ []
+  Left k ss ws = ‵ (fobs γ (T.the-row .coded .code k)) ∷ ‵ (fbor κ₀ (Referent (mem T.the-row) b o γ)) ∷ t₀ ∷ t₁ ∷ t₂ ∷ t₃ ∷ Last xa ws ∷ Last xs ss ∷ FR ∷ []
 
   -- the record k, the reason r, the store ss and the answer ws are what a call may leave
   record Fit (k : Agent) (r : ℕ) (ss ws : List ℕ) : Type 1 where
@@ -230,7 +255,8 @@ module _ {M : Type 1} (𝓤 : URA M) (H : Heap 𝓤) (A : Atoms 𝓤) (W : Given
   unfolding Ends
   exits k r ss ws e =
       qed W (Left k ss ws) ∵
-      suffices ! _ (ends-at 𝓤 H A f.ended stayed (f.clauses 𝓤 H A at-mem run) W (((κ₀, (κ₁, (κ₂, (κ₃, tt)))), (q₀, (q₁, (q₂, (q₃, tt)))), bounds, a, vals), tt) (vint w8 r) r (k, (tt, (ss, (ws, tt)))) (tt, (tt, (e .store-long, (e .answer-long, tt))))) $
+      suffices ! _ (ends-at 𝓤 H A f.ended stayed (f.clauses 𝓤 H A at-mem run) W (((κ₀, (κ₁, (κ₂, (κ₃, tt)))), (q₀, (q₁, (q₂, (q₃, tt)))), bounds, a, vals), tt)
+      (vint w8 r) r (k, (tt, (ss, (ws, tt)))) (tt, (tt, (e .store-long, (e .answer-long, tt))))) $
       says ! (e .meets) $
       nothing ! $ move ! (6 ∷ 0 ∷ []) $ join ! $ move ! (5 ∷ 0 ∷ []) $ join ! $ move ! (4 ∷ 0 ∷ []) $ join ! $ move ! (3 ∷ 0 ∷ []) $ join ! $ frame ! $
       feqI ! (List Val) (vptr b o ∷ []) (vptr b o ∷ []) refl $ fjoin3 ! $
@@ -248,7 +274,8 @@ module _ {M : Type 1} (𝓤 : URA M) (H : Heap 𝓤) (A : Atoms 𝓤) (W : Given
     store-kept t = step (λ go. move t (8 ∷ []) $ use1 W (Last xs (xs .now)) (unlent (named 2) κ₂ xs) $ move t (1 ∷ 2 ∷ 3 ∷ 4 ∷ 5 ∷ 6 ∷ 7 ∷ 8 ∷ 0 ∷ []) $ go)
 
     answer-kept : K → {s : Item 𝓤} → Step K W (Ctx c s (Last xa (xa .now)) l) G (Ctx c s AN l) G
-    answer-kept t = step (λ go. move t (9 ∷ []) $ use1 W (Last xa (xa .now)) (unlent (named 3) κ₃ xa) $ move t (1 ∷ 2 ∷ 3 ∷ 4 ∷ 5 ∷ 6 ∷ 7 ∷ 8 ∷ 9 ∷ 0 ∷ []) $ go)
+    answer-kept t =
+        step (λ go. move t (9 ∷ []) $ use1 W (Last xa (xa .now)) (unlent (named 3) κ₃ xa) $ move t (1 ∷ 2 ∷ 3 ∷ 4 ∷ 5 ∷ 6 ∷ 7 ∷ 8 ∷ 9 ∷ 0 ∷ []) $ go)
 
     -- ---- a slice goes to a callee, after which plain data is put before it, and the token of its lifetime last; and comes back
     frame-out : K → {s n : Item 𝓤} → Step K W (‵ (fsep (ShrSlice (named 1) κ₁ u8 .own xf (vf ∷ [])) ftrue) ∷ t₁ ∷ Without-frame c s n l) G (Ctx c s n l) G
@@ -269,7 +296,8 @@ module _ {M : Type 1} (𝓤 : URA M) (H : Heap 𝓤) (A : Atoms 𝓤) (W : Given
   token : {K : Type 0} {G : Goal 𝓤 H} → K → {i j : Item 𝓤} {Γ : List (Item 𝓤)} → Step K W ((i ⊛ ‵ ftrue) ∷ j ∷ Γ) G (j ∷ i ∷ Γ) G
   token t = step (λ go. nothing t $ move t (2 ∷ 0 ∷ []) $ join t $ go)
 
-  module _ (C : Calls 𝓤 H) (Λ : Loops 𝓤 H) (fm : FmC 𝓤 H (W .laws) C) (callees : Met 𝓤 H A at-mem run C) (rs : Room u8 (length (xs .now))) (ra : Room u8 (length (xa .now)))
+  module _ (C : Calls 𝓤 H) (Λ : Loops 𝓤 H) (fm : FmC 𝓤 H (W .laws) C) (callees : Met 𝓤 H A at-mem run C) (rs : Room u8 (length (xs .now)))
+      (ra : Room u8 (length (xa .now)))
       (ρ : Ty) (E : Env 𝓤 H) (ty : Typed (locals ρ) E) where
     -- the body is to run
     abbrev At : (K : Type 0) → Item 𝓤 → Item 𝓤 → Item 𝓤 → List (Option Val) → Body → Post 𝓤 H → Type 1
@@ -277,18 +305,21 @@ module _ {M : Type 1} (𝓤 : URA M) (H : Heap 𝓤) (A : Atoms 𝓤) (W : Given
 
     module _ {K : Type 0} {q : Post 𝓤 H} {rest : Body} {c s : Item 𝓤} where
       -- ---- `too_short`
-      asks-room : K → {n : Item 𝓤} (ms : List (Option Val)) → holdings (14 ∷ 15 ∷ []) ms ≡ fulls (vint w64 (length (xs .now)) ∷ vint w64 (length (xa .now)) ∷ [])
+      asks-room : K → {n : Item 𝓤} (ms : List (Option Val)) → holdings (14 ∷ 15 ∷ []) ms ≡ fulls
+          (vint w64 (length (xs .now)) ∷ vint w64 (length (xa .now)) ∷ [])
           → ((y : Bool) → y ≡ not (longEnough (length (xs .now)) (length (xa .now))) → At K c s n (storing 13 (vbool y) ms) rest q)
           → At K c s n ms (call ts-def.name (copies (14 ∷ 15 ∷ [])) (place 13 []) ⨟ rest) q
       asks-room t ms has go =
           nothing t $ puts t (number w64) (record { is = (refl, ra .0) }) $ puts t (number w64) (record { is = (refl, rs .0) }) $ nothing t $
           calls-into t fm ts.ended (ts.clauses 𝓤 H A at-mem run) (callees .too-short)
-          (tt, tt, tt, (length (xs .now), (length (xa .now), tt)), (vint w64 (length (xs .now)) ∷ [], (vint w64 (length (xa .now)) ∷ [], tt))) tt refl (id⊢ 𝓤 (emp 𝓤))
+          (tt, tt, tt, (length (xs .now), (length (xa .now), tt)), (vint w64 (length (xs .now)) ∷ [], (vint w64 (length (xa .now)) ∷ [], tt))) tt refl
+          (id⊢ 𝓤 (emp 𝓤))
           truth 10 here ty tt refl (gets-all t (14 ∷ 15 ∷ []) _ 11 here ty tt has) (λ y _ _. drop t $ drop t $ heard t _ (λ e. go y e))
 
       -- ---- `read_frame`
       reads : K → {n : Item 𝓤} (ms : List (Option Val)) → holdings (2 ∷ []) ms ≡ fulls (vf ∷ [])
-          → ((x : Frame) → Stands frame-of x → frameRead x (xf .now) ≡ readFrame (xf .now) → FrameThere x (xf .now) → At K c s n (storing 16 (frame-of .val x) ms) rest q)
+          → ((x : Frame) → Stands frame-of x → frameRead x (xf .now) ≡ readFrame (xf .now) → FrameThere x (xf .now)
+          → At K c s n (storing 16 (frame-of .val x) ms) rest q)
           → At K c s n ms (call rf-def.name (copies (2 ∷ [])) (place 16 []) ⨟ rest) q
       reads t ms has go =
           frame-out t $ token t $
@@ -304,20 +335,24 @@ module _ {M : Type 1} (𝓤 : URA M) (H : Heap 𝓤) (A : Atoms 𝓤) (W : Given
           → ((ws : List ℕ) → length ws ≡ length (xa .now) → ws ≡ splice (xa .now) 0 (answerBytes (bare r)) → At K c s (Last xa ws) (storing m vunit ms) rest q)
           → At K c s AN ms (call wh-def.name (x ∷ int w64 0 ∷ copy (place l []) ∷ []) (place m []) ⨟ rest) q
       heads t ms r stood long reads-r at-l has at-m mir go =
-          answer-out t $ puts t (number w64) no-word $ puts t (number w8) stood $ token t $
+          answer-out t $ puts t (number w64) no-records $ puts t (number w8) stood $ token t $
           calls-into t fm wh.ended (wh.clauses 𝓤 H A at-mem run) (callees .write-head)
-          ((κ₃, tt), (q₃, tt), tt, (r, (0, (xa, tt))), (vint w8 r ∷ [], (vint w64 0 ∷ [], (va ∷ [], tt)))) tt refl (guardI 𝓤 (4 ≤ length (xa .now)) (emp 𝓤) long)
+          ((κ₃, tt), (q₃, tt), tt, (r, (0, (xa, tt))), (vint w8 r ∷ [], (vint w64 0 ∷ [], (va ∷ [], tt)))) tt refl
+          (guardI 𝓤 (4 ≤ length (xa .now)) (emp 𝓤) long)
           no-value 8 here ty at-m mir (and-then t (reads-r _ 9 here) (and-then t (lit t tt) (and-then t (gets t 9 here ty at-l has) (no-more t)))) (λ _ zs _.
           move t (2 ∷ []) $ heard t _ (λ out. move t (1 ∷ []) $ fsplit t $ drop t $ fsplit t $ drop t $ move t (1 ∷ []) $
           answer-back t (λ la. go (zs .1 .1 .0) la (head-alone r (xa .now) (zs .1 .1 .0) out))))
 
       -- ---- `respond`
-      responds : K → (ms : List (Option Val)) (r : Outcome) → Stands outcome-of r → 644 ≤ length (xa .now) → holdings (7 ∷ 25 ∷ []) ms ≡ fulls (outcome-of .val r ∷ va ∷ [])
-          → ((ws : List ℕ) → length ws ≡ length (xa .now) → ws ≡ splice (xa .now) 0 (answerBytes (eventAnswer (outcomeOf r))) → At K c s (Last xa ws) (storing 23 vunit ms) rest q)
+      responds : K → (ms : List (Option Val)) (r : Outcome) → Stands outcome-of r → 644 ≤ length (xa .now)
+          → holdings (7 ∷ 25 ∷ []) ms ≡ fulls (outcome-of .val r ∷ va ∷ [])
+          → ((ws : List ℕ) → length ws ≡ length (xa .now) → ws ≡ splice (xa .now) 0 (answerBytes (eventAnswer (outcomeOf r)))
+          → At K c s (Last xa ws) (storing 23 vunit ms) rest q)
           → At K c s AN ms (call sr-def.name (copies (7 ∷ 25 ∷ [])) (place 23 []) ⨟ rest) q
       responds t ms r left long has go =
           answer-out t $ puts t outcome-of left $ token t $
-          calls-into t fm sr.ended (sr.clauses 𝓤 H A at-mem run) (callees .respond) ((κ₃, tt), (q₃, tt), tt, (r, (xa, tt)), (outcome-of .val r ∷ [], (va ∷ [], tt))) tt refl
+          calls-into t fm sr.ended (sr.clauses 𝓤 H A at-mem run) (callees .respond)
+          ((κ₃, tt), (q₃, tt), tt, (r, (xa, tt)), (outcome-of .val r ∷ [], (va ∷ [], tt))) tt refl
           (guardI 𝓤 (644 ≤ length (xa .now)) (emp 𝓤) long) no-value 8 here ty tt refl (gets-all t (7 ∷ 25 ∷ []) _ 9 here ty tt has) (λ _ zs _.
           move t (2 ∷ []) $ heard t _ (λ out. move t (1 ∷ []) $ fsplit t $ drop t $ move t (1 ∷ []) $ answer-back t (λ la. go (zs .1 .0) la out)))
 
@@ -328,29 +363,40 @@ module _ {M : Type 1} (𝓤 : URA M) (H : Heap 𝓤) (A : Atoms 𝓤) (W : Given
           → ((r : ℕ) → Stands (number w8) r → Refuses (controlOf h) (pipelineRead x (xf .now)) r → At K c s n (storing 9 (vint w8 r) ms) rest q)
           → At K c s n ms (call pr-def.name (copies (26 ∷ 27 ∷ 28 ∷ 8 ∷ 2 ∷ [])) (place 9 []) ⨟ rest) q
       refuses t ms x p stood there has go =
-          frame-out t $ puts t pipeline-of stood $ puts t configuration-of (p .configuration) $ puts t streams-of (p .streams) $ puts t device-of (p .device) $ token t $
+          frame-out t $ puts t pipeline-of stood $ puts t configuration-of (p .configuration) $ puts t streams-of (p .streams) $ puts t device-of (p .device) $
+          token t $
           calls-into t fm pr.ended (pr.clauses 𝓤 H A at-mem run) (callees .refusal) (
             (κ₁, tt),
             (q₁, tt),
             tt,
             (h .device, (h .streams, (h .configuration, (x, (xf, tt))))),
-            (device-of .val (h .device) ∷ [], (streams-of .val (h .streams) ∷ [], (configuration-of .val (h .configuration) ∷ [], (pipeline-of .val x ∷ [], (vf ∷ [], tt))))),
+            (
+              device-of .val (h .device) ∷ [],
+              (
+                streams-of .val (h .streams) ∷ [],
+                (configuration-of .val (h .configuration) ∷ [], (pipeline-of .val x ∷ [], (vf ∷ [], tt))),
+              ),
+            ),
           ) tt refl
-          (guardI 𝓤 (RowsThere x (xf .now)) (emp 𝓤) there) (number w8) 9 here ty tt refl (gets-all t (26 ∷ 27 ∷ 28 ∷ 8 ∷ 2 ∷ []) _ 10 here ty tt has) (λ r _ byte.
+          (guardI 𝓤 (RowsThere x (xf .now)) (emp 𝓤) there) (number w8) 9 here ty tt refl (gets-all t (26 ∷ 27 ∷ 28 ∷ 8 ∷ 2 ∷ []) _ 10 here ty tt has)
+          (λ r _ byte.
           move t (2 ∷ []) $ heard t _ (λ e. move t (1 ∷ []) $ drop t $ frame-back t $ go r byte e))
 
-      configures : K → {n : Item 𝓤} (ms : List (Option Val)) (x : PipelineCommand) → Stands pipeline-of x → RowsThere x (xf .now) → holdings (8 ∷ 2 ∷ []) ms ≡ fulls (pipeline-of .val x ∷ vf ∷ [])
+      configures : K → {n : Item 𝓤} (ms : List (Option Val)) (x : PipelineCommand) → Stands pipeline-of x → RowsThere x (xf .now)
+          → holdings (8 ∷ 2 ∷ []) ms ≡ fulls (pipeline-of .val x ∷ vf ∷ [])
           → ((r : Configured) → Stands configured-of r → CarriesOut (pipelineRead x (xf .now)) r → At K c s n (storing 10 (configured-of .val r) ms) rest q)
           → At K c s n ms (call pc-def.name (copies (8 ∷ 2 ∷ [])) (place 10 []) ⨟ rest) q
       configures t ms x stood there has go =
           frame-out t $ puts t pipeline-of stood $ token t $
-          calls-into t fm pc.ended (pc.clauses 𝓤 H A at-mem run) (callees .pipeline-carry-out) ((κ₁, tt), (q₁, tt), tt, (x, (xf, tt)), (pipeline-of .val x ∷ [], (vf ∷ [], tt))) tt refl
+          calls-into t fm pc.ended (pc.clauses 𝓤 H A at-mem run) (callees .pipeline-carry-out)
+          ((κ₁, tt), (q₁, tt), tt, (x, (xf, tt)), (pipeline-of .val x ∷ [], (vf ∷ [], tt))) tt refl
           (guardI 𝓤 (RowsThere x (xf .now)) (emp 𝓤) there) configured-of 9 here ty tt refl (gets-all t (8 ∷ 2 ∷ []) _ 10 here ty tt has) (λ r _ left.
           move t (2 ∷ []) $ heard t _ (λ e. move t (1 ∷ []) $ drop t $ frame-back t $ go r left e))
 
     module _ {K : Type 0} {q : Post 𝓤 H} {rest : Body} {c : Item 𝓤} where
       -- ---- `table_commands::carry_out`: it has all three slices
-      tables-change : K → (ms : List (Option Val)) (x : TableCommand) → Parts h → Stands table-of x → OperandsThere x (xf .now) → 56320 ≤ length (xs .now) → 57344 ≤ length (xa .now)
+      tables-change : K → (ms : List (Option Val)) (x : TableCommand) → Parts h → Stands table-of x → OperandsThere x (xf .now) → 56320 ≤ length (xs .now)
+          → 57344 ≤ length (xa .now)
           → holdings (33 ∷ 11 ∷ 2 ∷ 35 ∷ 37 ∷ []) ms ≡ fulls (record-of .val h ∷ table-of .val x ∷ vf ∷ vs ∷ va ∷ [])
           → ((r : TableOutcome) (ss ws : List ℕ) → Stands table-outcome-of r → length ss ≡ length (xs .now) → length ws ≡ length (xa .now)
           → Handles (memory h (xs .now)) (onTables (tableRead x (xf .now))) (xa .now) (result (withTables h (r .tables)) (r .reason) ss ws)
@@ -361,8 +407,13 @@ module _ {M : Type 1} (𝓤 : URA M) (H : Heap 𝓤) (A : Atoms 𝓤) (W : Given
           nothing t $ move t (11 ∷ 0 ∷ []) $ fjoin t $ move t (10 ∷ 0 ∷ []) $ fjoin t $ move t (1 ∷ 0 ∷ []) $ fjoin t $
           puts t table-of stood $ puts t record-of (from-parts h p) $
           nothing t $ move t (9 ∷ 0 ∷ []) $ join t $ move t (8 ∷ 0 ∷ []) $ join t $ move t (7 ∷ 0 ∷ []) $ join t $
-          calls-into t fm tc.ended (tc.clauses 𝓤 H A at-mem run) (callees .table-carry-out)
-          ((κ₁, (κ₂, (κ₃, tt))), (q₁, (q₂, (q₃, tt))), tt, (h, (x, (xf, (xs, (xa, tt))))), (record-of .val h ∷ [], (table-of .val x ∷ [], (vf ∷ [], (vs ∷ [], (va ∷ [], tt)))))) tt refl
+          calls-into t fm tc.ended (tc.clauses 𝓤 H A at-mem run) (callees .table-carry-out) (
+            (κ₁, (κ₂, (κ₃, tt))),
+            (q₁, (q₂, (q₃, tt))),
+            tt,
+            (h, (x, (xf, (xs, (xa, tt))))),
+            (record-of .val h ∷ [], (table-of .val x ∷ [], (vf ∷ [], (vs ∷ [], (va ∷ [], tt))))),
+          ) tt refl
           (guardI 𝓤 (OperandsThere x (xf .now) × (56320 ≤ length (xs .now)) × (57344 ≤ length (xa .now))) (emp 𝓤) (there, room, space))
           table-outcome-of 5 here ty tt refl (gets-all t (33 ∷ 11 ∷ 2 ∷ 35 ∷ 37 ∷ []) _ 6 here ty tt has) (λ r zs left.
           move t (2 ∷ []) $ heard t _ (λ e. move t (1 ∷ []) $ fsplit t $ drop t $ fsplit t $ drop t $ fsplit t $ drop t $
@@ -383,8 +434,8 @@ module _ {M : Type 1} (𝓤 : URA M) (H : Heap 𝓤) (A : Atoms 𝓤) (W : Given
       finish : K → (ms : List (Option Val)) (k : Agent) (r : ℕ) (ss ws : List ℕ) → Ends-in q → holding 0 ms ≡ full (vint w8 r) → Fit k r ss ws
           → At K (Cell k) (Last xs ss) (Last xa ws) ms return q
       finish t ms k r ss ws end out fit =
-          owned t A′′.the-row (Is A′′.the-row) (record-of .makes 𝓤 H A W) k (record-of .val k ∷ []) (from-parts k (fit .stood) .is) $ move t (1 ∷ 0 ∷ []) $
-          closes t tt A′′.the-row k (record-of .val k ∷ []) b o $ move t (9 ∷ 0 ∷ 1 ∷ 2 ∷ 3 ∷ 4 ∷ 5 ∷ 8 ∷ 7 ∷ 6 ∷ []) $
+          owned t T.the-row (Is T.the-row) (record-of .makes 𝓤 H A W) k (record-of .val k ∷ []) (from-parts k (fit .stood) .is) $ move t (1 ∷ 0 ∷ []) $
+          closes t tt T.the-row k (record-of .val k ∷ []) b o $ move t (9 ∷ 0 ∷ 1 ∷ 2 ∷ 3 ∷ 4 ∷ 5 ∷ 8 ∷ 7 ∷ 6 ∷ []) $
           leaves t Ends here end ty tt out (exits k r ss ws fit)
 
       -- the same after an arm, which left its reason in local 20
@@ -406,11 +457,12 @@ module _ {M : Type 1} (𝓤 : URA M) (H : Heap 𝓤) (A : Atoms 𝓤) (W : Given
 
     module _ (p : Parts h) (y : Bool) where
       -- ---- 2
-      short-way : {K : Type 0} {q : Post 𝓤 H} → K → Ends-in q → longEnough (length (xs .now)) (length (xa .now)) ≡ false → At K (Cell h) ST AN (Began y []) short-body q
+      short-way : {K : Type 0} {q : Post 𝓤 H} → K → Ends-in q → longEnough (length (xs .now)) (length (xa .now)) ≡ false
+          → At K (Cell h) ST AN (Began y []) short-body q
       short-way t end short =
-          sets t 10 here ty tt (of-opd t (lit t tt)) (fits-in (number w8) W (byte 2 (ltb-true 2 (2 ^ 8) refl)) refl) $ store-kept t $ answer-kept t $
+          sets t 10 here ty tt (of-opd t (lit t tt)) (fits-in (number w8) W two-reason refl) $ store-kept t $ answer-kept t $
           finish t _ h 2 (xs .now) (xa .now) end refl
-          (record { meets = short-met h (xf .now) (xs .now) (xa .now) short; stood = p; reason = byte 2 (ltb-true 2 (2 ^ 8) refl); store-long = refl; answer-long = refl })
+          (record { meets = short-met h (xf .now) (xs .now) (xa .now) short; stood = p; reason = two-reason; store-long = refl; answer-long = refl })
 
       module _ (long : longEnough (length (xs .now)) (length (xa .now)) ≡ true) where
         space : 57344 ≤ length (xa .now)
@@ -425,10 +477,17 @@ module _ {M : Type 1} (𝓤 : URA M) (H : Heap 𝓤) (A : Atoms 𝓤) (W : Given
         malformed-way t end means =
             let some-space : 4 ≤ length (xa .now) = omega (arith, space) in
             lends t 10 here here ty tt tt tt refl refl refl refl (tt, tt) (tt, (tt, (record { fits = ra .0 }, tt))) $
-            heads t _ 1 (byte 1 (ltb-true 1 (2 ^ 8) refl)) some-space (λ _ _ _. lit t tt) tt refl tt refl (λ ws la out.
-            sets t 10 here ty tt (of-opd t (lit t tt)) (fits-in (number w8) W (byte 1 (ltb-true 1 (2 ^ 8) refl)) refl) $ store-kept t $
+            heads t _ 1 one-reason some-space (λ _ _ _. lit t tt) tt refl tt refl (λ ws la out.
+            sets t 10 here ty tt (of-opd t (lit t tt)) (fits-in (number w8) W one-reason refl) $ store-kept t $
             finish t _ h 1 (xs .now) ws end refl
-            (record { meets = malformed-met h (xf .now) (xs .now) (xa .now) long ws means out; stood = p; reason = byte 1 (ltb-true 1 (2 ^ 8) refl); store-long = refl; answer-long = la }))
+            (record {
+              meets = malformed-met h (xf .now) (xs .now)
+                  (xa .now) long ws means out;
+              stood = p;
+              reason = one-reason;
+              store-long = refl;
+              answer-long = la;
+            }))
 
         module _ {K : Type 0} (t : K) (q : Post 𝓤 H) (end : Ends-in q) where
           -- ---- a stream event
@@ -441,10 +500,19 @@ module _ {M : Type 1} (𝓤 : URA M) (H : Heap 𝓤) (A : Atoms 𝓤) (W : Given
               copies-field t 0 10 refl here ty tt tt streams-in-record refl (fits-in streams-of W (p .streams) refl) $
               -- `stream_events::carry_out`
               nothing t $ puts t event-of stood $ puts t streams-of (p .streams) $ puts t device-of (p .device) $ nothing t $
-              calls-into t fm sc.ended (sc.clauses 𝓤 H A at-mem run) (callees .stream-carry-out)
-              (tt, tt, tt, (h .device, (h .streams, (x, tt))), (device-of .val (h .device) ∷ [], (streams-of .val (h .streams) ∷ [], (event-of .val x ∷ [], tt)))) tt refl (id⊢ 𝓤 (emp 𝓤))
+              calls-into t fm sc.ended (sc.clauses 𝓤 H A at-mem run) (callees .stream-carry-out) (
+                tt,
+                tt,
+                tt,
+                (h .device, (h .streams, (x, tt))),
+                (
+                  device-of .val (h .device) ∷ [],
+                  (streams-of .val (h .streams) ∷ [], (event-of .val x ∷ [], tt)),
+                ),
+              ) tt refl (id⊢ 𝓤 (emp 𝓤))
               outcome-of 10 here ty tt refl (gets-all t (21 ∷ 22 ∷ 6 ∷ []) _ 11 here ty tt refl) (λ r _ left. drop t $ drop t $ heard t _ (λ e.
-              stores-field t 0 10 refl here ty tt streams-in-record refl (of-opd t (gets-field t 10 here ty tt streams-in-outcome refl)) (fits-in streams-of W (outcome-parts r left .0) refl) $
+              stores-field t 0 10 refl here ty tt streams-in-record refl (of-opd t (gets-field t 10 here ty tt streams-in-outcome refl))
+              (fits-in streams-of W (outcome-parts r left .0) refl) $
               lends t 10 here here ty tt tt tt refl refl refl refl (tt, tt) (tt, (tt, (record { fits = ra .0 }, tt))) $
               responds t _ r left some-space refl (λ ws la out.
               sets-last t 10 here ty tt (of-opd t (gets-field t 10 here ty tt reason-in-outcome refl)) (fits-in (number w8) W (outcome-parts r left .1) refl) $
@@ -476,7 +544,9 @@ module _ {M : Type 1} (𝓤 : URA M) (H : Heap 𝓤) (A : Atoms 𝓤) (W : Given
               sets t 10 here ty tt (of-opd t (gets t 10 here ty tt refl)) (fits-in (number w8) W number-n refl) $ store-kept t $
               finish t _ h n (xs .now) ws end refl
               (record {
-                meets = pipeline-refused-met h (xf .now) (xs .now) (xa .now) long (pipelineRead x (xf .now)) ws n means refused out (eqb-false n 0 (not-true (eqb n 0) (is-true _ other)));
+                meets =
+                    pipeline-refused-met h (xf .now) (xs .now) (xa .now) long (pipelineRead x (xf .now)) ws n means refused out
+                    (eqb-false n 0 (not-true (eqb n 0) (is-true _ other)));
                 stood = p;
                 reason = number-n;
                 store-long = refl;
@@ -484,15 +554,19 @@ module _ {M : Type 1} (𝓤 : URA M) (H : Heap 𝓤) (A : Atoms 𝓤) (W : Given
               }))
               (λ zero.
               configures t _ x stood there refl (λ r left done.
-              stores-field t 0 10 refl here ty tt configuration-in-record refl (of-opd t (gets-field t 10 here ty tt configuration-in-configured refl)) (fits-in configuration-of W (configured-parts r left .0) refl) $
-              stores-field t 0 10 refl here ty tt tables-in-record refl (of-opd t (gets-field t 10 here ty tt tables-in-configured refl)) (fits-in tables-of W (configured-parts r left .1) refl) $
-              sets-last t 10 here ty tt (of-opd t (lit t tt)) (fits-in (number w8) W (byte 0 (ltb-true 0 (2 ^ 8) refl)) refl) $
+              stores-field t 0 10 refl here ty tt configuration-in-record refl (of-opd t (gets-field t 10 here ty tt configuration-in-configured refl))
+              (fits-in configuration-of W (configured-parts r left .0) refl) $
+              stores-field t 0 10 refl here ty tt tables-in-record refl (of-opd t (gets-field t 10 here ty tt tables-in-configured refl))
+              (fits-in tables-of W (configured-parts r left .1) refl) $
+              sets-last t 10 here ty tt (of-opd t (lit t tt)) (fits-in (number w8) W zero-reason refl) $
               exec t C Λ E end-body q $ store-kept t $
               ends t _ (withConfiguration h (r .configuration) (r .tables)) 0 (xs .now) ws end refl
               (record {
-                meets = pipeline-met h (xf .now) (xs .now) (xa .now) long (pipelineRead x (xf .now)) ws n means refused out (eqb-true n 0 (not-false (eqb n 0) (is-false _ zero))) r done;
+                meets =
+                    pipeline-met h (xf .now) (xs .now) (xa .now) long (pipelineRead x (xf .now)) ws n means refused out
+                    (eqb-true n 0 (not-false (eqb n 0) (is-false _ zero))) r done;
                 stood = record { device = p .device; streams = p .streams; configuration = configured-parts r left .0; tables = configured-parts r left .1 };
-                reason = byte 0 (ltb-true 0 (2 ^ 8) refl);
+                reason = zero-reason;
                 store-long = refl;
                 answer-long = la;
               })))))
@@ -502,12 +576,15 @@ module _ {M : Type 1} (𝓤 : URA M) (H : Heap 𝓤) (A : Atoms 𝓤) (W : Given
               → At K (Cell h) ST AN (Read y (Table x)) table-body (Then end-body q)
           table-way x stood means there =
               sets t 10 here ty tt (of-opd t (gets-payload t 10 here ty tt table-in-command refl)) (fits-in table-of W stood refl) $
-              sets t 10 here ty tt (of-opd t (load t (at-local t ty (hop t (look-in t 10 (in-local t 1 here ty tt refl)) (stop t))) (look-raw t 0 refl))) (fits-in record-of W (from-parts h p) refl) $
+              sets t 10 here ty tt (of-opd t (load t (at-local t ty (hop t (look-in t 10 (in-local t 1 here ty tt refl)) (stop t))) (look-raw t 0 refl)))
+              (fits-in record-of W (from-parts h p) refl) $
               lends t 10 here here ty tt tt tt refl refl refl refl (tt, tt) (tt, (tt, (record { fits = rs .0 }, tt))) $
               lends t 10 here here ty tt tt tt refl refl refl refl (tt, tt) (tt, (tt, (record { fits = ra .0 }, tt))) $
               tables-change t _ x p stood there room space refl (λ r ss ws left ls la handles.
-              stores-field t 0 10 refl here ty tt tables-in-record refl (of-opd t (gets-field t 10 here ty tt tables-in-table-outcome refl)) (fits-in tables-of W (table-outcome-parts r left .0) refl) $
-              sets-last t 10 here ty tt (of-opd t (gets-field t 10 here ty tt reason-in-table-outcome refl)) (fits-in (number w8) W (table-outcome-parts r left .1) refl) $
+              stores-field t 0 10 refl here ty tt tables-in-record refl (of-opd t (gets-field t 10 here ty tt tables-in-table-outcome refl))
+              (fits-in tables-of W (table-outcome-parts r left .0) refl) $
+              sets-last t 10 here ty tt (of-opd t (gets-field t 10 here ty tt reason-in-table-outcome refl))
+              (fits-in (number w8) W (table-outcome-parts r left .1) refl) $
               exec t C Λ E end-body q $
               ends t _ (withTables h (r .tables)) (r .reason) ss ws end refl
               (record {
@@ -522,22 +599,27 @@ module _ {M : Type 1} (𝓤 : URA M) (H : Heap 𝓤) (A : Atoms 𝓤) (W : Given
           command-way : (x : Command) → Stands command-of x → commandRead x (xf .now) ≡ readFrame (xf .now) → CommandThere x (xf .now)
               → At K (Cell h) ST AN (Read y x) command-body q
           command-way (Stream x) stood means there =
-              first t $ switches-on t (gets-tag t 10 here ty tt event-in-command refl) $ exec t C Λ E stream-body (Then end-body q) $ stream-way x (event x stood) means
+              first t $ switches-on t (gets-tag t 10 here ty tt event-in-command refl) $ exec t C Λ E stream-body (Then end-body q) $
+              stream-way x (event x stood) means
           command-way (Pipeline x) stood means there =
-              first t $ switches-on t (gets-tag t 10 here ty tt event-in-command refl) $ exec t C Λ E pipeline-body (Then end-body q) $ pipeline-way x (pipeline x stood) means there
+              first t $ switches-on t (gets-tag t 10 here ty tt event-in-command refl) $ exec t C Λ E pipeline-body (Then end-body q) $
+              pipeline-way x (pipeline x stood) means there
           command-way (Table x) stood means there =
-              first t $ switches-on t (gets-tag t 10 here ty tt event-in-command refl) $ exec t C Λ E table-body (Then end-body q) $ table-way x (table x stood) means there
+              first t $ switches-on t (gets-tag t 10 here ty tt event-in-command refl) $ exec t C Λ E table-body (Then end-body q) $
+              table-way x (table x stood) means there
 
           frame-way : (x : Frame) → Stands frame-of x → frameRead x (xf .now) ≡ readFrame (xf .now) → FrameThere x (xf .now)
               → At K (Cell h) ST AN (Began y (full (frame-of .val x) ∷ [])) switch-body q
           frame-way Malformed stood means there =
-              first t $ switches-on t (gets-tag t 10 here ty tt command-in-frame refl) $ exec t C Λ E malformed-body (Then command-body q) $ malformed-way t end means
+              first t $ switches-on t (gets-tag t 10 here ty tt command-in-frame refl) $ exec t C Λ E malformed-body (Then command-body q) $
+              malformed-way t end means
           frame-way (Asks x) stood means there =
               first t $ switches-on t (gets-tag t 10 here ty tt command-in-frame refl) $ exec t C Λ E take-body (Then command-body q) $
               sets-last t 10 here ty tt (of-opd t (gets-payload t 10 here ty tt command-in-frame refl)) (fits-in command-of W (asked x stood) refl) $
               exec t C Λ E command-body q $ command-way x (asked x stood) means there
 
-    whole-way : {K : Type 0} {q : Post 𝓤 H} → K → Ends-in q → Parts h → At K (Cell h) ST AN (empty ∷ full (vptr b o) ∷ full vf ∷ full vs ∷ full va ∷ []) whole-body q
+    whole-way : {K : Type 0} {q : Post 𝓤 H} → K → Ends-in q → Parts h → At K (Cell h) ST AN
+        (empty ∷ full (vptr b o) ∷ full vf ∷ full vs ∷ full va ∷ []) whole-body q
     whole-way t end p =
         sets t 10 here ty tt (of-opd t (gets-field t 10 here ty tt (length-of _) refl)) (tt, record { fits = rs .0 }) $
         sets t 10 here ty tt (of-opd t (gets-field t 10 here ty tt (length-of _) refl)) (tt, record { fits = ra .0 }) $
@@ -547,9 +629,11 @@ module _ {M : Type 1} (𝓤 : URA M) (H : Heap 𝓤) (A : Atoms 𝓤) (W : Given
 
   module _ (C : Calls 𝓤 H) (Λ : Loops 𝓤 H) (fm : FmC 𝓤 H (W .laws) C) (callees : Met 𝓤 H A at-mem run C) where
     walk : Room u8 (length (xf .now)) → Room u8 (length (xs .now)) → Room u8 (length (xa .now))
-        → ent 𝓤 (onEntry 𝓤 H A f.signature (κ₀, (κ₁, (κ₂, (κ₃, tt)))) (q₀, (q₁, (q₂, (q₃, tt)))) a vals) (WpFn 𝓤 H C Λ code.function (vptr b o ∷ vf ∷ vs ∷ va ∷ []) Ends)
+        → ent 𝓤 (onEntry 𝓤 H A f.signature (κ₀, (κ₁, (κ₂, (κ₃, tt)))) (q₀, (q₁, (q₂, (q₃, tt)))) a vals)
+        (WpFn 𝓤 H C Λ code.function (vptr b o ∷ vf ∷ vs ∷ va ∷ []) Ends)
     walk rf rs ra =
-        qed W ((t₀ ⊛ t₁ ⊛ t₂ ⊛ t₃ ⊛ ‵ ftrue) ∷ ‵ (owns (MutRef (named 0) κ₀ A′′.the-row ∷ ShrSlice (named 1) κ₁ u8 ∷ MutSlice (named 2) κ₂ u8 ∷ MutSlice (named 3) κ₃ u8 ∷ []) a vals) ∷ []) ∵
+        qed W ((t₀ ⊛ t₁ ⊛ t₂ ⊛ t₃ ⊛ ‵ ftrue) ∷ ‵ (owns (MutRef (named 0) κ₀ T.the-row ∷ ShrSlice (named 1) κ₁ u8 ∷ MutSlice (named 2) κ₂ u8 ∷ MutSlice
+        (named 3) κ₃ u8 ∷ []) a vals) ∷ []) ∵
         enter ! C Λ code.function (vptr b o ∷ vf ∷ vs ∷ va ∷ []) _ $
         allots ! (code.function .locals) (λ E ty. started ! E (vptr b o ∷ vf ∷ vs ∷ va ∷ []) ty
         ((tt, tt), ((tt, (tt, (record { fits = rf .0 }, tt))), ((tt, (tt, (record { fits = rs .0 }, tt))), ((tt, (tt, (record { fits = ra .0 }, tt))), tt)))) (
@@ -558,9 +642,9 @@ module _ {M : Type 1} (𝓤 : URA M) (H : Heap 𝓤) (A : Atoms 𝓤) (W : Given
         move ! (6 ∷ []) $ split ! $ move ! (1 ∷ []) $ split ! $ move ! (1 ∷ []) $ split ! $ move ! (1 ∷ []) $ split ! $ move ! (9 ∷ []) $ fsplit3 ! $ drop ! $
         keep ! (0 ∷ 1 ∷ 6 ∷ 5 ∷ 4 ∷ 2 ∷ 10 ∷ 9 ∷ 7 ∷ 11 ∷ []) $
         -- the borrow of the record is opened
-        opens ! tt A′′.the-row {h = h} b o (λ us.
-        spelt ! A′′.the-row (Is A′′.the-row) (shows 𝓤 H A A′′.the-row) (λ k. record-of .val k ∷ []) (record-of .tells) fullShare h us b o $
-        move ! (1 ∷ []) $ facts ! A′′.the-row (Is A′′.the-row) (shows 𝓤 H A A′′.the-row) h (record-of .val h ∷ []) (λ is.
+        opens ! tt T.the-row {h = h} b o (λ us.
+        spelt ! T.the-row (Is T.the-row) (shows 𝓤 H A T.the-row) (λ k. record-of .val k ∷ []) (record-of .tells) fullShare h us b o $
+        move ! (1 ∷ []) $ facts ! T.the-row (Is T.the-row) (shows 𝓤 H A T.the-row) h (record-of .val h ∷ []) (λ is.
         whole-way C Λ fm callees rs ra _ E ty ! refl (parts h (record { is = is }))))))
 
 module _ {M : Type 1} (𝓤 : URA M) (H : Heap 𝓤) (A : Atoms 𝓤) (W : Given 𝓤 H A) (at-mem : Memory → SProp 𝓤) (run : Routine → Fun 𝓤) where
@@ -569,15 +653,23 @@ module _ {M : Type 1} (𝓤 : URA M) (H : Heap 𝓤) (A : Atoms 𝓤) (W : Given
   unfolding Ends
   savorylatch-call-walks C Λ fm callees =
       walked 𝓤 H A f.ended stayed (f.clauses 𝓤 H A at-mem run) (WpFn 𝓤 H C Λ code.function) (λ κs. (ptr-vals, (slice-vals, (slice-vals, (slice-vals, tt)))))
-      (λ κs. (mut-tells (named 0) (κs .0) A′′.the-row, (shr-slice-tells (named 1) (κs .1 .0) u8, (mut-slice-tells (named 2) (κs .1 .1 .0) u8, (mut-slice-tells (named 3) (κs .1 .1 .1 .0) u8, tt)))))
+      (λ κs. (
+        mut-tells (named 0) (κs .0) T.the-row,
+        (
+          shr-slice-tells (named 1) (κs .1 .0) u8,
+          (mut-slice-tells (named 2) (κs .1 .1 .0) u8, (mut-slice-tells (named 3) (κs .1 .1 .1 .0) u8, tt)),
+        ),
+      ))
       (λ κs qs bounds a _ are. via 𝓤 _ (fst∗ 𝓤 _ (emp 𝓤))
       (walk 𝓤 H A W at-mem run (κs .0) (κs .1 .0) (κs .1 .1 .0) (κs .1 .1 .1 .0) bounds (qs .0) (qs .1 .0) (qs .1 .1 .0) (qs .1 .1 .1 .0)
-      (a .0 .ptr .0) (a .0 .ptr .1) (a .0 .name) (a .0 .now) (a .1 .0) (a .1 .1 .0) (a .1 .1 .1 .0) C Λ fm callees (are .1 .0 .0 .1) (are .1 .1 .0 .0 .1) (are .1 .1 .1 .0 .0 .1)))
+      (a .0 .ptr .0) (a .0 .ptr .1) (a .0 .name) (a .0 .now) (a .1 .0) (a .1 .1 .0) (a .1 .1 .1 .0) C Λ fm callees (are .1 .0 .0 .1) (are .1 .1 .0 .0 .1)
+      (are .1 .1 .1 .0 .0 .1)))
 
-  savorylatch-call-meets : (𝓣 : Tables 𝓤 H) → Met 𝓤 H A at-mem run (𝓣 .C) → Meets 𝓤 H A f.signature (WpFn 𝓤 H (𝓣 .C) (𝓣 .Λ) code.function) (f.spec 𝓤 H A at-mem run)
+  savorylatch-call-meets : (𝓣 : Tables 𝓤 H) → Met 𝓤 H A at-mem run (𝓣 .C)
+      → Meets 𝓤 H A f.signature (WpFn 𝓤 H (𝓣 .C) (𝓣 .Λ) code.function) (f.spec 𝓤 H A at-mem run)
   savorylatch-call-meets 𝓣 callees =
       walk-meets 𝓤 H A f.ended stayed W (
-        goes-ref 𝓤 H A W 4 0 tt (plain (λ _. A′′.the-row)),
+        goes-ref 𝓤 H A W 4 0 tt (plain (λ _. T.the-row)),
         (
           goes-none-slice 𝓤 H A W 4 (1 ∷ []) tt (plain (λ _. u8)) yes,
           (goes-gave-slice 𝓤 H A W 4 2 tt (plain (λ _. u8)), (goes-gave-slice 𝓤 H A W 4 3 tt (plain (λ _. u8)), tt)),
@@ -593,7 +685,9 @@ savorylatch-call-spec 𝓤 H 𝓜 𝓖 𝓡 =
     (tables 𝓤 H 𝓜 𝓡 code.env .C) (tables 𝓤 H 𝓜 𝓡 code.env .Λ) #savorylatch·savorylatch-call code.function (code.unfolded 𝓤 H 𝓜 𝓡)
     (savorylatch-call-meets 𝓤 H (𝓖 .A) (givenOf 𝓤 H 𝓜 𝓖) (𝓜 .mem) (𝓡 .run) (tablesOf 𝓤 H 𝓜 (tables 𝓤 H 𝓜 𝓡 code.env))
     (record {
-      too-short = cited 𝓤 H (tripleOf 𝓤 H (𝓖 .A) ts.signature (ts.spec 𝓤 H (𝓖 .A) (𝓜 .mem) (𝓡 .run))) 𝓜 𝓡 code.env ts-def.name ts-def.routine code.calls-answers·too-short (ts-thm.met 𝓤 H 𝓜 𝓖 𝓡);
+      too-short =
+          cited 𝓤 H (tripleOf 𝓤 H (𝓖 .A) ts.signature (ts.spec 𝓤 H (𝓖 .A) (𝓜 .mem)
+          (𝓡 .run))) 𝓜 𝓡 code.env ts-def.name ts-def.routine code.calls-answers·too-short (ts-thm.met 𝓤 H 𝓜 𝓖 𝓡);
       write-head = cited 𝓤 H _ 𝓜 𝓡 code.env wh-def.name wh-def.routine code.calls-answers·write-head (wh-thm.met 𝓤 H 𝓜 𝓖 𝓡);
       read-frame = cited 𝓤 H _ 𝓜 𝓡 code.env rf-def.name rf-def.routine code.calls-frames·read-frame (rf-thm.met 𝓤 H 𝓜 𝓖 𝓡);
       stream-carry-out = cited 𝓤 H _ 𝓜 𝓡 code.env sc-def.name sc-def.routine code.calls-stream-events·carry-out (sc-thm.met 𝓤 H 𝓜 𝓖 𝓡);

@@ -78,7 +78,8 @@ module _ {M : Type 1} (𝓤 : URA M) (H : Heap 𝓤) (A : Atoms 𝓤) (W : Given
   exits : (r : Agent) → Fresh Flat n r → Stands (number w64) n → ent 𝓤 (⋆ 𝓤 H A (Left r)) (Ends vunit)
   exits r e device =
       qed W (Left r) ∵
-      suffices ! _ (ends-at 𝓤 H A f.ended stayed (f.clauses 𝓤 H A at-mem run) W (((κ, tt), (q, tt), tt, x, at), tt) vunit tt (r, (tt, tt)) (tt, (tt, tt))) $ says ! e $
+      suffices ! _ (ends-at 𝓤 H A f.ended stayed (f.clauses 𝓤 H A at-mem run) W (((κ, tt), (q, tt), tt, x, at), tt) vunit tt (r, (tt, tt)) (tt, (tt, tt))) $
+      says ! e $
       nothing ! $ move ! (3 ∷ 0 ∷ []) $ join ! $ frame ! $ feqI ! (List Val) (vptr b o ∷ []) (vptr b o ∷ []) refl $ fjoin3 ! $
       nothing ! $ puts ! (number w64) device $ move ! (1 ∷ 0 ∷ []) $ fjoin ! $
       feqI ! (List Val) (vunit ∷ []) (vunit ∷ []) refl $ move ! (1 ∷ 0 ∷ []) $ done !
@@ -98,7 +99,8 @@ module _ {M : Type 1} (𝓤 : URA M) (H : Heap 𝓤) (A : Atoms 𝓤) (W : Given
         -- the borrow is opened, r is stored, and the borrow is closed at it
         move ! (1 ∷ 2 ∷ 3 ∷ []) $ opens ! tt T.the-row {h = h} b o (λ us.
         spelt ! T.the-row (Is T.the-row) (shows 𝓤 H A T.the-row) (λ k. record-of .val k ∷ []) (record-of .tells) fullShare h us b o $
-        assigns ! (of-opd ! (gets ! 5 here ty tt refl)) (at-local ! ty (hop ! (look-in ! 5 (in-local ! 1 here ty tt refl)) (stop !))) (store-raw ! 0 refl (fits-in record-of W stood refl)) $
+        assigns ! (of-opd ! (gets ! 5 here ty tt refl)) (at-local ! ty (hop ! (look-in ! 5 (in-local ! 1 here ty tt refl)) (stop !)))
+        (store-raw ! 0 refl (fits-in record-of W stood refl)) $
         sets ! 5 here ty tt (of-opd ! (unit-lit !)) (tt, tt) $
         move ! (1 ∷ []) $ drop ! $ owned ! T.the-row (Is T.the-row) (record-of .makes 𝓤 H A W) r (record-of .val r ∷ []) (stood .is) $ move ! (1 ∷ 0 ∷ []) $
         closes ! tt T.the-row r (record-of .val r ∷ []) b o $ move ! (3 ∷ []) $ leaves ! Ends here refl ty tt refl (exits r e device))))))
@@ -115,7 +117,8 @@ module _ {M : Type 1} (𝓤 : URA M) (H : Heap 𝓤) (A : Atoms 𝓤) (W : Given
   savorylatch-new-meets : (𝓣 : Tables 𝓤 H) → Meets 𝓤 H A g.signature (𝓣 .C g-def.name) (g.spec 𝓤 H A at-mem run)
       → Meets 𝓤 H A f.signature (WpFn 𝓤 H (𝓣 .C) (𝓣 .Λ) code.function) (f.spec 𝓤 H A at-mem run)
   savorylatch-new-meets 𝓣 known =
-      walk-meets 𝓤 H A f.ended stayed W (goes-ref 𝓤 H A W 1 0 tt (plain (λ _. T.the-row)), (goes-none 𝓤 H A W 1 (λ _. u64) yes (λ κs x f. refl), tt)) (f.clauses 𝓤 H A at-mem run)
+      walk-meets 𝓤 H A f.ended stayed W (goes-ref 𝓤 H A W 1 0 tt (plain (λ _. T.the-row)), (goes-none 𝓤 H A W 1 (λ _. u64) yes (λ κs x f. refl), tt))
+      (f.clauses 𝓤 H A at-mem run)
       (WpFn 𝓤 H (𝓣 .C) (𝓣 .Λ) code.function) (WpFn-mono 𝓤 H (W .laws) 𝓣 code.function) (savorylatch-new-walks (𝓣 .C) (𝓣 .Λ) (fmOf 𝓤 H (W .laws) 𝓣) known)
 
 pub savorylatch-new-spec : {M : Type 1} → stated.statement M

@@ -1,7 +1,8 @@
 -- The MIR of `savorylatch_call`, a body for each way. Right because the walk enters the function's own MIR, which antt compares with this.
 -- Assumes nothing.
 use mathlib.Core.List.{[], _∷_, List}
-use mir.Syntax.{named, erased, imm, mut, w8, w64, Ty, tyBool, tyInt, tyUnit, tyRef, deref, field, variant, place, copy, int, ne, rvOpd, op2, addrOf, aggregate, Body, skip, seq, assign, cond, switch, arm, noDefault, call, return}
+use mir.Syntax.{named, erased, imm, mut, w8, w64, Ty, tyBool, tyInt, tyUnit, tyRef, deref, field, variant, place, copy, int, ne, rvOpd, op2, addrOf, aggregate}
+use mir.Syntax.{Body, skip, seq, assign, cond, switch, arm, noDefault, call, return}
 use denote.Slice.{sliceTy}
 use Rattle.arbitration.proofs.Streams.Laws as S
 use Rattle.arbitration.proofs.Outcome.Laws as O
