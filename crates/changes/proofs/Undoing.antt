@@ -19,7 +19,7 @@ use Rattle.store.proofs.Writes.{parts-at}
 use Rattle.store.proofs.KeyPlace.{place-stored}
 use Rattle.judging.specs.declared.Verdict.the-variants.{Refused, Insert, Modify, Delete}
 use Rattle.changes.specs.Effect.{effect}
-use Rattle.changes.specs.Undo.{Added, Changed, Removed, noteOf, noted, undone, Undoable, Undoing, UndoAfterApply}
+use Rattle.changes.specs.Undo.{Added, Changed, Removed, noteOf, noted, undone, Undone, Undoing, UndoAfterApply}
 
 -- ---- undo after apply, on the entries
 
@@ -129,19 +129,21 @@ module _ (note u before after : List ℕ) (tables r : Tables) where
   abbrev es : List (List ℕ)
   es = entriesIn tables before
 
-  abbrev Back : Type 0
-  Back = Undoable (noteOf note u) (tables .count) → Holds before after r (undone (noteOf note u) es)
+  abbrev Same : Type 0
+  Same = (after ≡ before) × (r ≡ tables)
 
-  pub back-one : byte 0 note ≡ 1 → Holds before after r (take (length es - 1) es) → Back
-  back-one e h = rw (note-one note u e) (λ f. h)
+  pub back-one : byte 0 note ≡ 1 → Holds before after r (take (length es - 1) es) → ((0 < tables .count → ⊥) → Same)
+      → Undone note u tables before after r
+  back-one e h k = rw (note-one note u e) (λ f. h, k)
 
   module _ {i : ℕ} (at : i ≡ byte 1 note) where
     pub back-two : length note ≡ 74 → byte 0 note ≡ 2 → (i < tables .count → Holds before after r (changedAt i (take 72 (drop 2 note)) es))
-        → Back
-    back-two long e h =
+        → ((i < tables .count → ⊥) → Same) → Undone note u tables before after r
+    back-two long e h k =
         let a : take 72 (drop 2 note) ≡ drop 2 note = take-all 72 (drop 2 note) (omega (arith, length-drop 2 note)) in
-        rw (note-two note u e, ← at, ← a) h
+        rw (note-two note u e, ← at, ← a) (h, k)
 
     pub back-other : (byte 0 note ≡ 1 → ⊥) → (byte 0 note ≡ 2 → ⊥)
-        → (i ≤ tables .count → tables .count < 256 → Holds before after r (insertedAt i (shortKey (drop 1 u) ++ drop 2 note) es)) → Back
-    back-other a b h = rw (note-other note u a b, ← at) (λ f. h (f .0) (f .1))
+        → (i ≤ tables .count → tables .count < 256 → Holds before after r (insertedAt i (shortKey (drop 1 u) ++ drop 2 note) es))
+        → (((i ≤ tables .count) × (tables .count < 256) → ⊥) → Same) → Undone note u tables before after r
+    back-other a b h k = rw (note-other note u a b, ← at) (λ f. h (f .0) (f .1), k)

@@ -53,10 +53,11 @@ Undoable Added count = 0 < count
 Undoable (Changed i action) count = i < count
 Undoable (Removed i old) count = (i ≤ count) × (count < 256)
 
--- what is left of a store by undoing it, a note in bytes with its update, if it can be undone
+-- what is left of a store by undoing it, a note in bytes with its update; one that cannot be undone changes nothing
 abbrev pub Undone : List ℕ → List ℕ → Tables → List ℕ → List ℕ → Tables → Type 0
 Undone note u tables before after left =
-    Undoable (noteOf note u) (tables .count) → Holds before after left (undone (noteOf note u) (entriesIn tables before))
+    (Undoable (noteOf note u) (tables .count) → Holds before after left (undone (noteOf note u) (entriesIn tables before)))
+    × ((Undoable (noteOf note u) (tables .count) → ⊥) → (after ≡ before) × (left ≡ tables))
 
 -- the entry that was deleted: its key is the update's in shortest form, its action and parameters were noted
 abbrev pub deletedEntry : List ℕ → List ℕ → List ℕ

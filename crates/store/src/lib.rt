@@ -29,6 +29,7 @@ impl Tables {
     pub fn without_last(self) -> Tables
         ensures bound { λ r. ⌜ r .count ≤ self .count ⌝ }
         ensures entries { λ r. ⌜ ((store : List ℕ) → entriesIn r store ≡ take (length (entriesIn self store) - 1) (entriesIn self store)) ⌝ }
+        ensures none { λ r. ⌜ ((0 < self .count → ⊥) → r ≡ self) ⌝ }
     {
         if self.count == 0 {
             return self;

@@ -74,7 +74,7 @@ loop-again c =
       omega arith,
       u .ensures .0,
       u .kept .1 .1 .0 ∙ l .inv .2,
-      λ goal v. back-next (l .inv .3 goal v) m (rw (e, e′) at (u .ensures .1)),
+      λ goal v. back-next (l .inv .3 goal v) m (rw (e, e′) at (u .ensures .1 .0)),
     )
 
 same-length : tie.Need-same-length Inv-loop μ-loop

@@ -32,7 +32,7 @@ returns c =
     let w = c .without-last in (
       omega arith,
       back-one note (now (a .update)) s s (a .tables) (w .result) e
-          (record { holds = w .ensures .1 s; few = omega arith; room = refl; beyond = refl }),
+          (record { holds = w .ensures .1 .0 s; few = omega arith; room = refl; beyond = refl }) (λ n. (refl, w .ensures .1 .1 n)),
     )
 
 sub-replace-action : tie.Need-sub-replace-action
@@ -59,7 +59,7 @@ returns-2 c =
     let e : byte 0 note ≡ 2 = search needs in
     let l : length note ≡ 74 = search needs in
     let r = c .before .before .replace-action in
-    (omega arith, back-two note (now (a .update)) s (r .last .0) (a .tables) (a .tables) w l e (λ h. r .ensures))
+    (omega arith, back-two note (now (a .update)) s (r .last .0) (a .tables) (a .tables) w l e (λ h. r .ensures) (λ n. absurd (n (omega arith))))
 
 returns-3 : tie.Need-returns-3
 returns-3 c =
@@ -69,7 +69,7 @@ returns-3 c =
     let w = c .before .before .before .wide .ensures .0 in
     let e : byte 0 note ≡ 2 = search needs in
     let l : length note ≡ 74 = search needs in
-    (omega arith, back-two note (now (a .update)) s s (a .tables) (a .tables) w l e (λ h. absurd (omega arith)))
+    (omega arith, back-two note (now (a .update)) s s (a .tables) (a .tables) w l e (λ h. absurd (omega arith)) (λ n. (refl, refl)))
 
 returns-4 : tie.Need-returns-4
 returns-4 c =
@@ -79,7 +79,7 @@ returns-4 c =
     let w = c .before .before .before .wide .ensures .0 in
     let n : byte 0 note ≡ 1 → ⊥ = search needs in
     let m : byte 0 note ≡ 2 → ⊥ = search needs in
-    (omega arith, back-other note (now (a .update)) s s (a .tables) (a .tables) w n m (λ h g. absurd (omega arith)))
+    (omega arith, back-other note (now (a .update)) s s (a .tables) (a .tables) w n m (λ h g. absurd (omega arith)) (λ k. (refl, refl)))
 
 returns-5 : tie.Need-returns-5
 returns-5 c =
@@ -89,7 +89,7 @@ returns-5 c =
     let w = c .before .before .before .before .wide .ensures .0 in
     let n : byte 0 note ≡ 1 → ⊥ = search needs in
     let m : byte 0 note ≡ 2 → ⊥ = search needs in
-    (omega arith, back-other note (now (a .update)) s s (a .tables) (a .tables) w n m (λ h g. absurd (omega arith)))
+    (omega arith, back-other note (now (a .update)) s s (a .tables) (a .tables) w n m (λ h g. absurd (omega arith)) (λ k. (refl, refl)))
 
 put-back-requires : tie.Need-put-back-requires
 put-back-requires c κs = search needs
@@ -105,8 +105,11 @@ returns-6 c =
     let w = c .before .before .before .before .before .before .before .before .wide .ensures .0 in
     let p = c .before .before .put-back in
     let n : byte 0 note ≡ 1 → ⊥ = search needs in
-    let m : byte 0 note ≡ 2 → ⊥ = search needs in
-    (p .ensures .few, back-other note (now (a .update)) s (p .last .1 .1 .0) (a .tables) (p .result) w n m (λ h g. p .ensures))
+    let m : byte 0 note ≡ 2 → ⊥ = search needs in (
+      p .ensures .few,
+      back-other note (now (a .update)) s (p .last .1 .1 .0) (a .tables) (p .result) w n m (λ h g. p .ensures)
+          (λ k. absurd (k (omega arith, omega arith))),
+    )
 
 pub undo-spec : {M : Type 1} → statement M
 undo-spec =

@@ -19,7 +19,7 @@ fewer n m store e =
 returns : tie.Need-returns
 returns c =
     let n : ℕ = c .before .before .args .self .count in
-    (omega arith, λ store. fewer n n store (omega arith))
+    (omega arith, (λ store. fewer n n store (omega arith), λ z. refl))
 
 sub-t3 : tie.Need-sub-t3
 sub-t3 c = search needs
@@ -27,7 +27,7 @@ sub-t3 c = search needs
 returns-2 : tie.Need-returns-2
 returns-2 c =
     let n : ℕ = c .before .before .before .args .self .count in
-    (omega arith, λ store. fewer n (n - 1) store refl)
+    (omega arith, (λ store. fewer n (n - 1) store refl, λ z. absurd (z (omega arith))))
 
 pub without-last-spec : {M : Type 1} → statement M
 without-last-spec = tie.close (tie.spec returns sub-t3 returns-2)
