@@ -12,17 +12,16 @@ use mir.Syntax.{assign}
 use mir.Raw.{raw as rawTy}
 use mir.Val.{Val, Vals, vint, vptr, vstruct, hasTy, WT}
 use mir.Fields.{getV, setV}
-use base.Logic.{SProp}
-use base.Fml.{Share, fat}
+use base.Fml.{fat}
 use prog.Memory.{fieldAt, fieldOf, variantAt, variantOf}
 use prog.Wp.{Heap, Env, Calls, Loops}
 use ghost.Atoms.{Atoms}
 use types.Kit.{Given, Item, ‵, raw, nth, put, Step, step, Post, runs, _$_}
-use types.Run.{Opd, Rv, Walks as Leads, Finds, stop, hop, fld, load, addr, of-opd, and-then, no-more, assigns}
+use types.Run.{Opd, Rv, Walks as Leads, stop, hop, fld, load, addr, of-opd, and-then, no-more, assigns}
 use types.Match.{live, vrt, in-variant, look-tag}
 use types.Part.{Part, agg, sub, look-in, store-in}
 use denote.Slice.{sliceTy, sliceVal}
-use Rattle.savorylatch.proofs.Locals.{Held, Typed, There, AllThere, tyAt, holding, storing, held, block, whole-raw, in-local, at-local, gets, sets}
+use Rattle.savorylatch.proofs.Locals.{Held, Typed, There, tyAt, holding, storing, held, block, whole-raw, in-local, at-local, gets, sets}
 
 -- ---- where a field lies: shown once for each type, so that no step of a walk computes a layout
 -- σ is a struct, and its field k is of type τ

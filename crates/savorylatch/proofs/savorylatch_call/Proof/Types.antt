@@ -84,7 +84,7 @@ configured-of = of-struct PO.the-type PO′.the-laws PO′.the-plain
 abbrev pub table-outcome-of : Known TO.the-row
 table-outcome-of = of-struct TO.the-type TO′.the-laws TO′.the-plain
 
--- ---- where the parts lie
+-- ---- where the parts lie: of each, that it is there. The offsets are nobody's business
 pub device-in-record : Field-of A′.mir 0 D′.mir
 device-in-record = record { ν = _; τs = _; d = _; struct = refl; lies = refl }
 
@@ -137,7 +137,12 @@ pub record Parts (k : Agent) : Type 0 where
 pub parts : (k : Agent) → Stands record-of k → Parts k
 parts k s =
     let p = SL.owed A.the-type A′.the-laws k _ (s .is) in
-    record { device = record { is = p .0 }; streams = record { is = p .1 .0 }; configuration = record { is = p .1 .1 .0 }; tables = record { is = p .1 .1 .1 .0 } }
+    record {
+      device = record { is = p .0 };
+      streams = record { is = p .1 .0 };
+      configuration = record { is = p .1 .1 .0 };
+      tables = record { is = p .1 .1 .1 .0 };
+    }
 
 pub from-parts : (k : Agent) → Parts k → Stands record-of k
 from-parts k p = record { is = SL.owes A.the-type A′.the-laws k (p .device .is, (p .streams .is, (p .configuration .is, (p .tables .is, tt)))) }
