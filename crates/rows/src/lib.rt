@@ -6,7 +6,7 @@ ghost use Prim.Native.Nat.{_+_, _*_, _≤_, _<_};
 ghost use lib.Dec.{ltb};
 ghost use lib.ListN.{length};
 ghost use Rattle.rules.specs.Frame.{rowSize};
-ghost use Rattle.rules.specs.Bytes.{if_then_else_, part, parts};
+ghost use Rattle.rules.specs.Bytes.{part, parts};
 ghost use Rattle.rules.specs.Call.{unconfigured};
 ghost use Rattle.rules.specs.Row as rules;
 ghost use Rattle.rows.specs.Meaning.{fieldOf, actionOf, rowOf, rowsOf, rowAt, rowsIn, countsFit};
@@ -156,19 +156,6 @@ impl Row {
         }
     }
 
-    // The row itself, or an empty one.
-    fn only_if(self, here: bool) -> Row
-        ensures { λ r. ⌜ rowOf r ≡ (if here then rowOf self else rules.noRow) ⌝ }
-    {
-        let mut row = self;
-        row.table = id_if(here, self.table);
-        row.size = size_if(here, self.size);
-        row.owner = byte_if(here, self.owner);
-        row.field_count = byte_if(here, self.field_count);
-        row.action_count = byte_if(here, self.action_count);
-        row
-    }
-
     // The primary of role 0 may write every table, that of role r only tables owned by r.
     pub fn may_write(self, role: u8) -> bool
         ensures { λ r. ⌜ r ≡ rules.mayWrite role (rowOf self) ⌝ }
@@ -177,32 +164,12 @@ impl Row {
     }
 }
 
-// A number, or 0.
-fn id_if(here: bool, n: u32) -> u32
-    ensures { λ r. ⌜ r ≡ (if here then n else 0) ⌝ }
-{
-    if here {
-        return n;
-    }
-    0
-}
-
-fn size_if(here: bool, n: u16) -> u16
-    ensures { λ r. ⌜ r ≡ (if here then n else 0) ⌝ }
-{
-    if here {
-        return n;
-    }
-    0
-}
-
-fn byte_if(here: bool, n: u8) -> u8
-    ensures { λ r. ⌜ r ≡ (if here then n else 0) ⌝ }
-{
-    if here {
-        return n;
-    }
-    0
+impl Lookup {
+    // Of an unknown table.
+    const NONE: Lookup = Lookup {
+        known: false,
+        row: Row::NONE,
+    };
 }
 
 // Whether no count of a row is over 4, so that nothing is left out when it is read.
@@ -273,17 +240,16 @@ impl Rows {
         8
     }
 
-    // The row of a table, an empty one where it is not known. There is one way through: with one for each case, the compiler would copy
-    // each row that the search passes.
+    // The row of a table. It is copied once it is found: a search that hands on rows copies each that it passes.
     pub fn find(self, table: u64) -> Lookup
         ensures known { λ r. ⌜ r .known ≡ rules.known table (rowsOf self) ⌝ }
         ensures row { λ r. ⌜ rowOf (r .row) ≡ rules.rowFor table (rowsOf self) ⌝ }
     {
         let place = self.position(table);
-        let at = place % 8;
-        let row = self.rows[at];
-        let known = place < 8;
-        let found = row.only_if(known);
-        Lookup { known, row: found }
+        if 8 <= place {
+            return Lookup::NONE;
+        }
+        let row = self.rows[place];
+        Lookup { known: true, row }
     }
 }
