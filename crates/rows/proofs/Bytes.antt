@@ -16,13 +16,6 @@ use Rattle.rules.proofs.Lists.{drop-map, parts-from, part-part}
 use Rattle.rules.proofs.Tests.{and-true, both-true}
 use Rattle.numbers.proofs.Bytes.{int-none, int-next, below-next}
 
--- n bytes are below 256 ^ n
-pub int-below : (n a : ℕ) (l : List ℕ) → ((i : ℕ) → getD l i 0 < 256) → a + n ≤ length l → int a n l < 256 ^ n
-int-below zero a l b h = rw (int-none a l) (omega arith)
-int-below (suc n) a l b h =
-    let r : int a n l < 256 ^ n = int-below n a l b (omega arith) in
-    rw (← add-one n, int-next a n l (omega arith)) (below-next (int a n l) (getD l (a + n) 0) n r (b (a + n)))
-
 -- the integer that a part begins with
 pub int-first : (at n m : ℕ) (l : List ℕ) → m ≤ n → int 0 m (part at n l) ≡ int at m l
 int-first at n m l h = ap number (take-take m n (drop at l) h)
@@ -32,35 +25,6 @@ int-first at n m l h = ap number (take-take m n (drop at l) h)
 next-part : (w i : ℕ) (l : List ℕ) → part (w * suc i) w l ≡ part (w * i) w (drop w l)
 next-part w i l =
     ap (λ (a : ℕ). part a w l) (mul-suc w i ∙ add-comm (w * i) w) ∙ ap (take w) (sym (drop-drop (w * i) w l))
-
--- n records read one by one
-pub read-all : {A B : Type 0} (f : A → B) (g : List ℕ → B) (d : A) (w n : ℕ) (xs : List A) (l : List ℕ) → n ≤ length xs
-    → ((i : ℕ) → i < n → f (getD xs i d) ≡ g (part (w * i) w l)) → map f (take n xs) ≡ map g (parts n w l)
-unfolding parts
-read-all f g d w zero xs l h e = refl
-read-all f g d w (suc n) [] l h e = absurd (omega arith)
-read-all f g d w (suc n) (x ∷ xs) l h e =
-    let z : w * 0 ≡ 0 = omega arith in
-    let first : f x ≡ g (take w l) = e 0 (omega arith) ∙ ap (λ (a : ℕ). g (part a w l)) z in
-    ap₂ (λ (y : _) (ys : List _). y ∷ ys) first
-    (read-all f g d w n xs (drop w l) (omega arith) (λ i q. e (suc i) (omega arith) ∙ ap g (next-part w i l)))
-
--- four of them from place `at`, as far as a count says
-pub read-four : {A B : Type 0} (f : A → B) (g : List ℕ → B) (w n at m : ℕ) (l : List ℕ) (x0 x1 x2 x3 : A) → n ≤ 4 → w * 4 ≤ m
-    → (0 < n → f x0 ≡ g (part (at + w * 0) w l)) → (1 < n → f x1 ≡ g (part (at + w * 1) w l))
-    → (2 < n → f x2 ≡ g (part (at + w * 2) w l)) → (3 < n → f x3 ≡ g (part (at + w * 3) w l))
-    → map f (take n (x0 ∷ x1 ∷ x2 ∷ x3 ∷ [])) ≡ map g (parts n w (part at m l))
-read-four {A} f g w n at m l x0 x1 x2 x3 few fits e0 e1 e2 e3 = read-all f g x0 w n xs (part at m l) few each
-  where
-    xs : List A
-    xs = x0 ∷ x1 ∷ x2 ∷ x3 ∷ []
-
-    each : (i : ℕ) → i < n → f (getD xs i x0) ≡ g (part (w * i) w (part at m l))
-    each zero h = e0 h ∙ ap g (sym (part-part at m (w * 0) w l (omega arith)))
-    each (suc zero) h = e1 h ∙ ap g (sym (part-part at m (w * 1) w l (omega arith)))
-    each (suc (suc zero)) h = e2 h ∙ ap g (sym (part-part at m (w * 2) w l (omega arith)))
-    each (suc (suc (suc zero))) h = e3 h ∙ ap g (sym (part-part at m (w * 3) w l (omega arith)))
-    each (suc (suc (suc (suc i)))) h = absurd (omega arith)
 
 -- a test that all of them pass is passed by each
 pub every-part : (p : List ℕ → Bool) (w n i : ℕ) (l : List ℕ) → every p (parts n w l) ≡ true → i < n

@@ -2,4 +2,3 @@
 pub mod Bytes
 pub mod Records
 pub mod RowsWalk
-pub mod Reading

@@ -1,115 +1,89 @@
--- What is read byte by byte of an action or a row is what its bytes say. Assumes nothing.
-use Prim.Native.Nat.{ℕ, _+_, _*_, _≤_, _<_}
-use native.Mathlib.Nat.{add-zero}
+-- A row whose counts fit is held as the rules read it: taking the first n of four parts is reading n parts. Assumes nothing.
+use Prim.Native.Nat.{ℕ, zero, suc, _+_, _*_, _≤_}
 use native.Mathlib.Omega.{arith}
-use mathlib.Core.Path.{_≡_, sym, ap, subst, _∙_}
-use mathlib.Core.List.{List, [], _∷_, map, map-id}
-use mathlib.Core.Bool.{Bool, true, _&&_, and-assoc, and-true as and-true′}
-use lib.ListN.{take}
-use lib.Seq.{drop-drop}
-use lib.Dec.{leb, lit≤}
+use mathlib.Core.Path.{_≡_, refl, sym, ap, ap₂, _∙_}
+use mathlib.Core.List.{List, [], _∷_, _++_, map}
+use mathlib.Core.Bool.{Bool, true, _&&_}
+use lib.ListN.{length, take, drop, replicate, length-take, length-drop}
+use lib.Seq.{take-all, take-append-le}
+use lib.Dec.{leb}
 use borrow.Author.Tests.{leb-true}
-use Rattle.rules.specs.Bytes.{every, byte, part, parts, int}
+use Rattle.rules.specs.Bytes.{every, byte, parts}
+use Rattle.rules.specs.Frame.{rowSize}
 use Rattle.rules.specs.Row as rules
+use Rattle.rules.proofs.Lists.{parts-lent}
 use Rattle.rules.proofs.Tests.{and-true}
-use Rattle.rows.specs.declared.Field.{Field}
-use Rattle.rows.specs.declared.Action.{Action}
-use Rattle.rows.specs.Meaning.{fieldOf, actionOf, rowOf, countsFit}
-use Rattle.rules.proofs.Lists.{part-part, byte-part}
-use Rattle.rows.proofs.Bytes.{int-first, read-four, every-part}
+use Rattle.buffers.specs.Splice.{splice}
+use Rattle.rows.specs.Meaning.{actionOf, rowOf, rowsIn, countsFit}
 
--- the byte at place k of nine, by itself
-one-byte : (at k : ℕ) (b : List ℕ) → k < 9 → byte (at + k) b ≡ byte 0 (part k 1 (part at 9 b))
-one-byte at k b h =
-    sym (byte-part k 1 0 (part at 9 b) (omega arith)
-    ∙ ap (λ (a : ℕ). byte a (part at 9 b)) (add-zero k) ∙ byte-part at 9 k b h)
+-- ---- parts
 
--- the widths of an action of at most four parameters
-widths-are : (at n : ℕ) (b : List ℕ) → n ≤ 4
-    → take n (byte (at + 5) b ∷ byte (at + 6) b ∷ byte (at + 7) b ∷ byte (at + 8) b ∷ [])
-    ≡ map (byte 0) (parts n 1 (rules.widthBytes (part at 9 b)))
-widths-are at n b few =
-    sym (map-id (take n (byte (at + 5) b ∷ byte (at + 6) b ∷ byte (at + 7) b ∷ byte (at + 8) b ∷ [])))
-    ∙ read-four (λ (x : ℕ). x) (byte 0) 1 n 5 4 (part at 9 b)
-    (byte (at + 5) b) (byte (at + 6) b) (byte (at + 7) b) (byte (at + 8) b) few (omega arith)
-    (λ _. one-byte at 5 b (omega arith)) (λ _. one-byte at 6 b (omega arith))
-    (λ _. one-byte at 7 b (omega arith)) (λ _. one-byte at 8 b (omega arith))
+-- the first n of m parts
+take-parts : (n m w : ℕ) (l : List ℕ) → n ≤ m → take n (parts m w l) ≡ parts n w l
+unfolding parts
+take-parts zero m w l h = refl
+take-parts (suc n) zero w l h = absurd (omega arith)
+take-parts (suc n) (suc m) w l h = ap (λ (ps : List (List ℕ)). take w l ∷ ps) (take-parts n m w (drop w l) (omega arith))
 
-pub action-is : (at id : ℕ) (b : List ℕ) → id ≡ int at 4 b → rules.parameterCount (part at 9 b) ≤ 4
-    → actionOf (record {
-      id = id;
-      count = byte (at + 4) b;
-      widths = byte (at + 5) b ∷ byte (at + 6) b ∷ byte (at + 7) b ∷ byte (at + 8) b ∷ [];
-    })
-    ≡ rules.actionOf (part at 9 b)
-unfolding rules.actionOf
-action-is at id b e few =
-    let ws : List ℕ = byte (at + 5) b ∷ byte (at + 6) b ∷ byte (at + 7) b ∷ byte (at + 8) b ∷ [] in
-    let n = sym (byte-part at 9 4 b (omega arith)) in
-    let widths = ap (λ (k : ℕ). take k ws) n ∙ widths-are at (rules.parameterCount (part at 9 b)) b few in
-    λ i. record { id = (e ∙ sym (int-first at 9 4 b (lit≤ tt))) i; widths = widths i }
+-- two readings that agree on each part of w bytes that passes a test
+module _ {B : Type 0} (f g : List ℕ → B) (p : List ℕ → Bool) (w : ℕ) (alike : (l : List ℕ) → length l ≡ w → p l ≡ true → f l ≡ g l) where
+  read-alike : (n : ℕ) (l : List ℕ) → w * n ≤ length l → every p (parts n w l) ≡ true → map f (parts n w l) ≡ map g (parts n w l)
+  unfolding parts
+  read-alike zero l h e = refl
+  read-alike (suc n) l h e =
+      let s : w + w * n ≤ length l = omega arith in
+      let pass = and-true (p (take w l)) (every p (parts n w (drop w l))) e in
+      let long : length (take w l) ≡ w = rw length-take (omega arith) in
+      let rest : w * n ≤ length (drop w l) = rw length-drop (omega arith) in
+      ap₂ (λ (x : B) (xs : List B). x ∷ xs) (alike (take w l) long (pass .0)) (read-alike n (drop w l) rest (pass .1))
 
--- ---- a row
+-- single bytes
+ones : (n : ℕ) (l : List ℕ) → n ≤ length l → take n l ≡ map (byte 0) (parts n 1 l)
+unfolding parts
+ones zero l h = refl
+ones (suc n) [] h = absurd (omega arith)
+ones (suc n) (x ∷ l) h = ap (λ (k : List ℕ). x ∷ k) (ones n l (omega arith))
 
--- the field at a place, and the action, where it has at most four parameters
-abbrev IsField : List ℕ → ℕ → Field → Type 0
-IsField b at f = fieldOf f ≡ rules.fieldOf (part at 2 b)
-
-abbrev IsAction : List ℕ → ℕ → Action → Type 0
-IsAction b at a = rules.parameterCount (part at 9 b) ≤ 4 → actionOf a ≡ rules.actionOf (part at 9 b)
+-- ---- an action, a row, rows
 
 abbrev pub fewParameters : List ℕ → Bool
 fewParameters a = leb (rules.parameterCount a) 4
 
-actions-are : (b : List ℕ) (n : ℕ) (a0 a1 a2 a3 : Action) → n ≤ 4
-    → every fewParameters (parts 4 9 (rules.actionBytes b)) ≡ true
-    → IsAction b 17 a0 → IsAction b 26 a1 → IsAction b 35 a2 → IsAction b 44 a3
-    → map actionOf (take n (a0 ∷ a1 ∷ a2 ∷ a3 ∷ [])) ≡ map rules.actionOf (parts n 9 (rules.actionBytes b))
-actions-are b n a0 a1 a2 a3 few all e0 e1 e2 e3 =
-    read-four actionOf rules.actionOf 9 n 17 36 b a0 a1 a2 a3 few (omega arith) (λ _. e0 (fits 0 (omega arith)))
-    (λ _. e1 (fits 1 (omega arith))) (λ _. e2 (fits 2 (omega arith))) (λ _. e3 (fits 3 (omega arith)))
-  where
-    fits : (i : ℕ) → i < 4 → rules.parameterCount (part (17 + 9 * i) 9 b) ≤ 4
-    fits i h =
-        leb-true (rules.parameterCount (part (17 + 9 * i) 9 b)) 4
-        (subst (λ (a : List ℕ). fewParameters a ≡ true) (part-part 17 36 (9 * i) 9 b (omega arith))
-        (every-part fewParameters 9 4 i (rules.actionBytes b) all h))
+action-held : (a : List ℕ) → length a ≡ 9 → fewParameters a ≡ true → actionOf a ≡ rules.actionOf a
+unfolding actionOf rules.actionOf
+action-held a s e =
+    let few : rules.parameterCount a ≤ 4 = leb-true (rules.parameterCount a) 4 e in
+    let long : rules.parameterCount a ≤ length (rules.widthBytes a) = rw (length-take, length-drop) (omega arith) in
+    let widths = ones (rules.parameterCount a) (rules.widthBytes a) long in
+    λ i. record { id = rules.actionOf a .id; widths = widths i }
 
-pub row-is : (b : List ℕ) (table size : ℕ) (f0 f1 f2 f3 : Field) (a0 a1 a2 a3 : Action)
-    → table ≡ int 0 4 b → size ≡ int 5 2 b
-    → IsField b 8 f0 → IsField b 10 f1 → IsField b 12 f2 → IsField b 14 f3
-    → IsAction b 17 a0 → IsAction b 26 a1 → IsAction b 35 a2 → IsAction b 44 a3 → countsFit b ≡ true
-    → rowOf (record {
-      table = table;
-      size = size;
-      owner = byte 4 b;
-      «field_count» = byte 7 b;
-      fields = f0 ∷ f1 ∷ f2 ∷ f3 ∷ [];
-      actions = a0 ∷ a1 ∷ a2 ∷ a3 ∷ [];
-      «action_count» = byte 16 b;
-    })
-    ≡ rules.rowOf b
+row-held : (b : List ℕ) → length b ≡ rowSize → countsFit b ≡ true → rowOf b ≡ rules.rowOf b
 unfolding rowOf rules.rowOf countsFit
-row-is b table size f0 f1 f2 f3 a0 a1 a2 a3 t s p0 p1 p2 p3 q0 q1 q2 q3 e =
+row-held b s e =
     let m : ℕ = rules.fieldCount b in
     let n : ℕ = rules.actionCount b in
-    let all : Bool = every fewParameters (parts 4 9 (rules.actionBytes b)) in
+    let all : Bool = every fewParameters (parts n 9 (rules.actionBytes b)) in
     let both = and-true (leb m 4 && leb n 4) all e in
     let each = and-true (leb m 4) (leb n 4) (both .0) in
-    let few : m ≤ 4 = leb-true m 4 (each .0) in
-    let wide : 2 * 4 ≤ 8 = omega arith in
-    let fields = read-four fieldOf rules.fieldOf 2 m 8 8 b f0 f1 f2 f3 few wide (λ _. p0) (λ _. p1) (λ _. p2) (λ _. p3) in
-    let actions = actions-are b n a0 a1 a2 a3 (leb-true n 4 (each .1)) (both .1) q0 q1 q2 q3 in
-    λ i. record { table = t i; owner = byte 4 b; size = s i; fields = fields i; actions = actions i }
+    let few : n ≤ 4 = leb-true n 4 (each .1) in
+    let long : 9 * n ≤ length (rules.actionBytes b) = rw (length-take, length-drop) (omega arith) in
+    let fields = ap (map rules.fieldOf) (take-parts m 4 2 (rules.fieldBytes b) (leb-true m 4 (each .0))) in
+    let actions =
+        ap (map actionOf) (take-parts n 4 9 (rules.actionBytes b) few)
+        ∙ read-alike actionOf rules.actionOf fewParameters 9 action-held n (rules.actionBytes b) long (both .1) in
+    λ i. record { table = rules.rowOf b .table; owner = byte 4 b; size = rules.rowOf b .size; fields = fields i; actions = actions i }
 
--- its counts stand at six places
-pub counts-asked : (b : List ℕ) → countsFit b
-    ≡ (leb (byte 7 b) 4 && leb (byte 16 b) 4 && leb (byte 21 b) 4 && leb (byte 30 b) 4 && leb (byte 39 b) 4 && leb (byte 48 b) 4)
-unfolding countsFit parts
-counts-asked b =
-    let l : List ℕ = rules.actionBytes b in
-    rw (drop-drop 9 9 l, drop-drop 9 18 l, count-at 0 (omega arith), count-at 9 (omega arith), count-at 18 (omega arith), count-at 27 (omega arith))
-    (simp (and-assoc, and-true′))
+pub rows-held : (t : ℕ) (b : List ℕ) → rowSize * t ≤ length b → every countsFit (parts t rowSize b) ≡ true
+    → map rowOf (parts t rowSize b) ≡ map rules.rowOf (parts t rowSize b)
+rows-held t b h e = read-alike rowOf rules.rowOf countsFit rowSize row-held t b h e
+
+-- t rows copied to the front of others are the first t
+pub rows-copied : (t : ℕ) (b d : List ℕ) → t ≤ 8 → length b ≡ rowSize * t → rowsIn t (splice d 0 b) ≡ map rowOf (parts t rowSize b)
+unfolding rowsIn splice
+rows-copied t b d h e =
+    ap (map rowOf) (take-parts t 8 rowSize (b ++ drop (0 + length b) d) h
+    ∙ sym (parts-lent t rowSize (b ++ drop (0 + length b) d)) ∙ ap (parts t rowSize) front)
   where
-    count-at : (k : ℕ) → k + 9 ≤ 36 → rules.parameterCount (part k 9 (rules.actionBytes b)) ≡ byte (17 + (k + 4)) b
-    count-at k h = byte-part k 9 4 (rules.actionBytes b) (omega arith) ∙ byte-part 17 36 (k + 4) b (omega arith)
+    front : take (t * rowSize) (b ++ drop (0 + length b) d) ≡ b
+    front =
+        take-append-le (t * rowSize) b (drop (0 + length b) d) (omega arith) ∙ take-all (t * rowSize) b (omega arith)

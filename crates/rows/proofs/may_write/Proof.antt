@@ -2,10 +2,14 @@
 use mathlib.Core.Path.{_≡_}
 use mathlib.Core.Bool.{true, false}
 use lib.Dec.{eqb}
+use borrow.Author.Needs.{needs}
 use borrow.Author.Tests.{eq-eqb, ne-eqb}
 use Rattle.rows.specs.Meaning.{rowOf}
-use Rattle.rows.proofs.Row.may_write.Statement.{statement}
-use Rattle.rows.proofs.Row.may_write.Tie as tie
+use Rattle.rows.proofs.may_write.Statement.{statement}
+use Rattle.rows.proofs.may_write.Tie as tie
+
+shared-slice-read-result : tie.Need-shared-slice-read-result
+shared-slice-read-result c = search needs
 
 returns : tie.Need-returns
 unfolding rowOf
@@ -19,4 +23,4 @@ returns-2 c =
     rw z
 
 pub may-write-spec : {M : Type 1} → statement M
-may-write-spec = tie.close (tie.spec returns returns-2)
+may-write-spec = tie.close (tie.spec shared-slice-read-result returns returns-2)
