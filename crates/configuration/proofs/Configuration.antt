@@ -1,5 +1,5 @@
 -- A configuration is allowed where each row is so by itself and their tables and sizes are so together; allowed rows have counts
--- that fit, so that all are read. Assumes nothing.
+-- that fit, so that they are held as the rules read them. Assumes nothing.
 use Prim.Native.Nat.{ℕ, zero, suc, _+_, _*_, _-_, _≤_, _<_}
 use native.Mathlib.Omega.{arith}
 use mathlib.Core.Path.{_≡_, refl, sym, ap, _∙_}
@@ -10,17 +10,16 @@ use lib.ListN.{length, drop, length-map}
 use lib.Seq.{getD-drop}
 use borrow.Author.Tests.{ltb-true, ltb-false, eqb-true}
 use Rattle.rules.specs.Bytes.{between, every, sum, distinct, byte, part, parts, int, number, allZero}
+use Rattle.rules.specs.Frame.{rowSize}
 use Rattle.rules.specs.Row as rules
 use Rattle.rules.proofs.Tests.{and-true, both-true}
 use Rattle.rules.proofs.Formed.{parts-count}
 use Rattle.rules.proofs.Lists.{every-map, part-part, byte-part}
-use Rattle.rows.specs.declared.Row.{Row}
-use Rattle.rows.specs.Meaning.{rowOf, rowsIn, countsFit}
+use Rattle.rows.specs.Meaning.{rowOf, countsFit}
 use Rattle.configuration.specs.Passing.{tableIds, rowsPass, tableSizes}
 use Rattle.rows.proofs.Bytes.{int-first, every-part, every-parts, column-next, column-none, passOnce}
 use Rattle.configuration.proofs.OneRow.{every-both}
-use Rattle.rows.proofs.Records.{fewParameters}
-use Rattle.rows.proofs.Reading.{fit-read}
+use Rattle.rows.proofs.Records.{fewParameters, rows-held}
 
 -- ---- tests of all elements of a list
 
@@ -75,26 +74,15 @@ few-parts row e =
       p .1,
     )
 
--- past place k there are only zeros
-zero-at : (i : ℕ) (l : List ℕ) → allZero l ≡ true → byte i l ≡ 0
-zero-at zero [] e = refl
-zero-at (suc i) [] e = refl
-zero-at zero (x ∷ l) e = sym (eqb-true 0 x (and-true (eqb 0 x) (allZero l) e .0))
-zero-at (suc i) (x ∷ l) e = zero-at i l (and-true (eqb 0 x) (allZero l) e .1)
-
-zero-past : (k i : ℕ) (l : List ℕ) → allZero (drop k l) ≡ true → k ≤ i → byte i l ≡ 0
-zero-past k i l e h =
-    let s : k + (i - k) ≡ i = omega arith in
-    ap (λ (a : ℕ). byte a l) (sym s) ∙ sym (getD-drop k l (i - k) 0) ∙ zero-at (i - k) (drop k l) e
-
--- an allowed row has counts of at most 4: actions past its count are zeros
+-- an allowed row has counts of at most 4
 counts-fit : (b : List ℕ) → alone b ≡ true → countsFit b ≡ true
-unfolding rules.rowOf rules.unusedZero countsFit
+unfolding rules.rowOf countsFit
 counts-fit b e =
     both-true
     (both-true (rw (count-is rules.fieldOf (rules.fieldCount b) 2 (rules.fieldBytes b)) at (few .0))
     (rw (count-is rules.actionOf n 9 l) at (few .1)))
-    (every-parts fewParameters 9 4 l (λ i _. each i (ltb i n) refl))
+    (every-weaker (λ (a : List ℕ). rules.actionAllowed (rules.actionOf a)) fewParameters few-parameters (parts n 9 l)
+    (sym (every-map rules.actionAllowed rules.actionOf (parts n 9 l)) ∙ few .2))
   where
     n : ℕ
     n = rules.actionCount b
@@ -102,28 +90,8 @@ counts-fit b e =
     l : List ℕ
     l = rules.actionBytes b
 
-    own : (passes b ≡ true) × (rules.unusedZero b ≡ true)
-    own = and-true (passes b) (rules.unusedZero b) e
-
     few : FewParts (rules.rowOf b)
-    few = few-parts (rules.rowOf b) (own .0)
-
-    within : every fewParameters (parts n 9 l) ≡ true
-    within =
-        every-weaker (λ (a : List ℕ). rules.actionAllowed (rules.actionOf a)) fewParameters few-parameters (parts n 9 l)
-        (sym (every-map rules.actionAllowed rules.actionOf (parts n 9 l)) ∙ few .2)
-
-    past : allZero (drop (9 * n) l) ≡ true
-    past =
-        let fields : Bool = allZero (drop (2 * rules.fieldCount b) (rules.fieldBytes b)) in
-        let actions : Bool = allZero (drop (9 * n) l) in
-        and-true fields actions (and-true (fields && actions) (every rules.unusedWidths (parts n 9 l)) (own .1) .0) .1
-
-    each : (i : ℕ) (v : Bool) → ltb i n ≡ v → fewParameters (part (9 * i) 9 l) ≡ true
-    each i true q = every-part fewParameters 9 n i l within (ltb-true i n q)
-    each i false q =
-        let h : n ≤ i = ltb-false i n q in
-        rw (byte-part (9 * i) 9 4 l (omega arith), zero-past (9 * n) (9 * i + 4) l past (omega arith))
+    few = few-parts (rules.rowOf b) (and-true (passes b) (rules.unusedZero b) e .0)
 
 -- ---- the rows together
 
@@ -178,12 +146,14 @@ module _ (t i : ℕ) (b : List ℕ) where
   unfolding tableSizes
   sizes-none h = column-none sizeOf t 53 i b h
 
--- ---- reading them
+-- ---- holding them
 
--- allowed rows are all read
-pub rows-allowed-read : (rows : List (List ℕ)) → rules.configurationAllowed rows ≡ true → rowsIn rows ≡ map rules.rowOf rows
+-- allowed rows are held as the rules read them
+pub rows-allowed-held : (t : ℕ) (b : List ℕ) → rowSize * t ≤ length b → rules.configurationAllowed (parts t rowSize b) ≡ true
+    → map rowOf (parts t rowSize b) ≡ map rules.rowOf (parts t rowSize b)
 unfolding rowsPass
-rows-allowed-read rows e =
+rows-allowed-held t b h e =
+    let rows = parts t rowSize b in
     let pass = and-true (rowsPass rows) (leb (sum (tableSizes rows)) 256) (sym (configuration-asked rows) ∙ e) .0 in
     let own = and-true (every alone rows) (distinct (tableIds rows)) pass .0 in
-    fit-read rows (every-weaker alone countsFit counts-fit rows own)
+    rows-held t b h (every-weaker alone countsFit counts-fit rows own)

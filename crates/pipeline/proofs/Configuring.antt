@@ -1,19 +1,20 @@
 -- The order of CONFIGURE's reasons in two parts, those that need no row, and 14; and what one leaves that nothing refuses.
 -- Assumes nothing.
-use Prim.Native.Nat.{ℕ}
+use Prim.Native.Nat.{ℕ, _*_, _≤_}
 use mathlib.Core.Path.{_≡_, refl, _∙_}
 use mathlib.Core.Bool.{Bool, true, false, not}
-use mathlib.Core.List.{List, [], _∷_, _++_}
+use mathlib.Core.List.{List, [], _∷_, _++_, map}
+use lib.ListN.{length}
 use lib.Dec.{eqb, ltb}
 use borrow.Author.Tests.{not-false}
-use Rattle.rules.specs.Bytes.{if_then_else_}
+use Rattle.rules.specs.Bytes.{if_then_else_, parts}
 use Rattle.rules.specs.Reason.{first}
-use Rattle.rules.specs.Frame.{Head, CONFIGURE}
+use Rattle.rules.specs.Frame.{Head, CONFIGURE, rowSize}
 use Rattle.rules.specs.Streams as streams
 use Rattle.rules.specs.Row as row
 use Rattle.rules.specs.Call.{Control, configureReason}
-use Rattle.rows.specs.Meaning.{rowsOf, rowsIn}
-use Rattle.configuration.proofs.Configuration.{rows-allowed-read}
+use Rattle.rows.specs.Meaning.{rowOf, rowsOf}
+use Rattle.configuration.proofs.Configuration.{rows-allowed-held}
 use Rattle.rules.specs.Update.{noEntries}
 use Rattle.store.specs.Store.{tablesIn}
 use Rattle.pipeline.specs.declared.Configured.{Configured}
@@ -43,10 +44,13 @@ module _ (c : Control) (h : Head) (rows : List (List ℕ)) where
   unfolding configureReason
   rows-allowed e = not-false (row.configurationAllowed rows) (first-clear _ refl e .1 .1 .1 .1 .0)
 
--- and so its rows, as they are read, are in force, and no entry is stored
-pub rows-configured : (h : Head) (bytes : List (List ℕ)) {r : Configured} → rowsOf (r .configuration .rows) ≡ rowsIn bytes
-    → ((store : List ℕ) → tablesIn (r .tables) store ≡ noEntries) → CarriesOut (CONFIGURE h bytes) r
-rows-configured h bytes read none = record {
-  rows = λ s e. rw e (read ∙ rows-allowed-read bytes (rows-allowed (s .control) h bytes e));
-  tables = λ s e store. rw e (none store);
-}
+-- and so its rows, as they are held, are in force, and no entry is stored
+pub rows-configured : (h : Head) (t : ℕ) (b : List ℕ) {r : Configured} → rowSize * t ≤ length b
+    → rowsOf (r .configuration .rows) ≡ map rowOf (parts t rowSize b) → ((store : List ℕ) → tablesIn (r .tables) store ≡ noEntries)
+    → CarriesOut (CONFIGURE h (parts t rowSize b)) r
+rows-configured h t b long read none =
+    let rows = parts t rowSize b in
+    record {
+      rows = λ s e. rw e (read ∙ rows-allowed-held t b long (rows-allowed (s .control) h rows e));
+      tables = λ s e store. rw e (none store);
+    }

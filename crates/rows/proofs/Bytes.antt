@@ -16,6 +16,13 @@ use Rattle.rules.proofs.Lists.{drop-map, parts-from, part-part}
 use Rattle.rules.proofs.Tests.{and-true, both-true}
 use Rattle.numbers.proofs.Bytes.{int-none, int-next, below-next}
 
+-- n bytes are below 256 ^ n
+pub int-below : (n a : ℕ) (l : List ℕ) → ((i : ℕ) → getD l i 0 < 256) → a + n ≤ length l → int a n l < 256 ^ n
+int-below zero a l b h = rw (int-none a l) (omega arith)
+int-below (suc n) a l b h =
+    let r : int a n l < 256 ^ n = int-below n a l b (omega arith) in
+    rw (← add-one n, int-next a n l (omega arith)) (below-next (int a n l) (getD l (a + n) 0) n r (b (a + n)))
+
 -- the integer that a part begins with
 pub int-first : (at n m : ℕ) (l : List ℕ) → m ≤ n → int 0 m (part at n l) ≡ int at m l
 int-first at n m l h = ap number (take-take m n (drop at l) h)

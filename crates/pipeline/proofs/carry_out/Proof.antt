@@ -1,13 +1,13 @@
--- Right because the rows that 14 allows are read as they are. Assumes nothing.
-use Prim.Native.Nat.{ℕ}
+-- Right because the rows that 14 allows are held as the rules read them. Assumes nothing.
+use Prim.Native.Nat.{ℕ, _*_, _≤_}
 use native.Mathlib.Omega.{arith}
-use mathlib.Core.Path.{ap, _∙_}
-use mathlib.Core.List.{List}
-use lib.ListN.{drop, length-take, length-drop}
+use mathlib.Core.Path.{_≡_, ap, _∙_}
+use mathlib.Core.List.{List, map}
+use lib.ListN.{length, drop, length-take, length-drop}
 use denote.Ref.{now}
 use Rattle.rules.specs.Bytes.{parts}
 use Rattle.rules.proofs.Lists.{rest-all}
-use Rattle.rows.specs.Meaning.{rowsIn}
+use Rattle.rows.specs.Meaning.{rowOf}
 use Rattle.election.specs.Meaning.{headOf}
 use Rattle.pipeline.proofs.Configuring.{rows-configured}
 use borrow.Author.Needs.{needs}
@@ -31,10 +31,13 @@ read-requires c κs = let s = c .before .before .pre in (s .0, simp (length-take
 
 returns : tie.Need-returns
 returns c =
-    let a = c .before .before .before .before .args in
-    let rows = parts (a .command .count) 53 (drop 28 (now (a .frame))) in
-    let read = c .before .read .ensures ∙ ap (λ (l : List ℕ). rowsIn (parts (a .command .count) 53 l)) (rest-all 28 (now (a .frame))) in
-    rows-configured (headOf (a .command .head)) rows read (c .none .ensures)
+    let s = c .before .before .before .before in
+    let a = s .args in
+    let t = a .command .count in
+    let rows = drop 28 (now (a .frame)) in
+    let long : 53 * t ≤ length rows = rw length-drop (omega (arith, s .pre .1)) in
+    let read = c .before .read .ensures ∙ ap (λ (l : List ℕ). map rowOf (parts t 53 l)) (rest-all 28 (now (a .frame))) in
+    rows-configured (headOf (a .command .head)) t rows long read (c .none .ensures)
 
 pub carry-out-spec : {M : Type 1} → statement M
 carry-out-spec = tie.close (tie.spec sub-read part-read-start part-read-end read-requires none-requires returns)
