@@ -45,18 +45,6 @@ still reason failed rest = go (eqb 0 reason) failed
     go false true = refl
     go false false = refl
 
--- ---- the row of an update's table
-
--- update i, judged by what the rows say of its table, is judged by the rows
-pub row-found : (rows : List Row) (us : List ℕ) (i : ℕ) {table : ℕ} {isKnown : Bool} {row : Row} → table ≡ int (221 * i + 1) 4 us
-    → isKnown ≡ known table rows → row ≡ rowFor table rows → (role : ℕ) (t : Tables)
-    → let u = updateOf (part (221 * i) 221 us) in judgeBy isKnown row role t u ≡ judge rows role t u
-row-found rows us i {table} e k found role t =
-    judged-by-rows rows role t (updateOf (part (221 * i) 221 us)) (k ∙ ap (λ (n : ℕ). known n rows) its) (found ∙ ap (λ (n : ℕ). rowFor n rows) its)
-  where
-    its : table ≡ tableOf (updateOf (part (221 * i) 221 us) .entry)
-    its = e ∙ sym (ap number (part-part (221 * i) 221 1 4 us (omega arith)))
-
 -- ---- the store and the answer
 
 module _ (rows : List Row) (role : ℕ) where

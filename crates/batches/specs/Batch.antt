@@ -6,12 +6,11 @@ use Prim.Native.Nat.{ℕ}
 use lib.Dec.{eqb}
 use Rattle.rules.specs.Bytes.{every, concat, parts}
 use Rattle.rules.specs.Frame.{updateSize, Update, updateOf}
+use Rattle.rules.specs.Row.{Row}
 use Rattle.rules.specs.Update as rules
 use Rattle.rules.specs.Call.{pairOf}
 use Rattle.rules.specs.Sound.{Distinct}
 use Rattle.buffers.specs.Splice.{splice}
-use Rattle.rows.specs.declared.Rows.{Rows}
-use Rattle.rows.specs.Meaning.{rowsOf}
 use Rattle.store.specs.declared.Tables.{Tables}
 use Rattle.store.specs.Store.{entriesIn, tablesIn, Holds}
 use Rattle.batches.specs.declared.Progress.{Progress}
@@ -22,11 +21,11 @@ abbrev pub updatesIn : ℕ → List ℕ → List Update
 updatesIn n us = map updateOf (parts n updateSize us)
 
 -- what the rules make of n updates, by the tables before them: each alone, or by the atomicity
-abbrev pub alone : Rows → ℕ → ℕ → List ℕ → rules.Tables → rules.Batch
-alone rows role n us t = rules.eachAlone (rowsOf rows) role t (updatesIn n us)
+abbrev pub alone : List Row → ℕ → ℕ → List ℕ → rules.Tables → rules.Batch
+alone rows role n us t = rules.eachAlone rows role t (updatesIn n us)
 
-abbrev pub ruled : ℕ → Rows → ℕ → ℕ → List ℕ → rules.Tables → rules.Batch
-ruled atomicity rows role n us t = rules.batch atomicity (rowsOf rows) role t (updatesIn n us)
+abbrev pub ruled : ℕ → List Row → ℕ → ℕ → List ℕ → rules.Tables → rules.Batch
+ruled atomicity rows role n us t = rules.batch atomicity rows role t (updatesIn n us)
 
 -- what a batch that came to its end leaves
 abbrev pub writtenOf : Progress → Written

@@ -10,8 +10,6 @@ use Rattle.rules.specs.Row.{Row}
 use Rattle.rules.specs.Sound.{Distinct}
 use Rattle.rules.specs.Update.{eachAlone, failure}
 use Rattle.buffers.specs.Splice.{splice}
-use Rattle.rows.specs.declared.Rows.{Rows}
-use Rattle.rows.specs.Meaning.{rowsOf}
 use Rattle.store.specs.declared.Tables.{Tables}
 use Rattle.store.specs.Store.{entriesIn, tablesIn, Holds}
 use Rattle.judging.specs.declared.Verdict.{Verdict}
@@ -66,6 +64,6 @@ pub record Stopped (rows : List Row) (role : ℕ) (tables : Tables) (n : ℕ) (u
   pub undoes : Undoes (a .done) log us (entriesIn (a .tables) after) (entriesIn tables before)
 
 -- a batch of which not all updates were taken
-abbrev pub StoppedEarly : ℕ → Rows → ℕ → Tables → ℕ → List ℕ → List ℕ → List ℕ → List ℕ → Progress → Type 0
+abbrev pub StoppedEarly : ℕ → List Row → ℕ → Tables → ℕ → List ℕ → List ℕ → List ℕ → List ℕ → Progress → Type 0
 StoppedEarly atomicity rows role tables n us before after log a =
-    a .done < n → (atomicity ≡ 1) × (Distinct (entriesIn tables before) → Stopped (rowsOf rows) role tables n us before after log a)
+    a .done < n → (atomicity ≡ 1) × (Distinct (entriesIn tables before) → Stopped rows role tables n us before after log a)

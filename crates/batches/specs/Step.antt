@@ -4,12 +4,12 @@ use mathlib.Core.List.{List}
 use Prim.Native.Nat.{ℕ, _≤_}
 use lib.ListN.{length}
 use Rattle.rules.specs.Frame.{updateOf}
+use Rattle.rules.specs.Row.{Row}
 use Rattle.rules.specs.Update.{apply}
 use Rattle.rules.specs.Sound.{Distinct}
-use Rattle.rows.specs.declared.Lookup.{Lookup}
 use Rattle.store.specs.declared.Tables.{Tables}
 use Rattle.store.specs.Store.{entriesIn, tablesIn, Holds}
-use Rattle.judging.specs.Verdict.{judgedBy}
+use Rattle.judging.specs.Verdict.{judged}
 use Rattle.batches.specs.Rollback.{Noted}
 use Rattle.batches.specs.declared.Taken.{Taken}
 
@@ -17,9 +17,9 @@ use Rattle.batches.specs.declared.Taken.{Taken}
 abbrev pub Sized : Tables → List ℕ → Type 0
 Sized tables store = (tables .count ≤ 256) × (56_320 ≤ length store)
 
--- an update u was judged by what the rows say of its table
-abbrev pub StepJudged : Taken → Lookup → ℕ → Tables → List ℕ → List ℕ → Type 0
-StepJudged r found role tables store u = r .reason ≡ judgedBy found role tables store u
+-- an update u was judged by the rows
+abbrev pub StepJudged : Taken → List Row → ℕ → Tables → List ℕ → List ℕ → Type 0
+StepJudged r rows role tables store u = r .reason ≡ judged rows role tables store u
 
 -- and took effect or not
 abbrev pub StepLeft : Taken → List ℕ → Tables → List ℕ → List ℕ → Type 0

@@ -9,14 +9,12 @@ ghost use Rattle.rules.specs.Bytes.{if_then_else_, concat};
 ghost use Rattle.rules.specs.Update.{rolledBack};
 ghost use Rattle.rules.specs.Call.{pairOf};
 ghost use Rattle.buffers.specs.Splice.{splice};
+ghost use Rattle.rows.specs.Meaning.{rowsSize, rowsIn};
 ghost use Rattle.judging.specs.Verdict.{Possible};
 ghost use Rattle.batches.specs.Batch.{alone, ruled, writtenOf, StoreLeft, Pairs};
 ghost use Rattle.batches.specs.Rollback.{NotesFit, NotedAt, RolledBack, StoppedEarly};
 ghost use Rattle.batches.specs.Step.{Sized, StepJudged, StepLeft, StepNoted, StepRefused};
 use judging::Verdict;
-use numbers::integer;
-use rows::Lookup;
-use rows::Rows;
 use store::Tables;
 
 // What a batch leaves, and whether an update failed.
@@ -70,10 +68,11 @@ fn note_update(
     changes::note(verdict, store, tables, &mut log[at..end]);
 }
 
-// Takes update i, of 221 bytes: it is judged by what the rows say of its table, its pair is written, and it is done where nothing refused
+// Takes update i, of 221 bytes: it is judged by the rows in force, its pair is written, and it is done where nothing refused
 // it. With atomicity 1 what it will do is noted beforehand.
 fn step(
-    found: Lookup,
+    rows: &[u8],
+    count: u8,
     role: u8,
     atomicity: u8,
     store: &mut [u8],
@@ -83,15 +82,15 @@ fn step(
     i: usize,
     answer: &mut [u8],
 ) -> Taken
-    requires { ⌜ Sized tables (now store) × (length (now update) ≡ updateSize) × NotesFit atomicity (i + 1) (now log) × (2 * i + 2 ≤ length (now answer)) ⌝ }
-    ensures reason { λ r. ⌜ StepJudged r found role tables (now (store .entry)) (now (update .entry)) ⌝ }
+    requires { ⌜ (length (now rows) ≡ rowsSize) × Sized tables (now store) × (length (now update) ≡ updateSize) × NotesFit atomicity (i + 1) (now log) × (2 * i + 2 ≤ length (now answer)) ⌝ }
+    ensures reason { λ r. ⌜ StepJudged r (rowsIn count (now (rows .entry))) role tables (now (store .entry)) (now (update .entry)) ⌝ }
     ensures pair { λ r. ⌜ now (answer .exit) ≡ splice (now (answer .entry)) (2 * i) (pairOf (r .reason)) ⌝ }
     ensures few { λ r. ⌜ r .tables .count ≤ 256 ⌝ }
     ensures left { λ r. ⌜ StepLeft r (now (update .entry)) tables (now (store .entry)) (now (store .exit)) ⌝ }
     ensures log { λ r. ⌜ StepNoted atomicity r i (now (update .entry)) tables (now (store .entry)) (now (store .exit)) (now (log .entry)) (now (log .exit)) ⌝ }
     ensures refused { λ r. ⌜ StepRefused r tables (now (store .entry)) (now (store .exit)) (now (log .entry)) (now (log .exit)) ⌝ }
 {
-    let verdict = judging::judge(found, role, store, tables, update);
+    let verdict = judging::judge(rows, count, role, store, tables, update);
     let reason = verdict.reason();
     let at = 2 * i;
     write_pair(reason, &mut answer[at..]);
@@ -108,7 +107,8 @@ fn step(
 
 // Takes the n updates in order. With atomicity 1 the first that fails stops the batch.
 fn take(
-    rows: Rows,
+    rows: &[u8],
+    count: u8,
     role: u8,
     atomicity: u8,
     store: &mut [u8],
@@ -118,12 +118,12 @@ fn take(
     log: &mut [u8],
     answer: &mut [u8],
 ) -> Progress
-    requires { ⌜ Sized tables (now store) × (length (now updates) ≡ updateSize * n) × (2 * n ≤ length (now answer)) × NotesFit atomicity n (now log) ⌝ }
+    requires { ⌜ (length (now rows) ≡ rowsSize) × Sized tables (now store) × (length (now updates) ≡ updateSize * n) × (2 * n ≤ length (now answer)) × NotesFit atomicity n (now log) ⌝ }
     ensures bound { λ r. ⌜ (r .tables .count ≤ 256) × (r .done ≤ n) ⌝ }
     ensures none { λ r. ⌜ (atomicity ≡ 1 → r .done ≡ n → r .reason ≡ 0) ⌝ }
-    ensures left { λ r. ⌜ (r .done ≡ n → StoreLeft (alone rows role n (now (updates .entry))) tables (now (store .entry)) (now (store .exit)) (writtenOf r)) ⌝ }
-    ensures pairs { λ r. ⌜ (r .done ≡ n → Pairs (alone rows role n (now (updates .entry))) tables (now (store .entry)) (now (answer .entry)) (now (answer .exit))) ⌝ }
-    ensures stopped { λ r. ⌜ StoppedEarly atomicity rows role tables n (now (updates .entry)) (now (store .entry)) (now (store .exit)) (now (log .exit)) r ⌝ }
+    ensures left { λ r. ⌜ (r .done ≡ n → StoreLeft (alone (rowsIn count (now (rows .entry))) role n (now (updates .entry))) tables (now (store .entry)) (now (store .exit)) (writtenOf r)) ⌝ }
+    ensures pairs { λ r. ⌜ (r .done ≡ n → Pairs (alone (rowsIn count (now (rows .entry))) role n (now (updates .entry))) tables (now (store .entry)) (now (answer .entry)) (now (answer .exit))) ⌝ }
+    ensures stopped { λ r. ⌜ StoppedEarly atomicity (rowsIn count (now (rows .entry))) role tables n (now (updates .entry)) (now (store .entry)) (now (store .exit)) (now (log .exit)) r ⌝ }
     ensures beyond { λ _. ⌜ drop (2 * n) (now (answer .exit)) ≡ drop (2 * n) (now (answer .entry)) ⌝ }
 {
     let mut held = tables;
@@ -132,10 +132,9 @@ fn take(
     while i < n {
         let from = rules::UPDATE * i;
         let end = from + rules::UPDATE;
-        // the row alone is handed on: a step that was given the rows would copy them
-        let found = rows.find(integer(updates, from + 1, 4));
         let taken = step(
-            found,
+            rows,
+            count,
             role,
             atomicity,
             store,
@@ -212,7 +211,8 @@ fn write_outcomes(n: usize, at: usize, own: u8, answer: &mut [u8])
 
 // The n updates of a batch by its atomicity, each pair written; what is left. With atomicity 1 the log has room for n notes.
 fn batch_in(
-    rows: Rows,
+    rows: &[u8],
+    count: u8,
     role: u8,
     atomicity: u8,
     store: &mut [u8],
@@ -222,12 +222,13 @@ fn batch_in(
     log: &mut [u8],
     answer: &mut [u8],
 ) -> Written
-    requires { ⌜ Sized tables (now store) × (length (now updates) ≡ updateSize * n) × (2 * n ≤ length (now answer)) × NotesFit atomicity n (now log) ⌝ }
-    ensures left { λ r. ⌜ StoreLeft (ruled atomicity rows role n (now (updates .entry))) tables (now (store .entry)) (now (store .exit)) r ⌝ }
-    ensures pairs { λ _. ⌜ Pairs (ruled atomicity rows role n (now (updates .entry))) tables (now (store .entry)) (now (answer .entry)) (now (answer .exit)) ⌝ }
+    requires { ⌜ (length (now rows) ≡ rowsSize) × Sized tables (now store) × (length (now updates) ≡ updateSize * n) × (2 * n ≤ length (now answer)) × NotesFit atomicity n (now log) ⌝ }
+    ensures left { λ r. ⌜ StoreLeft (ruled atomicity (rowsIn count (now (rows .entry))) role n (now (updates .entry))) tables (now (store .entry)) (now (store .exit)) r ⌝ }
+    ensures pairs { λ _. ⌜ Pairs (ruled atomicity (rowsIn count (now (rows .entry))) role n (now (updates .entry))) tables (now (store .entry)) (now (answer .entry)) (now (answer .exit)) ⌝ }
 {
     let came = take(
         rows,
+        count,
         role,
         atomicity,
         store,
@@ -250,7 +251,8 @@ fn batch_in(
 
 // The n updates of a batch by its atomicity, each pair written; what is left.
 pub fn batch(
-    rows: Rows,
+    rows: &[u8],
+    count: u8,
     role: u8,
     atomicity: u8,
     store: &mut [u8],
@@ -259,15 +261,16 @@ pub fn batch(
     n: usize,
     answer: &mut [u8],
 ) -> Written
-    requires { ⌜ (tables .count ≤ 256) × (56320 ≤ length (now store)) × (length (now updates) ≡ updateSize * n) × (n ≤ 64) × (2 * n ≤ length (now answer)) ⌝ }
-    ensures left { λ r. ⌜ StoreLeft (ruled atomicity rows role n (now (updates .entry))) tables (now (store .entry)) (now (store .exit)) r ⌝ }
-    ensures pairs { λ _. ⌜ Pairs (ruled atomicity rows role n (now (updates .entry))) tables (now (store .entry)) (now (answer .entry)) (now (answer .exit)) ⌝ }
+    requires { ⌜ (length (now rows) ≡ rowsSize) × (tables .count ≤ 256) × (56320 ≤ length (now store)) × (length (now updates) ≡ updateSize * n) × (n ≤ 64) × (2 * n ≤ length (now answer)) ⌝ }
+    ensures left { λ r. ⌜ StoreLeft (ruled atomicity (rowsIn count (now (rows .entry))) role n (now (updates .entry))) tables (now (store .entry)) (now (store .exit)) r ⌝ }
+    ensures pairs { λ _. ⌜ Pairs (ruled atomicity (rowsIn count (now (rows .entry))) role n (now (updates .entry))) tables (now (store .entry)) (now (answer .entry)) (now (answer .exit)) ⌝ }
 {
     if atomicity != 1 {
         // nothing is noted
         let mut none = [0; 1];
         return batch_in(
             rows,
+            count,
             role,
             atomicity,
             store,
@@ -281,8 +284,30 @@ pub fn batch(
     if n <= 4 {
         // the long log would cost so few updates a good part more, being set to zero
         let mut short = [0; 296];
-        return batch_in(rows, role, 1, store, tables, updates, n, &mut short, answer);
+        return batch_in(
+            rows,
+            count,
+            role,
+            1,
+            store,
+            tables,
+            updates,
+            n,
+            &mut short,
+            answer,
+        );
     }
     let mut log = [0; 4736];
-    batch_in(rows, role, 1, store, tables, updates, n, &mut log, answer)
+    batch_in(
+        rows,
+        count,
+        role,
+        1,
+        store,
+        tables,
+        updates,
+        n,
+        &mut log,
+        answer,
+    )
 }

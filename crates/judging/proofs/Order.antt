@@ -1,7 +1,7 @@
 -- The order of an update's reasons is that of its table, its entry and its place, one after the other. Assumes nothing.
 use Prim.Native.Nat.{ℕ}
 use mathlib.Core.Path.{_≡_, refl, sym, _∙_}
-use mathlib.Core.Bool.{Bool, true}
+use mathlib.Core.Bool.{Bool, true, false}
 use mathlib.Core.List.{List}
 use lib.ListN.{drop}
 use lib.Dec.{eqb}
@@ -55,9 +55,14 @@ pub place-justified : (u : List ℕ) (es : List (List ℕ)) {type : ℕ} {e : Li
     → Justified v type e es → Justified v (byte 0 u) (drop 1 u) es
 place-justified u es v k w j = rw (k, w) at j
 
--- by the rows in force: whether the table is known there, and its row
+-- by the rows in force: whether the table is known there, and its row where it is; one that is not known is refused, whatever row is lent
 pub judged-by-rows : (rows : List Row) (role : ℕ) (t : Tables) (u : Update) {isKnown : Bool} {row : Row}
-    → isKnown ≡ known (tableOf (u .entry)) rows → row ≡ rowFor (tableOf (u .entry)) rows
+    → isKnown ≡ known (tableOf (u .entry)) rows → (isKnown ≡ true → row ≡ rowFor (tableOf (u .entry)) rows)
     → judgeBy isKnown row role t u ≡ judge rows role t u
-unfolding judge
-judged-by-rows rows role t u e f = rw (e, f)
+unfolding judge judgeBy first
+judged-by-rows rows role t u {isKnown} {row} e its = go isKnown e its
+  where
+    go : (k : Bool) → k ≡ known (tableOf (u .entry)) rows → (k ≡ true → row ≡ rowFor (tableOf (u .entry)) rows)
+        → judgeBy k row role t u ≡ judgeBy (known (tableOf (u .entry)) rows) (rowFor (tableOf (u .entry)) rows) role t u
+    go true e its = rw (← e, its refl)
+    go false e its = rw (← e)

@@ -8,9 +8,7 @@ use Rattle.rules.specs.Bytes.{between}
 use Rattle.rules.specs.Frame.{Update, updateOf}
 use Rattle.rules.specs.Row.{Row, tableOrder}
 use Rattle.rules.specs.Key.{shortKey}
-use Rattle.rules.specs.Update.{isInsert, isModify, entryOrder, judgeBy}
-use Rattle.rows.specs.declared.Lookup.{Lookup}
-use Rattle.rows.specs.Meaning.{rowOf}
+use Rattle.rules.specs.Update.{isInsert, isModify, entryOrder, judge}
 use Rattle.store.specs.declared.Tables.{Tables}
 use Rattle.store.specs.Store.{tablesIn, place}
 use Rattle.judging.specs.declared.Verdict.{Verdict}
@@ -28,9 +26,9 @@ reasonOf Insert = 0
 reasonOf (Modify i) = 0
 reasonOf (Delete i) = 0
 
--- the reason that the rules give an update of 221 bytes, by what the rows say of its table, the role and the tables
-abbrev pub judgedBy : Lookup → ℕ → Tables → List ℕ → List ℕ → ℕ
-judgedBy found role tables store u = judgeBy (found .known) (rowOf (found .row)) role (tablesIn tables store) (updateOf u)
+-- the reason that the rules give an update of 221 bytes, by the rows, the role and the tables
+abbrev pub judged : List Row → ℕ → Tables → List ℕ → List ℕ → ℕ
+judged rows role tables store u = judge rows role (tablesIn tables store) (updateOf u)
 
 -- A verdict on an update of a type with entry e, where es are stored, is right: a refusal has a reason, any other is for the update's
 -- type and names the place of its key.

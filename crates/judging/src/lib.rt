@@ -4,15 +4,14 @@ ghost use mathlib.Core.Bool.{false};
 ghost use lib.ListN.{length, drop};
 ghost use Rattle.rules.specs.Bytes.{byte};
 ghost use Rattle.rules.specs.Reason.{first};
-ghost use Rattle.rules.specs.Frame.{entrySize, keySize, updateSize, updateOf};
+ghost use Rattle.rules.specs.Frame.{entrySize, keySize, rowSize, updateSize, updateOf};
 ghost use Rattle.rules.specs.Row as rules;
 ghost use Rattle.rules.specs.Key.{shortKey};
-ghost use Rattle.rules.specs.Update.{isInsert, placeOrder};
-ghost use Rattle.rows.specs.Meaning.{rowOf};
+ghost use Rattle.rules.specs.Update.{isInsert, placeOrder, judgeBy};
+ghost use Rattle.rows.specs.Meaning.{rowOf, rowsSize, rowsIn};
 ghost use Rattle.store.specs.Store.{entriesIn, tablesIn, InStore, InRange, place, placeOf};
-ghost use Rattle.judging.specs.Verdict.{rowOrder, reasonOf, judgedBy, Justified, Possible};
-use rows::Lookup;
-use rows::Row;
+ghost use Rattle.judging.specs.Verdict.{rowOrder, reasonOf, judged, Justified, Possible};
+use numbers::integer;
 use store::Found;
 use store::Tables;
 
@@ -59,9 +58,9 @@ fn locate(store: &[u8], tables: Tables, entry: &[u8]) -> Found
 }
 
 // 20, 22 and 24 of an INSERT.
-fn judge_insert(row: Row, store: &[u8], tables: Tables, entry: &[u8]) -> Verdict
-    requires { ⌜ InStore tables (now store) × (length (now entry) ≡ entrySize) ⌝ }
-    ensures reason { λ r. ⌜ reasonOf r ≡ first (placeOrder (rowOf row) 1 (now (entry .entry)) (tablesIn tables (now (store .entry)))) ⌝ }
+fn judge_insert(row: &[u8], store: &[u8], tables: Tables, entry: &[u8]) -> Verdict
+    requires { ⌜ (length (now row) ≡ rowSize) × InStore tables (now store) × (length (now entry) ≡ entrySize) ⌝ }
+    ensures reason { λ r. ⌜ reasonOf r ≡ first (placeOrder (rowOf (now (row .entry))) 1 (now (entry .entry)) (tablesIn tables (now (store .entry)))) ⌝ }
     ensures justified { λ r. ⌜ Justified r 1 (now (entry .entry)) (entriesIn tables (now (store .entry))) ⌝ }
     ensures possible { λ r. ⌜ Possible r tables ⌝ }
 {
@@ -69,7 +68,12 @@ fn judge_insert(row: Row, store: &[u8], tables: Tables, entry: &[u8]) -> Verdict
     match found {
         Found::At(_) => Verdict::Refused(20),
         Found::Absent => {
-            if store::holds(store, tables, row.table as u64, row.size as usize) {
+            if store::holds(
+                store,
+                tables,
+                integer(row, 0, 4),
+                integer(row, 5, 2) as usize,
+            ) {
                 return Verdict::Refused(22);
             }
             if tables.are_full() {
@@ -100,9 +104,9 @@ fn judge_change(kind: u8, store: &[u8], tables: Tables, entry: &[u8]) -> Verdict
 }
 
 // 15 to 19 of an update of 221 bytes: what is asked of it by its table's row, before the entries stored.
-fn row_reason(found: Lookup, role: u8, update: &[u8]) -> u8
-    requires { ⌜ length (now update) ≡ updateSize ⌝ }
-    ensures { λ r. ⌜ r ≡ first (rowOrder (found .known) (rowOf (found .row)) role (updateOf (now (update .entry)))) ⌝ }
+fn row_reason(known: bool, row: &[u8], role: u8, update: &[u8]) -> u8
+    requires { ⌜ (length (now row) ≡ rowSize) × (length (now update) ≡ updateSize) ⌝ }
+    ensures { λ r. ⌜ r ≡ first (rowOrder known (rowOf (now (row .entry))) role (updateOf (now (update .entry)))) ⌝ }
 {
     let kind = update[0];
     if kind == 0 {
@@ -111,27 +115,54 @@ fn row_reason(found: Lookup, role: u8, update: &[u8]) -> u8
     if 3 < kind {
         return 17;
     }
-    let barred = checks::table_reason(found, role);
+    let barred = checks::table_reason(known, row, role);
     if barred != 0 {
         return barred;
     }
-    checks::entry_reason(found.row, kind, &update[1..])
+    checks::entry_reason(row, kind, &update[1..])
 }
 
-// Judges an update of 221 bytes by what the rows say of its table, the role and the entries stored.
-pub fn judge(found: Lookup, role: u8, store: &[u8], tables: Tables, update: &[u8]) -> Verdict
-    requires { ⌜ InStore tables (now store) × (length (now update) ≡ updateSize) ⌝ }
-    ensures reason { λ r. ⌜ reasonOf r ≡ judgedBy found role tables (now (store .entry)) (now (update .entry)) ⌝ }
+// Judges an update of 221 bytes by whether its table is known, the table's row, the role and the entries stored.
+fn judge_by(
+    known: bool,
+    row: &[u8],
+    role: u8,
+    store: &[u8],
+    tables: Tables,
+    update: &[u8],
+) -> Verdict
+    requires { ⌜ (length (now row) ≡ rowSize) × InStore tables (now store) × (length (now update) ≡ updateSize) ⌝ }
+    ensures reason { λ r. ⌜ reasonOf r ≡ judgeBy known (rowOf (now (row .entry))) role (tablesIn tables (now (store .entry))) (updateOf (now (update .entry))) ⌝ }
     ensures justified { λ r. ⌜ Justified r (byte 0 (now (update .entry))) (drop 1 (now (update .entry))) (entriesIn tables (now (store .entry))) ⌝ }
     ensures possible { λ r. ⌜ Possible r tables ⌝ }
 {
-    let wrong = row_reason(found, role, update);
+    let wrong = row_reason(known, row, role, update);
     if wrong != 0 {
         return Verdict::Refused(wrong);
     }
     let kind = update[0];
     if kind == 1 {
-        return judge_insert(found.row, store, tables, &update[1..]);
+        return judge_insert(row, store, tables, &update[1..]);
     }
     judge_change(kind, store, tables, &update[1..])
+}
+
+// Judges an update of 221 bytes by the rows in force, the role and the entries stored. The row of its table is looked up once, and lent.
+pub fn judge(
+    rows: &[u8],
+    count: u8,
+    role: u8,
+    store: &[u8],
+    tables: Tables,
+    update: &[u8],
+) -> Verdict
+    requires { ⌜ (length (now rows) ≡ rowsSize) × InStore tables (now store) × (length (now update) ≡ updateSize) ⌝ }
+    ensures reason { λ r. ⌜ reasonOf r ≡ judged (rowsIn count (now (rows .entry))) role tables (now (store .entry)) (now (update .entry)) ⌝ }
+    ensures justified { λ r. ⌜ Justified r (byte 0 (now (update .entry))) (drop 1 (now (update .entry))) (entriesIn tables (now (store .entry))) ⌝ }
+    ensures possible { λ r. ⌜ Possible r tables ⌝ }
+{
+    let found = rows::find(rows, count, integer(update, 1, 4));
+    let at = found.at;
+    let end = at + rules::ROW;
+    judge_by(found.known, &rows[at..end], role, store, tables, update)
 }

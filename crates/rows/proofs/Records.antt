@@ -69,8 +69,8 @@ row-held b s e =
     let long : 9 * n ≤ length (rules.actionBytes b) = rw (length-take, length-drop) (omega arith) in
     let fields = ap (map rules.fieldOf) (take-parts m 4 2 (rules.fieldBytes b) (leb-true m 4 (each .0))) in
     let actions =
-        ap (map actionOf) (take-parts n 4 9 (rules.actionBytes b) few)
-        ∙ read-alike actionOf rules.actionOf fewParameters 9 action-held n (rules.actionBytes b) long (both .1) in
+    ap (map actionOf) (take-parts n 4 9 (rules.actionBytes b) few)
+    ∙ read-alike actionOf rules.actionOf fewParameters 9 action-held n (rules.actionBytes b) long (both .1) in
     λ i. record { table = rules.rowOf b .table; owner = byte 4 b; size = rules.rowOf b .size; fields = fields i; actions = actions i }
 
 pub rows-held : (t : ℕ) (b : List ℕ) → rowSize * t ≤ length b → every countsFit (parts t rowSize b) ≡ true

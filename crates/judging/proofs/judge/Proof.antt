@@ -1,95 +1,68 @@
--- Right because the reasons by the row come before those of the place, and a place is judged of the update's own entry.
--- Assumes nothing.
-use Prim.Native.Nat.{ℕ}
+-- Right because the row that is lent is the one of the update's table, where the table is known. Assumes nothing.
+use Prim.Native.Nat.{ℕ, _+_, _-_}
 use native.Mathlib.Omega.{arith}
-use mathlib.Core.Path.{refl, sym, _∙_}
+use mathlib.Core.Path.{_≡_, sym, ap, _∙_}
 use mathlib.Core.List.{List}
 use denote.Ref.{now}
-use borrow.Author.Tests.{ne-eqb}
-use Rattle.rules.specs.Bytes.{byte}
-use Rattle.rules.proofs.Lists.{rest-all}
-use Rattle.rows.specs.Meaning.{rowOf}
-use Rattle.store.specs.Store.{entriesIn, tablesIn}
-use Rattle.judging.proofs.Order.{row-refused, place-judged, place-justified}
+use Rattle.rules.specs.Bytes.{number}
+use Rattle.rules.specs.Frame.{updateOf}
+use Rattle.rules.specs.Key.{tableOf}
+use Rattle.rules.specs.Row.{known, rowFor}
+use Rattle.rules.proofs.Lists.{drop-take}
+use Rattle.rows.specs.Meaning.{rowOf, rowsIn}
+use Rattle.store.specs.Store.{tablesIn}
+use Rattle.judging.proofs.Order.{judged-by-rows}
 use borrow.Author.Needs.{needs}
 use Rattle.judging.proofs.judge.Statement.{statement}
 use Rattle.judging.proofs.judge.Tie as tie
 
-row-reason-requires : tie.Need-row-reason-requires
-row-reason-requires c κs = search needs
+integer-requires : tie.Need-integer-requires
+integer-requires c κs = search needs
+
+find-requires : tie.Need-find-requires
+find-requires c κs = search needs
+
+add-end : tie.Need-add-end
+add-end c = search needs
+
+sub-judge-by : tie.Need-sub-judge-by
+sub-judge-by c = search needs
+
+part-judge-by-start : tie.Need-part-judge-by-start
+part-judge-by-start c = search needs
+
+part-judge-by-end : tie.Need-part-judge-by-end
+part-judge-by-end c = search needs
+
+judge-by-requires : tie.Need-judge-by-requires
+judge-by-requires c κs = search needs
 
 returns : tie.Need-returns
 returns c =
-    let r = c .before in
-    let a = r .before .before .before .args in
-    let t = tablesIn (a .tables) (now (a .store)) in
-    let n = c .if1 .taken in
-    (row-refused (a .found .known) (rowOf (a .found .row)) (a .role) t (now (a .update)) (r .row-reason .ensures) n, (omega (arith, n), tt))
-
-shared-slice-read-kind : tie.Need-shared-slice-read-kind
-shared-slice-read-kind c = search needs
-
-sub-judge-insert : tie.Need-sub-judge-insert
-sub-judge-insert c = search needs
-
-part-judge-insert-start : tie.Need-part-judge-insert-start
-part-judge-insert-start c = search needs
-
-part-judge-insert-end : tie.Need-part-judge-insert-end
-part-judge-insert-end c = search needs
-
-judge-insert-requires : tie.Need-judge-insert-requires
-judge-insert-requires c κs = search needs
-
-returns-2 : tie.Need-returns-2
-returns-2 c =
-    let g = c .before .before .before .before in
-    let a = g .before .before .before .before .args in
+    let f = c .before .before in
+    let a = f .before .before .before .before .before .args in
     let u : List ℕ = now (a .update) in
-    let v = c .judge-insert in
-    let k = sym (c .before .before .if2 .taken) in (
-      place-judged (a .found .known) (rowOf (a .found .row)) (a .role) (tablesIn (a .tables) (now (a .store))) u 1 _ k (rest-all 1 u)
-          (sym (g .if1 .left) ∙ g .before .row-reason .ensures) (v .ensures .0),
-      (place-justified u (entriesIn (a .tables) (now (a .store))) (v .result) k (rest-all 1 u) (v .ensures .1 .0), v .ensures .1 .1),
-    )
-
-sub-judge-change : tie.Need-sub-judge-change
-sub-judge-change c = search needs
-
-part-judge-change-start : tie.Need-part-judge-change-start
-part-judge-change-start c = search needs
-
-part-judge-change-end : tie.Need-part-judge-change-end
-part-judge-change-end c = search needs
-
-judge-change-requires : tie.Need-judge-change-requires
-judge-change-requires c κs = (search needs, search needs, ne-eqb _ _ (c .before .if2 .left))
-
-returns-3 : tie.Need-returns-3
-returns-3 c =
-    let g = c .before .before .before .before in
-    let a = g .before .before .before .before .args in
-    let u : List ℕ = now (a .update) in
-    let v = c .judge-change in (
-      place-judged (a .found .known) (rowOf (a .found .row)) (a .role) (tablesIn (a .tables) (now (a .store))) u (byte 0 u) _ refl (rest-all 1 u)
-          (sym (g .if1 .left) ∙ g .before .row-reason .ensures) (v .ensures .0 (rowOf (a .found .row))),
-      (place-justified u (entriesIn (a .tables) (now (a .store))) (v .result) refl (rest-all 1 u) (v .ensures .1 .0), v .ensures .1 .1),
+    let rows = rowsIn (a .count) (now (a .rows)) in
+    let at = f .find .result .at in
+    let w : at + 53 - at ≡ 53 = omega arith in
+    let its : f .before .integer .result ≡ tableOf (updateOf u .entry) = f .before .integer .ensures in
+    let isKnown = f .find .ensures .0 ∙ ap (λ (n : ℕ). known n rows) its in
+    let v = c .judge-by .ensures in (
+      rw w at (v .0)
+      ∙ judged-by-rows rows (a .role) (tablesIn (a .tables) (now (a .store))) (updateOf u) isKnown
+      (λ e. f .find .ensures .1 .0 e ∙ ap (λ (n : ℕ). rowFor n rows) its),
+      v .1,
     )
 
 pub judge-spec : {M : Type 1} → statement M
 judge-spec =
     tie.close
     (tie.spec
-    row-reason-requires
-    returns
-    shared-slice-read-kind
-    sub-judge-insert
-    part-judge-insert-start
-    part-judge-insert-end
-    judge-insert-requires
-    returns-2
-    sub-judge-change
-    part-judge-change-start
-    part-judge-change-end
-    judge-change-requires
-    returns-3)
+    integer-requires
+    find-requires
+    add-end
+    sub-judge-by
+    part-judge-by-start
+    part-judge-by-end
+    judge-by-requires
+    returns)

@@ -10,7 +10,8 @@ use borrow.Author.Tests.{leb-false}
 use Rattle.rules.specs.Key.{shortKey}
 use Rattle.rules.proofs.Formed.{parts-count}
 use Rattle.rows.specs.Meaning.{rowOf}
-use Rattle.store.specs.Store.{entriesIn, place, placeOf}
+use Rattle.rules.specs.Update.{held}
+use Rattle.store.specs.Store.{entriesIn, tablesIn, place, placeOf}
 use Rattle.judging.proofs.Place.{insert-present, insert-table-full, insert-store-full, insert-absent}
 use borrow.Author.Needs.{needs}
 use Rattle.judging.proofs.judge_insert.Statement.{statement}
@@ -25,41 +26,47 @@ enum-told c = search needs
 enum-told-2 : tie.Need-enum-told-2
 enum-told-2 c = search needs
 
-cast-holds : tie.Need-cast-holds
-cast-holds c = search needs
+integer-requires : tie.Need-integer-requires
+integer-requires c κs = search needs
 
-cast-holds-2 : tie.Need-cast-holds-2
-cast-holds-2 c = search needs
+integer-requires-2 : tie.Need-integer-requires-2
+integer-requires-2 c κs = search needs
 
 holds-requires : tie.Need-holds-requires
 holds-requires c κs = search needs
 
 -- no entry with the key was found
 absent : (h : tie.After-holds) →
-    let a = h .before .before .before .before .before .before .before .before .args in
+    let a = h .before .before .before .before .before .before .before .before .before .args in
     place (shortKey (now (a .entry))) (entriesIn (a .tables) (now (a .store))) ≡ none
 absent h = sym (h .before .before .before .before .before .locate .ensures .0) ∙ ap placeOf (h .before .before .before .enum-told2 .given .1)
 
-returns : tie.Need-returns
+-- the table's entries are counted against its size
+counted : (h : tie.After-holds) →
+    let a = h .before .before .before .before .before .before .before .before .before .args in
+    let row = rowOf (now (a .row)) in
+    h .holds .result ≡ leb (row .size) (held (row .table) (tablesIn (a .tables) (now (a .store))))
 unfolding rowOf
+counted h = rw (h .before .before .integer .ensures, h .before .integer2 .ensures) at (h .holds .ensures)
+
+returns : tie.Need-returns
 returns c =
     let h = c .before in
-    let a = h .before .before .before .before .before .before .before .before .args in
+    let a = h .before .before .before .before .before .before .before .before .before .args in
     let es = entriesIn (a .tables) (now (a .store)) in
-    (sym (insert-table-full (rowOf (a .row)) (now (a .entry)) es (absent h) (sym (h .holds .ensures) ∙ c .if1 .taken)), (omega arith, tt))
+    (sym (insert-table-full (rowOf (now (a .row))) (now (a .entry)) es (absent h) (sym (counted h) ∙ c .if1 .taken)), (omega arith, tt))
 
 are-full-requires : tie.Need-are-full-requires
 are-full-requires c κs = search needs
 
 returns-2 : tie.Need-returns-2
-unfolding rowOf
 returns-2 c =
     let g = c .before .before in
     let h = g .before in
-    let a = h .before .before .before .before .before .before .before .before .args in
+    let a = h .before .before .before .before .before .before .before .before .before .args in
     let s = now (a .store) in
     let f = c .before .are-full in (
-      sym (insert-store-full (rowOf (a .row)) (now (a .entry)) (entriesIn (a .tables) s) (absent h) (sym (h .holds .ensures) ∙ g .if1 .left)
+      sym (insert-store-full (rowOf (now (a .row))) (now (a .entry)) (entriesIn (a .tables) s) (absent h) (sym (counted h) ∙ g .if1 .left)
           (sym (f .ensures s) ∙ c .if2 .taken)),
       (omega arith, tt),
     )
@@ -67,23 +74,22 @@ returns-2 c =
 returns-3 : tie.Need-returns-3
 returns-3 c =
     let d = c .before .before in
-    let a = d .before .before .before .args in
+    let a = d .before .before .before .before .args in
     let p = sym (d .locate .ensures .0) ∙ ap placeOf (c .enum-told .given .1) in
-    (sym (insert-present (rowOf (a .row)) (now (a .entry)) (entriesIn (a .tables) (now (a .store))) _ p), (omega arith, tt))
+    (sym (insert-present (rowOf (now (a .row))) (now (a .entry)) (entriesIn (a .tables) (now (a .store))) _ p), (omega arith, tt))
 
 returns-4 : tie.Need-returns-4
-unfolding rowOf
 returns-4 c =
     let g = c .before .before in
     let h = g .before in
-    let a = h .before .before .before .before .before .before .before .before .args in
+    let a = h .before .before .before .before .before .before .before .before .before .args in
     let s = now (a .store) in
     let es = entriesIn (a .tables) s in
     let f = c .before .are-full in
     let more : leb 256 (length es) ≡ false = sym (f .ensures s) ∙ c .if2 .left in
     let few = leb-false 256 (length es) more in
     let m : length es ≡ a .tables .count = parts-count (a .tables .count) 220 s in
-    (sym (insert-absent (rowOf (a .row)) (now (a .entry)) es (absent h) (sym (h .holds .ensures) ∙ g .if1 .left) more), (refl, omega arith))
+    (sym (insert-absent (rowOf (now (a .row))) (now (a .entry)) es (absent h) (sym (counted h) ∙ g .if1 .left) more), (refl, omega arith))
 
 pub judge-insert-spec : {M : Type 1} → statement M
 judge-insert-spec =
@@ -92,8 +98,8 @@ judge-insert-spec =
     locate-requires
     enum-told
     enum-told-2
-    cast-holds
-    cast-holds-2
+    integer-requires
+    integer-requires-2
     holds-requires
     returns
     are-full-requires

@@ -22,29 +22,29 @@ shared-slice-read-kind c = search needs
 returns : tie.Need-returns
 unfolding first
 returns c =
-    let type : ℕ = byte 0 (now (c .before .before .before .args .update)) in
+    let type : ℕ = byte 0 (now (c .before .before .before .before .args .update)) in
     rw (lt-leb 1 type (omega arith))
 
 returns-2 : tie.Need-returns-2
 unfolding first
 returns-2 c =
-    let type : ℕ = byte 0 (now (c .before .before .before .before .args .update)) in
+    let type : ℕ = byte 0 (now (c .before .before .before .before .before .args .update)) in
     rw (le-leb 1 type (omega arith), lt-leb type 3 (c .if2 .taken))
 
 table-reason-requires : tie.Need-table-reason-requires
 table-reason-requires c κs = search needs
 
-typed : (c : tie.Else2) → between 1 3 (byte 0 (now (c .before .before .before .before .args .update))) ≡ true
+typed : (c : tie.Else2) → between 1 3 (byte 0 (now (c .before .before .before .before .before .args .update))) ≡ true
 typed c =
-    let type : ℕ = byte 0 (now (c .before .before .before .before .args .update)) in
+    let type : ℕ = byte 0 (now (c .before .before .before .before .before .args .update)) in
     rw (le-leb 1 type (omega arith), le-leb type 3 (c .if2 .left))
 
 returns-3 : tie.Need-returns-3
 returns-3 c =
     let g = c .before .before in
-    let a = g .before .before .before .before .args in
+    let a = g .before .before .before .before .before .args in
     let u : List ℕ = now (a .update) in
-    table-refused (a .found .known) (rowOf (a .found .row)) (a .role) (updateOf u) (typed g) (c .before .table-reason .ensures) (c .if3 .taken)
+    table-refused (a .known) (rowOf (now (a .row))) (a .role) (updateOf u) (typed g) (c .before .table-reason .ensures) (c .if3 .taken)
 
 sub-entry-reason : tie.Need-sub-entry-reason
 sub-entry-reason c = search needs
@@ -62,9 +62,9 @@ returns-4 : tie.Need-returns-4
 returns-4 c =
     let h = c .before .before in
     let g = h .before .before in
-    let a = g .before .before .before .before .args in
+    let a = g .before .before .before .before .before .args in
     let u : List ℕ = now (a .update) in
-    entry-judged (a .found .known) (rowOf (a .found .row)) (a .role) (updateOf u) (typed g)
+    entry-judged (a .known) (rowOf (now (a .row))) (a .role) (updateOf u) (typed g)
     (sym (h .if3 .left) ∙ h .before .table-reason .ensures) (rw (rest-all 1 u) at (c .entry-reason .ensures))
 
 pub row-reason-spec : {M : Type 1} → statement M
