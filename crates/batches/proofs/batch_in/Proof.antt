@@ -8,7 +8,7 @@ use mathlib.Core.Logic.{⊎-elim}
 use lib.ListN.{length}
 use denote.Ref.{now}
 use Rattle.rules.specs.Update.{rolledBack}
-use Rattle.rows.specs.Meaning.{rowsOf}
+use Rattle.rows.specs.Meaning.{rowsIn}
 use Rattle.batches.proofs.AllOrNone.{ended, rolled, rolled-reasons, rolled-count, pairs-anew}
 use borrow.Author.Needs.{needs}
 use Rattle.batches.proofs.batch_in.Statement.{statement}
@@ -26,10 +26,10 @@ roll-back-requires c κs =
     let k = p .take in
     let less = c .before .before .before .before .before .before .if1 .taken in
     let one = k .ensures .1 .1 .1 .1 .0 less .0 in
-    let b = p .before .before .before .before .before .before .before .before in (
-      (k .ensures .0 .0, omega (arith, b .pre .0 .1, k .kept .1 .1 .1 .0)),
-      omega (arith, b .pre .3 one, k .kept .1 .1 .1 .1 .1 .1 .1 .0, less),
-      omega (arith, b .pre .1, less),
+    let b = p .before .before .before .before .before .before .before .before .before in (
+      (k .ensures .0 .0, omega (arith, b .pre .1 .1, k .kept .1 .1 .1 .1 .0)),
+      omega (arith, b .pre .4 one, k .kept .1 .1 .1 .1 .1 .1 .1 .1 .0, less),
+      omega (arith, b .pre .2, less),
     )
 
 same-length : tie.Need-same-length
@@ -37,8 +37,8 @@ same-length c =
     let j = c .before in
     let k = j .before .before .before .before .before .before .before .before .before .take in
     ⊎-elim
-    (λ y. ap length (y .10) ∙ y .7 .kept .1 .1 .1 .0 ∙ k .kept .1 .1 .1 .0)
-    (λ y. ap length (y .1) ∙ k .kept .1 .1 .1 .0)
+    (λ y. ap length (y .10) ∙ y .7 .kept .1 .1 .1 .0 ∙ k .kept .1 .1 .1 .1 .0)
+    (λ y. ap length (y .1) ∙ k .kept .1 .1 .1 .1 .0)
     (j .if1 .came)
 
 same-length-2 : tie.Need-same-length-2
@@ -49,8 +49,8 @@ same-length-3 c =
     let j = c .before in
     let k = j .before .before .before .before .before .before .before .before .before .take in
     ⊎-elim
-    (λ y. ap length (y .11) ∙ y .2 .kept .1 .1 .1 .0 ∙ k .kept .1 .1 .1 .1 .1 .1 .1 .1 .0)
-    (λ y. ap length (y .2) ∙ k .kept .1 .1 .1 .1 .1 .1 .1 .1 .0)
+    (λ y. ap length (y .11) ∙ y .2 .kept .1 .1 .1 .0 ∙ k .kept .1 .1 .1 .1 .1 .1 .1 .1 .1 .0)
+    (λ y. ap length (y .2) ∙ k .kept .1 .1 .1 .1 .1 .1 .1 .1 .1 .0)
     (j .if1 .came)
 
 returns : tie.Need-returns
@@ -58,30 +58,30 @@ returns c =
     let j = c .before in
     let p = j .before .before .before .before .before .before .before .before .before in
     let k = p .take in
-    let g = p .before .before .before .before .before .before .before .before .args in
+    let g = p .before .before .before .before .before .before .before .before .before .args in
     let us : List ℕ = now (g .updates) in
     let s : List ℕ = now (g .store) in
     let n : ℕ = g .n in (
       λ t. ⊎-elim
           (λ y.
           let h = k .ensures .1 .1 .1 .1 .0 (y .0 .taken) in
-          rw (y .10, y .12) (rolled (rowsOf (g .rows)) (g .role) (g .tables) n us s (g .atomicity) (k .result) (h .0) (h .1 t) (y .7 .ensures)))
+          rw (y .10, y .12) (rolled (rowsIn (g .count) (now (g .rows))) (g .role) (g .tables) n us s (g .atomicity) (k .result) (h .0) (h .1 t) (y .7 .ensures)))
           (λ y.
           let z : k .result .done ≡ n = omega (arith, k .ensures .0 .1, y .0 .left) in
           let l = k .ensures .1 .1 .0 z t in
-          rw (y .1, y .3, ended (rowsOf (g .rows)) (g .role) (g .tables) n us s (g .atomicity) (k .result) l (λ e. k .ensures .1 .0 e z)) l)
+          rw (y .1, y .3, ended (rowsIn (g .count) (now (g .rows))) (g .role) (g .tables) n us s (g .atomicity) (k .result) l (λ e. k .ensures .1 .0 e z)) l)
           (j .if1 .came),
       λ t. ⊎-elim
           (λ y.
           let h = k .ensures .1 .1 .1 .1 .0 (y .0 .taken) in
-          rw (y .11, rolled-reasons (rowsOf (g .rows)) (g .role) (g .tables) n us s (g .atomicity) (k .result) (h .0) (h .1 t)) (
+          rw (y .11, rolled-reasons (rowsIn (g .count) (now (g .rows))) (g .role) (g .tables) n us s (g .atomicity) (k .result) (h .0) (h .1 t)) (
           y .2 .ensures
           ∙ pairs-anew n (rolledBack n (k .result .done, k .result .reason)) (now (g .answer)) _
           (rolled-count n (k .result .done) (k .result .reason)) (k .ensures .1 .1 .1 .1 .1)))
           (λ y.
           let z : k .result .done ≡ n = omega (arith, k .ensures .0 .1, y .0 .left) in
           let l = k .ensures .1 .1 .0 z t in
-          rw (y .2, ended (rowsOf (g .rows)) (g .role) (g .tables) n us s (g .atomicity) (k .result) l (λ e. k .ensures .1 .0 e z))
+          rw (y .2, ended (rowsIn (g .count) (now (g .rows))) (g .role) (g .tables) n us s (g .atomicity) (k .result) l (λ e. k .ensures .1 .0 e z))
           (k .ensures .1 .1 .1 .0 z t))
           (j .if1 .came),
     )

@@ -49,11 +49,11 @@ same-length-2 c = search needs
 
 -- the answer with the pair
 paired : (d : tie.After-write-pair) →
-    let x = now (d .before .before .before .before .before .before .before .before .before .args .answer) in
-    let i = d .before .before .before .before .before .before .before .before .before .args .i in
+    let x = now (d .before .before .before .before .before .before .before .before .before .before .args .answer) in
+    let i = d .before .before .before .before .before .before .before .before .before .before .args .i in
     putMid (2 * i) (length x - 2 * i) x (d .write-pair .last .1 .0) ≡ splice x (2 * i) (pairOf (d .before .before .reason .result))
 paired d =
-    let a = d .before .before .before .before .before .before .before .before .before .args in
+    let a = d .before .before .before .before .before .before .before .before .before .before .args in
     let x : List ℕ = now (a .answer) in
     part-copied x (d .write-pair .last .1 .0) (pairOf (d .before .before .reason .result)) (2 * a .i) (length x - 2 * a .i) (d .write-pair .ensures)
     (omega arith) (omega arith)
@@ -62,18 +62,18 @@ returns : tie.Need-returns
 returns c =
     let q = c .before .before .before .before .before in
     let v = q .before in
-    let s = v .before .before .before .before .before .before in
+    let s = v .before .before .before .before .before .before .before in
     let a = s .args in
     let n = c .if1 .taken in (
       q .reason .ensures ∙ v .judge .ensures .0,
       (
         paired (c .before .before .before),
         (
-          s .pre .0 .0,
+          s .pre .1 .0,
           (
             λ d.
                 rw (refused (q .reason .result) (updateOf (now (a .update))) (tablesIn (a .tables) (now (a .store))) n)
-                (record { holds = refl; few = s .pre .0 .0; room = refl; beyond = refl }),
+                (record { holds = refl; few = s .pre .1 .0; room = refl; beyond = refl }),
             (λ e z. absurd (n z), λ m. (refl, refl, refl)),
           ),
         ),
@@ -100,14 +100,14 @@ returns-2 c =
     let w = c .before .before .before .before .before .before .before .before .before .before .before .before in
     let q = w .before .before in
     let v = q .before in
-    let s = v .before .before .before .before .before .before in
+    let s = v .before .before .before .before .before .before .before in
     let a = s .args in
     let u : List ℕ = now (a .update) in
     let es : List (List ℕ) = entriesIn (a .tables) (now (a .store)) in
     let did = c .before .before .apply .ensures in
     let note = c .before .before .before .before .before .before .note-update .ensures in
     let justified = v .judge .ensures .1 .0 in
-    let few : length es ≤ 256 = omega (arith, s .pre .0 .0, parts-count (a .tables .count) 220 (now (a .store))) in (
+    let few : length es ≤ 256 = omega (arith, s .pre .1 .0, parts-count (a .tables .count) 220 (now (a .store))) in (
       q .reason .ensures ∙ v .judge .ensures .0,
       (
         paired w,
@@ -121,7 +121,7 @@ returns-2 c =
                 size = note e .0;
                 bytes = note e .1;
                 undoing = rw (did .0 .holds)
-                    (undo-after-apply (v .judge .result) (byte 0 u) u es (part (74 * a .i) 74 (now (a .log))) few (s .pre .1)
+                    (undo-after-apply (v .judge .result) (byte 0 u) u es (part (74 * a .i) 74 (now (a .log))) few (s .pre .2)
                     (sym (q .reason .ensures) ∙ z) justified);
               },
               λ n. absurd (n (c .before .before .before .before .before .before .before .before .before .if1 .left)),

@@ -17,18 +17,18 @@ use Rattle.rules.specs.Sound.{Distinct}
 use Rattle.rules.specs.Update.{judge, eachAlone}
 use Rattle.rules.proofs.Formed.{parts-count}
 use Rattle.rules.proofs.Lists.{parts-from}
-use Rattle.rows.specs.Meaning.{rowsOf}
+use Rattle.rows.specs.Meaning.{rowsIn}
 use Rattle.buffers.proofs.Splice.{length-window, drop-splice}
 use Rattle.store.specs.Store.{entriesIn, tablesIn}
 use Rattle.batches.specs.Batch.{updatesIn}
-use Rattle.batches.proofs.EachAlone.{TakenSoFar, taken-start, taken-next, taken-end, flagged, flag-set, flag-kept, row-found}
+use Rattle.batches.proofs.EachAlone.{TakenSoFar, taken-start, taken-next, taken-end, flagged, flag-set, flag-kept}
 use Rattle.batches.proofs.AllOrNone.{PassedSoFar, passed-start, passed-next, passed-stop}
 use borrow.Author.Needs.{needs}
 use Rattle.batches.proofs.take.Statement.{statement}
 use Rattle.batches.proofs.take.Tie as tie
 
 abbrev Inv-loop : tie.InvT-loop
-Inv-loop rows role atomicity store₀ updates n log₀ answer₀ held₀ failure₀ i₀ store log answer held failure i =
+Inv-loop rows count role atomicity store₀ updates n log₀ answer₀ held₀ failure₀ i₀ store log answer held failure i =
     (i ≤ n)
     × (held .count ≤ 256)
     × (length store ≡ length store₀)
@@ -37,17 +37,17 @@ Inv-loop rows role atomicity store₀ updates n log₀ answer₀ held₀ failure
     × (drop (2 * n) answer ≡ drop (2 * n) answer₀)
     × (atomicity ≡ 1 → failure ≡ 0)
     × (Distinct (entriesIn held₀ store₀)
-    → TakenSoFar (rowsOf rows) role (eachAlone (rowsOf rows) role (tablesIn held₀ store₀) (updatesIn n updates)) store₀ answer₀
+    → TakenSoFar (rowsIn count rows) role (eachAlone (rowsIn count rows) role (tablesIn held₀ store₀) (updatesIn n updates)) store₀ answer₀
     (map updateOf (drop i (parts n 221 updates))) store answer held (not (eqb failure 0)) i)
     × (atomicity ≡ 1 → Distinct (entriesIn held₀ store₀)
-    → PassedSoFar (rowsOf rows) role held₀ n updates store₀ (map updateOf (drop i (parts n 221 updates))) store log held i)
+    → PassedSoFar (rowsIn count rows) role held₀ n updates store₀ (map updateOf (drop i (parts n 221 updates))) store log held i)
 
 abbrev μ-loop : tie.MeasureT-loop
-μ-loop rows role atomicity store₀ updates n log₀ answer₀ held₀ failure₀ i₀ store log answer held failure i = n - i
+μ-loop rows count role atomicity store₀ updates n log₀ answer₀ held₀ failure₀ i₀ store log answer held failure i = n - i
 
 loop-holds : tie.Need-loop-holds Inv-loop μ-loop
 loop-holds c =
-    let few = c .before .before .before .before .pre .0 .0 in
+    let few = c .before .before .before .before .before .pre .1 .0 in
     (omega arith, few, refl, refl, refl, refl, λ e. refl, λ t. taken-start _ _ _ _ _ _ few t, λ e t. passed-start _ _ _ _ _ _ _ few)
 
 mul-from : tie.Need-mul-from Inv-loop μ-loop
@@ -55,15 +55,6 @@ mul-from c = search needs
 
 add-end : tie.Need-add-end Inv-loop μ-loop
 add-end c = search needs
-
-add-integer : tie.Need-add-integer Inv-loop μ-loop
-add-integer c = search needs
-
-integer-requires : tie.Need-integer-requires Inv-loop μ-loop
-integer-requires c κs = search needs
-
-find-requires : tie.Need-find-requires Inv-loop μ-loop
-find-requires c κs = search needs
 
 sub-step : tie.Need-sub-step Inv-loop μ-loop
 sub-step c = search needs
@@ -76,8 +67,8 @@ part-step-end c = search needs
 
 step-requires : tie.Need-step-requires Inv-loop μ-loop
 step-requires c κs =
-    let l = c .before .before .before .before .before .before .before in
-    ((l .loop .inv .1, omega arith), search needs, λ e. omega (arith, l .before .before .before .before .before .pre .3 e), omega arith)
+    let l = c .before .before .before .before .before in
+    (search needs, (l .loop .inv .1, omega arith), search needs, λ e. omega (arith, l .before .before .before .before .before .before .pre .4 e), omega arith)
 
 same-length : tie.Need-same-length Inv-loop μ-loop
 same-length c = search needs
@@ -91,7 +82,7 @@ same-length-3 c = search needs
 -- update i and its pair have their places
 places : (g : tie.In-loop Inv-loop μ-loop)
     → let l = g .before in
-    let a = l .before .before .before .before .before .args in
+    let a = l .before .before .before .before .before .before .args in
     (l .loop .i < a .n)
     × (221 * l .loop .i + 221 ≤ length (now (a .updates)))
     × (2 * l .loop .i + 2 ≤ length (now (a .answer)))
@@ -100,33 +91,30 @@ places g = omega arith
 
 -- what a step says of update i as it is lent, it says of update i
 lent : (d : tie.After-step Inv-loop μ-loop) →
-    let i = d .before .before .before .before .before .before .before .before .loop .i in
+    let i = d .before .before .before .before .before .before .loop .i in
     221 * i + 221 - 221 * i ≡ 221
 lent d = omega arith
 
 -- update i was judged by the rows, on the store as it is
 judged : (d : tie.After-step Inv-loop μ-loop)
-    → let l = d .before .before .before .before .before .before .before .before in
-    let a = l .before .before .before .before .before .args in
+    → let l = d .before .before .before .before .before .before in
+    let a = l .before .before .before .before .before .before .args in
     d .step .result .reason
-    ≡ judge (rowsOf (a .rows)) (a .role) (tablesIn (l .loop .held) (l .loop .store)) (updateOf (part (221 * l .loop .i) 221 (now (a .updates))))
+    ≡ judge (rowsIn (a .count) (now (a .rows))) (a .role) (tablesIn (l .loop .held) (l .loop .store)) (updateOf (part (221 * l .loop .i) 221 (now (a .updates))))
 judged d =
-    let l = d .before .before .before .before .before .before .before .before in
-    let a = l .before .before .before .before .before .args in
-    let f = d .before .before .before .before .before in
+    let l = d .before .before .before .before .before .before in
+    let a = l .before .before .before .before .before .before .args in
     rw (lent d) at (d .step .ensures .0)
-    ∙ row-found (rowsOf (a .rows)) (now (a .updates)) (l .loop .i) (f .before .integer .ensures) (f .find .ensures .0) (f .find .ensures .1)
-    (a .role) (tablesIn (l .loop .held) (l .loop .store))
 
 -- its pair writes no byte behind the pairs
 beyond : (d : tie.After-step Inv-loop μ-loop)
-    → let l = d .before .before .before .before .before .before .before .before in
-    let a = l .before .before .before .before .before .args in
-    drop (2 * a .n) (d .step .last .1 .1 .1 .1 .1 .1 .1 .1 .0) ≡ drop (2 * a .n) (now (a .answer))
+    → let l = d .before .before .before .before .before .before in
+    let a = l .before .before .before .before .before .before .args in
+    drop (2 * a .n) (d .step .last .1 .1 .1 .1 .1 .1 .1 .1 .1 .0) ≡ drop (2 * a .n) (now (a .answer))
 beyond d =
-    let g = d .before .before .before .before .before .before .before in
+    let g = d .before .before .before .before .before in
     let l = g .before in
-    let a = l .before .before .before .before .before .args in
+    let a = l .before .before .before .before .before .before .args in
     let at = places g in
     ap (drop (2 * a .n)) (d .step .ensures .1 .0)
     ∙ drop-splice (2 * a .n) (l .loop .answer) (2 * l .loop .i) (pairOf (d .step .result .reason)) (omega (arith, at .0)) (omega (arith, at .3))
@@ -135,9 +123,9 @@ beyond d =
 returns : tie.Need-returns Inv-loop μ-loop
 returns c =
     let d = c .before .before .before .before .before .before .before .before .before .before in
-    let g = d .before .before .before .before .before .before .before in
+    let g = d .before .before .before .before .before in
     let l = g .before in
-    let a = l .before .before .before .before .before .args in
+    let a = l .before .before .before .before .before .before .args in
     let at = places g in
     let one = c .if2 .taken in
     let n = c .before .if1 .taken in
@@ -165,8 +153,8 @@ returns c =
 
 add-i : tie.Need-add-i Inv-loop μ-loop
 add-i c =
-    let g = c .before .before .before .before .before .before .before .before .before .before .before .before .before .before .before .before in
-    omega (arith, places g .0, g .before .before .before .before .before .before .fits .n)
+    let g = c .before .before .before .before .before .before .before .before .before .before .before .before .before .before in
+    omega (arith, places g .0, g .before .before .before .before .before .before .before .fits .n)
 
 loop-less : tie.Need-loop-less Inv-loop μ-loop
 loop-less c = search needs
@@ -174,9 +162,9 @@ loop-less c = search needs
 loop-again : tie.Need-loop-again Inv-loop μ-loop
 loop-again c =
     let d = c .before .before .before .before .before .before .before .before .before in
-    let g = d .before .before .before .before .before .before .before in
+    let g = d .before .before .before .before .before in
     let l = g .before in
-    let a = l .before .before .before .before .before .args in
+    let a = l .before .before .before .before .before .before .args in
     let us : List ℕ = now (a .updates) in
     let i : ℕ = l .loop .i in
     let r : ℕ = d .step .result .reason in
@@ -195,14 +183,14 @@ loop-again c =
     (λ y. y .1 ∙ l .loop .inv .6 e)
     (c .if1 .came) in
     let room : a .atomicity ≡ 1 → 74 * i + 74 ≤ length (l .loop .log) =
-    λ e. omega (arith, l .before .before .before .before .before .pre .3 e, at .0) in
+    λ e. omega (arith, l .before .before .before .before .before .before .pre .4 e, at .0) in
     let told = rw (lent d) at (d .step .ensures .1 .1 .1) in
     let kept = d .step .kept in (
       omega (arith, at .0),
       d .step .ensures .1 .1 .0,
-      kept .1 .1 .1 .0 ∙ l .loop .inv .2,
-      kept .1 .1 .1 .1 .1 .1 .0 ∙ l .loop .inv .3,
-      kept .1 .1 .1 .1 .1 .1 .1 .1 .0 ∙ l .loop .inv .4,
+      kept .1 .1 .1 .1 .0 ∙ l .loop .inv .2,
+      kept .1 .1 .1 .1 .1 .1 .1 .0 ∙ l .loop .inv .3,
+      kept .1 .1 .1 .1 .1 .1 .1 .1 .1 .0 ∙ l .loop .inv .4,
       beyond d,
       clear,
       λ t.
@@ -225,7 +213,7 @@ same-length-6 c = search needs
 returns-2 : tie.Need-returns-2 Inv-loop μ-loop
 returns-2 c =
     let l = c .before .loop in
-    let a = c .before .before .before .before .before .before .args in
+    let a = c .before .before .before .before .before .before .before .args in
     let us : List (List ℕ) = parts (a .n) 221 (now (a .updates)) in
     let none : drop (l .i) us ≡ [] = drop-of-length-le us {i = l .i} (omega (arith, parts-count (a .n) 221 (now (a .updates)))) in (
       (l .inv .1, omega arith),
@@ -253,9 +241,6 @@ take-spec =
     loop-holds
     mul-from
     add-end
-    add-integer
-    integer-requires
-    find-requires
     sub-step
     part-step-start
     part-step-end

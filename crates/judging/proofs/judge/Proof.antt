@@ -49,8 +49,8 @@ returns c =
     let isKnown = f .find .ensures .0 ∙ ap (λ (n : ℕ). known n rows) its in
     let v = c .judge-by .ensures in (
       rw w at (v .0)
-      ∙ judged-by-rows rows (a .role) (tablesIn (a .tables) (now (a .store))) (updateOf u) isKnown
-      (λ e. f .find .ensures .1 .0 e ∙ ap (λ (n : ℕ). rowFor n rows) its),
+          ∙ judged-by-rows rows (a .role) (tablesIn (a .tables) (now (a .store))) (updateOf u) isKnown
+          (λ e. f .find .ensures .1 .0 e ∙ ap (λ (n : ℕ). rowFor n rows) its),
       v .1,
     )
 
