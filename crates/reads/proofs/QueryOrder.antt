@@ -2,7 +2,7 @@
 use Prim.Native.Nat.{ℕ, _+_}
 use native.Mathlib.Omega.{arith}
 use mathlib.Core.Path.{_≡_, refl, sym, ap, _∙_}
-use mathlib.Core.Bool.{Bool, not}
+use mathlib.Core.Bool.{Bool, true, false}
 use mathlib.Core.List.{List}
 use lib.Dec.{eqb}
 use lib.ListN.{length, take, drop}
@@ -16,7 +16,7 @@ use Rattle.rules.proofs.Lists.{part-part}
 use Rattle.rules.proofs.Orders.{first-more}
 use Rattle.rules.proofs.Shortest.{part-length, joined-length}
 use Rattle.rules.specs.Call.{queryOrder}
-use Rattle.reads.specs.Read.{keyIn}
+use Rattle.reads.specs.Read.{keyIn, tableQueryOrder}
 
 -- ---- the key
 
@@ -32,26 +32,36 @@ key-behind b l =
 
 -- ---- the order
 
--- where the rows say this of the table, and r is the table's reason
-module _ (rows : List Row) (role table only : ℕ) (k : List ℕ) {isKnown : Bool} {row : Row} {r : ℕ}
-    (found : isKnown ≡ known table rows) (its : row ≡ rowFor table rows)
-    (barred : r ≡ first (when (not (eqb table 0)) (tableOrder isKnown row role))) where
-  abbrev byTable : List (Bool × ℕ)
-  byTable = when (not (eqb table 0)) (tableOrder (known table rows) (rowFor table rows) role)
+-- of a table by its row: the table's reasons and then the key's
+module _ (isKnown : Bool) (row : Row) (role only : ℕ) (k : List ℕ) {r : ℕ} (barred : r ≡ first (tableOrder isKnown row role)) where
+  in-turn : first (tableQueryOrder isKnown row role only k) ≡ (if eqb r 0 then first (when (eqb only 1) (keyOrder row k)) else r)
+  in-turn = first-more (tableOrder isKnown row role) (when (eqb only 1) (keyOrder row k)) refl ∙ (rw (← barred))
 
-  abbrev byKey : List (Bool × ℕ)
-  byKey = when (eqb only 1) (keyOrder (rowFor table rows) k)
-
-  in-turn : first (queryOrder rows role table only k) ≡ (if eqb r 0 then first byKey else r)
-  in-turn = first-more byTable byKey refl ∙ (rw (← found, ← its, ← barred))
-
-  pub by-table : (r ≡ 0 → ⊥) → r ≡ first (queryOrder rows role table only k)
+  pub by-table : (r ≡ 0 → ⊥) → r ≡ first (tableQueryOrder isKnown row role only k)
   by-table n = sym (in-turn ∙ (rw (ne-eqb r 0 n)))
 
   module _ (z : r ≡ 0) where
-    pub by-nothing : (only ≡ 1 → ⊥) → 0 ≡ first (queryOrder rows role table only k)
+    pub by-nothing : (only ≡ 1 → ⊥) → 0 ≡ first (tableQueryOrder isKnown row role only k)
     unfolding first
     by-nothing n = sym (in-turn ∙ (rw (z, ne-eqb only 1 n)))
 
-    pub by-key : {x : ℕ} → only ≡ 1 → x ≡ first (keyOrder row k) → x ≡ first (queryOrder rows role table only k)
-    by-key o e = e ∙ (rw its (sym (in-turn ∙ (rw (z, o)))))
+    pub by-key : {x : ℕ} → only ≡ 1 → x ≡ first (keyOrder row k) → x ≡ first (tableQueryOrder isKnown row role only k)
+    by-key o e = e ∙ sym (in-turn ∙ (rw (z, o)))
+
+-- by the rows in force
+module _ (rows : List Row) (role table only : ℕ) (k : List ℕ) where
+  -- table 0 names none
+  pub none-named : table ≡ 0 → (only ≡ 1 → ⊥) → 0 ≡ first (queryOrder rows role table only k)
+  unfolding first
+  none-named z n = rw (z, ne-eqb only 1 n)
+
+  -- a table that is named: whether it is known, and its row where it is; one that is not is refused, whatever row is lent
+  pub one-named : {isKnown : Bool} {row : Row} → (table ≡ 0 → ⊥) → isKnown ≡ known table rows → (isKnown ≡ true → row ≡ rowFor table rows)
+      → first (tableQueryOrder isKnown row role only k) ≡ first (queryOrder rows role table only k)
+  unfolding first
+  one-named {isKnown} {row} n e its = rw (ne-eqb table 0 n) (go isKnown e its)
+    where
+      go : (b : Bool) → b ≡ known table rows → (b ≡ true → row ≡ rowFor table rows)
+          → first (tableQueryOrder b row role only k) ≡ first (tableQueryOrder (known table rows) (rowFor table rows) role only k)
+      go true e its = rw (← e, its refl)
+      go false e its = rw (← e)

@@ -11,7 +11,7 @@ use mathlib.Core.Option.{none, some}
 use lib.ListN.{length, take, drop, getD, length-append, length-drop}
 use lib.Seq.{take-add, take-append-le, drop-drop, drop-at}
 use borrow.Rule.Slice.PartMut.{putMid}
-use Rattle.rules.specs.Bytes.{keep, concat, part}
+use Rattle.rules.specs.Bytes.{keep, concat, part, int}
 use Rattle.rules.specs.Key.{hasKey}
 use Rattle.rules.specs.Update.{inTable, held}
 use Rattle.rules.specs.Call.{asked, gathered}
@@ -20,9 +20,8 @@ use Rattle.rules.proofs.Formed.{EveryLength, parts-lengths}
 use Rattle.rules.proofs.Sizes.{keep-lengths}
 use Rattle.buffers.specs.Splice.{splice}
 use Rattle.buffers.proofs.Splice.{splice-none, splice-next, length-splice, length-window, part-copied}
-use Rattle.rows.specs.declared.Rows.{Rows}
-use Rattle.rows.specs.Meaning.{rowOf, rowsOf}
-use Rattle.rows.proofs.RowsWalk.{blank, rows-next, rows-none}
+use Rattle.rows.specs.Meaning.{rowOf, rowsIn}
+use Rattle.rows.proofs.RowsWalk.{rows-next, rows-none, table-at}
 use Rattle.rules.specs.Sound.{Distinct}
 use Rattle.store.specs.declared.Tables.{Tables as Held}
 use Rattle.store.specs.Store.{entriesIn, tablesIn, place}
@@ -134,18 +133,18 @@ module _ {all left : List (List ℕ)} {before after : List ℕ} {n : ℕ} (g : R
       rw (part-copied after p (concat (take r xs)) at k bytes (omega arith) (omega arith))
       (reading-next xs more r e w (rw (lent, l) at number))
 
--- what is left of a READ before the row at i
-module _ (role table : ℕ) (rows : Rows) (tables : Held) (s : List ℕ) where
+-- what is left of a READ before the row at i, of the first t of the rows b
+module _ (role table t : ℕ) (b : List ℕ) (tables : Held) (s : List ℕ) where
   abbrev pub unread : ℕ → List (List ℕ)
-  unread i = gathered role table (drop i (rowsOf rows)) (tablesIn tables s)
+  unread i = gathered role table (drop i (rowsIn t b)) (tablesIn tables s)
 
-  module _ (i : ℕ) (e : length (rows .rows) ≡ 8) (h : i < rows .count) (g : i < 8) where
-    pub unread-hit : asked role table (rowOf (getD (rows .rows) i blank)) ≡ true
-        → unread i ≡ keep (inTable (rowOf (getD (rows .rows) i blank) .table)) (entriesIn tables s) ++ unread (i + 1)
-    unread-hit a = rw (rows-next rows i e h g, a)
+  module _ (i : ℕ) (h : i < t) (g : i < 8) where
+    pub unread-hit : asked role table (rowOf (part (53 * i) 53 b)) ≡ true
+        → unread i ≡ keep (inTable (int (53 * i) 4 b)) (entriesIn tables s) ++ unread (i + 1)
+    unread-hit a = rw (rows-next t b i h g, a, table-at t b i)
 
-    pub unread-miss : asked role table (rowOf (getD (rows .rows) i blank)) ≡ false → unread i ≡ unread (i + 1)
-    unread-miss a = rw (rows-next rows i e h g, a)
+    pub unread-miss : asked role table (rowOf (part (53 * i) 53 b)) ≡ false → unread i ≡ unread (i + 1)
+    unread-miss a = rw (rows-next t b i h g, a)
 
-  pub unread-none : (i : ℕ) → length (rows .rows) ≡ 8 → min (rows .count) 8 ≤ i → unread i ≡ []
-  unread-none i e h = rw (rows-none rows i e h)
+  pub unread-none : (i : ℕ) → min t 8 ≤ i → unread i ≡ []
+  unread-none i h = rw (rows-none t b i h)

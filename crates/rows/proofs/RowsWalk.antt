@@ -52,7 +52,7 @@ module _ (t : ℕ) (b : List ℕ) where
       drop-of-length-le (map rowOf held) {i = i} (rw (length-map, length-take, parts-count 8 rowSize b) h)
 
   -- the table of the row at i
-  table-at : (i : ℕ) → int (rowSize * i) 4 b ≡ rowOf (part (rowSize * i) rowSize b) .table
+  pub table-at : (i : ℕ) → int (rowSize * i) 4 b ≡ rowOf (part (rowSize * i) rowSize b) .table
   unfolding rowOf
   table-at i = sym (int-first (rowSize * i) rowSize 4 b (lit≤ tt))
 

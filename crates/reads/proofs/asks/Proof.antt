@@ -9,14 +9,14 @@ may-write-requires : tie.Need-may-write-requires
 may-write-requires c κs = search needs
 
 returns : tie.Need-returns
-returns c = rw (eq-eqb (c .before .before .args .table) 0 (c .before .if1 .taken)) (c .may-write .ensures)
+returns c = rw (eq-eqb (c .before .before .before .args .table) 0 (c .before .if1 .taken)) (c .may-write .ensures)
 
-cast-result : tie.Need-cast-result
-cast-result c = search needs
+integer-requires : tie.Need-integer-requires
+integer-requires c κs = search needs
 
 returns-2 : tie.Need-returns-2
 unfolding rowOf
-returns-2 c = rw (ne-eqb (c .before .before .args .table) 0 (c .before .if1 .left))
+returns-2 c = rw (ne-eqb (c .before .before .before .args .table) 0 (c .before .if1 .left), ← c .integer .ensures)
 
 pub asks-spec : {M : Type 1} → statement M
-asks-spec = tie.close (tie.spec may-write-requires returns cast-result returns-2)
+asks-spec = tie.close (tie.spec may-write-requires returns integer-requires returns-2)

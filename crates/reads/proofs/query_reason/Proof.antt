@@ -1,68 +1,59 @@
--- Right because the table's reasons come first, and then those of the key by the table's row. Assumes nothing.
-use mathlib.Core.List.{List}
-use Prim.Native.Nat.{ℕ}
+-- Right because table 0 names none, and the row that is lent is the named table's, where the table is known. Assumes nothing.
+use Prim.Native.Nat.{_+_, _-_}
+use native.Mathlib.Omega.{arith}
+use mathlib.Core.Path.{_≡_, _∙_}
 use denote.Ref.{now}
-use Rattle.rows.specs.Meaning.{rowsOf}
+use Rattle.rows.specs.Meaning.{rowsIn}
 use Rattle.reads.specs.Read.{keyIn}
-use Rattle.reads.proofs.QueryOrder.{key-behind, by-table, by-nothing, by-key}
+use Rattle.reads.proofs.QueryOrder.{none-named, one-named}
 use borrow.Author.Needs.{needs}
 use Rattle.reads.proofs.query_reason.Statement.{statement}
 use Rattle.reads.proofs.query_reason.Tie as tie
 
+returns : tie.Need-returns
+returns c =
+    let s = c .before .before .before in
+    let a = s .args in
+    let z = c .if1 .taken in
+    none-named (rowsIn (a .count) (now (a .rows))) (a .role) (a .table) (a .only) (keyIn (now (a .query))) z (λ o. s .pre .2 o z)
+
 find-requires : tie.Need-find-requires
 find-requires c κs = search needs
 
-named-reason-requires : tie.Need-named-reason-requires
-named-reason-requires c κs = search needs
+add-end : tie.Need-add-end
+add-end c = search needs
 
-returns : tie.Need-returns
-returns c =
-    let n = c .before in
-    let f = n .before in
-    let a = f .before .before .args in
-    by-table (rowsOf (a .rows)) (a .role) (a .table) (a .only) (keyIn (now (a .query))) (f .find .ensures .0) (f .find .ensures .1)
-    (n .named-reason .ensures) (c .if1 .taken)
+sub-table-reason : tie.Need-sub-table-reason
+sub-table-reason c = search needs
+
+part-table-reason-start : tie.Need-part-table-reason-start
+part-table-reason-start c = search needs
+
+part-table-reason-end : tie.Need-part-table-reason-end
+part-table-reason-end c = search needs
+
+table-reason-requires : tie.Need-table-reason-requires
+table-reason-requires c κs = search needs
 
 returns-2 : tie.Need-returns-2
 returns-2 c =
-    let n = c .before .before in
-    let f = n .before in
-    let a = f .before .before .args in
-    by-nothing (rowsOf (a .rows)) (a .role) (a .table) (a .only) (keyIn (now (a .query))) (f .find .ensures .0) (f .find .ensures .1)
-    (n .named-reason .ensures) (c .before .if1 .left) (c .if2 .taken)
-
-sub-key-reason : tie.Need-sub-key-reason
-sub-key-reason c = search needs
-
-part-key-reason-start : tie.Need-part-key-reason-start
-part-key-reason-start c = search needs
-
-part-key-reason-end : tie.Need-part-key-reason-end
-part-key-reason-end c = search needs
-
-key-reason-requires : tie.Need-key-reason-requires
-key-reason-requires c κs = search needs
-
-returns-3 : tie.Need-returns-3
-returns-3 c =
-    let g = c .before .before in
-    let n = g .before .before in
-    let f = n .before in
-    let a = f .before .before .args in
-    let b : List ℕ = now (a .query) in
-    by-key (rowsOf (a .rows)) (a .role) (a .table) (a .only) (keyIn b) (f .find .ensures .0) (f .find .ensures .1)
-    (n .named-reason .ensures) (g .before .if1 .left) (g .if2 .left) (c .key-reason .ensures (keyIn b) (key-behind b (search needs)))
+    let f = c .before .before in
+    let a = f .before .before .before .before .args in
+    let at = f .find .result .at in
+    let w : at + 53 - at ≡ 53 = omega arith in
+    rw w at (c .table-reason .ensures)
+    ∙ one-named (rowsIn (a .count) (now (a .rows))) (a .role) (a .table) (a .only) (keyIn (now (a .query))) (f .before .if1 .left)
+    (f .find .ensures .0) (f .find .ensures .1 .0)
 
 pub query-reason-spec : {M : Type 1} → statement M
 query-reason-spec =
     tie.close
     (tie.spec
-    find-requires
-    named-reason-requires
     returns
-    returns-2
-    sub-key-reason
-    part-key-reason-start
-    part-key-reason-end
-    key-reason-requires
-    returns-3)
+    find-requires
+    add-end
+    sub-table-reason
+    part-table-reason-start
+    part-table-reason-end
+    table-reason-requires
+    returns-2)

@@ -15,7 +15,7 @@ returns : tie.Need-returns
 unfolding readIn
 returns c =
     let g = c .before .before .before .before in
-    rw (eq-eqb (g .before .before .before .before .args .only) 1 (g .if1 .taken)) (c .before .before .read-key .ensures)
+    rw (eq-eqb (g .before .before .before .before .before .args .only) 1 (g .if1 .taken)) (c .before .before .read-key .ensures)
 
 read-all-requires : tie.Need-read-all-requires
 read-all-requires c κs = search needs
@@ -27,7 +27,7 @@ returns-2 : tie.Need-returns-2
 unfolding readIn
 returns-2 c =
     let g = c .before .before .before .before in
-    rw (ne-eqb (g .before .before .before .before .args .only) 1 (g .if1 .left)) (λ d. c .before .before .read-all .ensures)
+    rw (ne-eqb (g .before .before .before .before .before .args .only) 1 (g .if1 .left)) (λ d. c .before .before .read-all .ensures)
 
 pub read-spec : {M : Type 1} → statement M
 read-spec =

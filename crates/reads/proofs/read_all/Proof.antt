@@ -1,15 +1,13 @@
 -- Right because the rows are walked in order, and the entries of each are written behind those before. Assumes nothing.
-use Prim.Native.Nat.{ℕ, _-_, _≤_, min}
+use Prim.Native.Nat.{ℕ, _+_, _*_, _-_, _≤_, min}
 use native.Mathlib.Omega.{arith}
 use mathlib.Core.Path.{_≡_, sym, _∙_}
 use mathlib.Core.List.{List}
 use mathlib.Core.Logic.{⊎-elim}
-use lib.ListN.{length, getD}
 use denote.Ref.{now}
+use Rattle.rules.specs.Bytes.{int}
 use Rattle.rules.specs.Call.{gathered}
-use Rattle.rows.specs.Meaning.{rowOf, rowsOf}
-use Rattle.rules.proofs.Lists.{length-mapped}
-use Rattle.rows.proofs.RowsWalk.{blank}
+use Rattle.rows.specs.Meaning.{rowsIn}
 use Rattle.store.specs.Store.{tablesIn}
 use Rattle.reads.specs.Read.{Reads}
 use Rattle.reads.proofs.Records.{ReadSoFar, reading-start, reading-gather, reading-end, unread, unread-hit, unread-miss, unread-none}
@@ -18,26 +16,21 @@ use Rattle.reads.proofs.read_all.Statement.{statement}
 use Rattle.reads.proofs.read_all.Tie as tie
 
 abbrev Inv-loop : tie.InvT-loop
-Inv-loop role table store tables answer₀ rows t n₀ i₀ answer n i =
-    ReadSoFar (gathered role table (rowsOf rows) (tablesIn tables store)) (unread role table rows tables store i) answer₀ answer n
+Inv-loop rows count role table store tables answer₀ t n₀ i₀ answer n i =
+    ReadSoFar (gathered role table (rowsIn count rows) (tablesIn tables store)) (unread role table count rows tables store i) answer₀ answer n
 
 abbrev μ-loop : tie.MeasureT-loop
-μ-loop role table store tables answer₀ rows t n₀ i₀ answer n i = t - i
-
-size : (c : tie.At-loop Inv-loop μ-loop) → length (c .before .before .before .args .t1 .rows) ≡ 8
-size c = search (needs, length-mapped)
+μ-loop rows count role table store tables answer₀ t n₀ i₀ answer n i = t - i
 
 -- nothing is left
 ended : (c : tie.At-loop Inv-loop μ-loop) →
-    let a = c .before .before .before .args in
-    let all = gathered (a .role) (a .table) (rowsOf (a .t1)) (tablesIn (a .tables) (now (a .store))) in
-    min (a .t1 .count) 8 ≤ c .loop .i → Reads all (now (a .answer)) (c .loop .answer) (c .loop .n)
+    let a = c .before .before .before .before .args in
+    let all = gathered (a .role) (a .table) (rowsIn (a .count) (now (a .rows))) (tablesIn (a .tables) (now (a .store))) in
+    min (a .count) 8 ≤ c .loop .i → Reads all (now (a .answer)) (c .loop .answer) (c .loop .n)
 ended c h =
-    let a = c .before .before .before .args in
-    reading-end (c .loop .inv) (unread-none (a .role) (a .table) (a .t1) (a .tables) (now (a .store)) (c .loop .i) (size c) h)
-
-cast-t : tie.Need-cast-t Inv-loop μ-loop
-cast-t c = search needs
+    let a = c .before .before .before .before .args in
+    reading-end (c .loop .inv)
+    (unread-none (a .role) (a .table) (a .count) (now (a .rows)) (a .tables) (now (a .store)) (c .loop .i) h)
 
 loop-holds : tie.Need-loop-holds Inv-loop μ-loop
 loop-holds c = reading-start _ _
@@ -48,11 +41,20 @@ same-length c = search needs
 returns : tie.Need-returns Inv-loop μ-loop
 returns c = ended (c .before .before) (omega arith)
 
-mul-row : tie.Need-mul-row Inv-loop μ-loop
-mul-row c = search needs
+mul-from : tie.Need-mul-from Inv-loop μ-loop
+mul-from c = search needs
 
-element-copy-out-row : tie.Need-element-copy-out-row Inv-loop μ-loop
-element-copy-out-row c = search needs
+add-end : tie.Need-add-end Inv-loop μ-loop
+add-end c = search needs
+
+sub-asks : tie.Need-sub-asks Inv-loop μ-loop
+sub-asks c = search needs
+
+part-asks-start : tie.Need-part-asks-start Inv-loop μ-loop
+part-asks-start c = search needs
+
+part-asks-end : tie.Need-part-asks-end Inv-loop μ-loop
+part-asks-end c = search needs
 
 asks-requires : tie.Need-asks-requires Inv-loop μ-loop
 asks-requires c κs = search needs
@@ -60,8 +62,8 @@ asks-requires c κs = search needs
 mul-at : tie.Need-mul-at Inv-loop μ-loop
 mul-at c = search needs
 
-cast-gather : tie.Need-cast-gather Inv-loop μ-loop
-cast-gather c = search needs
+integer-requires : tie.Need-integer-requires Inv-loop μ-loop
+integer-requires c κs = search needs
 
 sub-gather : tie.Need-sub-gather Inv-loop μ-loop
 sub-gather c = search needs
@@ -85,22 +87,22 @@ loop-less : tie.Need-loop-less Inv-loop μ-loop
 loop-less c = search needs
 
 loop-again : tie.Need-loop-again Inv-loop μ-loop
-unfolding rowOf
 loop-again c =
     let l = c .before .before .before .before .before in
-    let a = l .before .before .before .args in
+    let a = l .before .before .before .before .args in
+    let b : List ℕ = now (a .rows) in
     let s : List ℕ = now (a .store) in
     let i : ℕ = l .loop .i in
-    let row = getD (a .t1 .rows) i blank in
-    let e = c .before .asks .ensures in
+    let lent : 53 * i + 53 - 53 * i ≡ 53 = omega arith in
+    let e = rw lent at (c .before .asks .ensures) in
     ⊎-elim
     (λ w.
-    let u = unread-hit (a .role) (a .table) (a .t1) (a .tables) s i (size l) (omega arith) (omega arith) (sym e ∙ w .0 .taken) in
+    let u = unread-hit (a .role) (a .table) (a .count) b (a .tables) s i (omega arith) (omega arith) (sym e ∙ w .0 .taken) in
     rw (w .6, w .7)
-    (reading-gather (l .loop .inv) (row .table) (a .tables) s _ (w .3 .last .1 .1 .1 .0) (w .3 .result) u (omega arith)
-    (w .3 .ensures .0) (w .3 .ensures .1)))
+    (reading-gather (l .loop .inv) (int (53 * i) 4 b) (a .tables) s _ (w .3 .last .1 .1 .1 .0) (w .3 .result) u (omega arith)
+    (rw (w .1 .ensures) at (w .3 .ensures .0)) (rw (w .1 .ensures) at (w .3 .ensures .1))))
     (λ w.
-    let u = unread-miss (a .role) (a .table) (a .t1) (a .tables) s i (size l) (omega arith) (omega arith) (sym e ∙ w .0 .left) in
+    let u = unread-miss (a .role) (a .table) (a .count) b (a .tables) s i (omega arith) (omega arith) (sym e ∙ w .0 .left) in
     rw (w .1, w .2, ← u) (l .loop .inv))
     (c .if2 .came)
 
@@ -116,15 +118,17 @@ read-all-spec =
     (tie.spec
     Inv-loop
     μ-loop
-    cast-t
     loop-holds
     same-length
     returns
-    mul-row
-    element-copy-out-row
+    mul-from
+    add-end
+    sub-asks
+    part-asks-start
+    part-asks-end
     asks-requires
     mul-at
-    cast-gather
+    integer-requires
     sub-gather
     part-gather-start
     part-gather-end
