@@ -84,7 +84,8 @@ fn write(
         };
     }
     let done = batches::batch(
-        rows,
+        &rows.bytes,
+        rows.count,
         head.role,
         atomicity,
         store,
@@ -130,14 +131,22 @@ fn read(agent: Agent, query: Query, frame: &[u8], store: &[u8], answer: &mut [u8
         answers::write_head(barred, 0, answer);
         return barred;
     }
-    let wrong = reads::query_reason(rows, query.role, query.table, query.only, &frame[10..]);
+    let wrong = reads::query_reason(
+        &rows.bytes,
+        rows.count,
+        query.role,
+        query.table,
+        query.only,
+        &frame[10..],
+    );
     if wrong != 0 {
         answers::write_head(wrong, 0, answer);
         return wrong;
     }
     let held = agent.tables;
     let count = reads::read(
-        rows,
+        &rows.bytes,
+        rows.count,
         query.role,
         query.table,
         query.only,

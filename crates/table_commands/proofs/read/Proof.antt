@@ -39,35 +39,48 @@ write-head-requires c κs = search needs
 same-length : tie.Need-same-length
 same-length c = search needs
 
+-- where a state came from: the call's start, the two reasons that were found
+abbrev start : tie.After-read-reason → tie.Start
+start e = e .before .before .before .before .before .before .before .before
+
+abbrev before-query : tie.After-query-reason → tie.After-read-reason
+before-query e = e .before .before .before .before .before .before
+
 -- the order, once its first part is known
 order : (e : tie.After-read-reason) →
-    let a = e .before .before .before .before .before .before .before .before .args in
+    let a = start e .args in
     let q = queryRead (a .query) (now (a .frame)) in
-    readReason (controlOf (a .agent)) q
-    ≡ (if eqb (e .read-reason .result) 0 then first (queryOrder (controlOf (a .agent) .rows) (q .role) (q .table) (q .only) (q .key)) else e .read-reason .result)
+    let rest = first (queryOrder (controlOf (a .agent) .rows) (q .role) (q .table) (q .only) (q .key)) in
+    readReason (controlOf (a .agent)) q ≡ (if eqb (e .read-reason .result) 0 then rest else e .read-reason .result)
 order e =
-    let a = e .before .before .before .before .before .before .before .before .args in
+    let a = start e .args in
     read-order (a .agent) (queryRead (a .query) (now (a .frame))) refl (e .before .is-empty .ensures) (e .read-reason .ensures)
 
 returns : tie.Need-returns
 returns c =
-    let a = c .before .before .before .before .before .before .before .before .before .before .before .before .before .args in
+    let g = c .before .before .before .before in
+    let e = g .before in
+    let a = start e .args in
     let h = c .before .before .write-head in
-    refused (a .agent) _ (now (a .store)) (now (a .answer)) (h .last .1 .1 .0) (λ z. let w : _≡_ {A = ℕ} 0 1 = cc in omega arith) (c .before .before .before .before .before .read-reason .result)
-    (λ t. table-refused (atTables (a .agent) t) (READ (queryRead (a .query) (now (a .frame)))) (order (c .before .before .before .before .before) ∙ (rw (ne-eqb _ 0 (c .before .before .before .before .if1 .taken)))) (c .before .before .before .before .if1 .taken))
+    let n = g .if1 .taken in
+    refused (a .agent) _ (now (a .store)) (now (a .answer)) (h .last .1 .1 .0) (λ z. let w : _≡_ {A = ℕ} 0 1 = cc in omega arith)
+    (e .read-reason .result)
+    (λ t. table-refused (atTables (a .agent) t) (READ (queryRead (a .query) (now (a .frame)))) (order e ∙ (rw (ne-eqb _ 0 n))) n)
     (head-alone _ (now (a .answer)) _ (h .ensures))
 
 sub-query-reason : tie.Need-sub-query-reason
-sub-query-reason c = omega (arith, c .before .before .before .before .before .before .before .before .before .pre .0 .0)
+sub-query-reason c = omega (arith, start (c .before .before .before .before) .pre .0 .0)
 
 part-query-reason-start : tie.Need-part-query-reason-start
-part-query-reason-start c = omega (arith, c .before .before .before .before .before .before .before .before .before .pre .0 .0)
+part-query-reason-start c = omega (arith, start (c .before .before .before .before) .pre .0 .0)
 
 part-query-reason-end : tie.Need-part-query-reason-end
 part-query-reason-end c = search needs
 
 query-reason-requires : tie.Need-query-reason-requires
-query-reason-requires c κs = simp (length-take, length-drop) (omega (arith, c .before .before .before .before .before .before .before .before .before .before .pre .0 .0))
+query-reason-requires c κs =
+    let p = start (c .before .before .before .before .before) .pre in
+    (search needs, simp (length-take, length-drop) (omega (arith, p .0 .0)), p .0 .2)
 
 write-head-requires-2 : tie.Need-write-head-requires-2
 write-head-requires-2 c κs = search needs
@@ -81,29 +94,40 @@ whole f n = let e : length f - 10 ≡ 149 = omega arith in ap (λ (m : ℕ). tak
 
 -- and then its query's
 by-query : (e : tie.After-query-reason) →
-    let a = e .before .before .before .before .before .before .before .before .before .before .before .args in
+    let a = start (before-query e) .args in
     let q = queryRead (a .query) (now (a .frame)) in
     e .query-reason .result ≡ first (queryOrder (controlOf (a .agent) .rows) (q .role) (q .table) (q .only) (q .key))
 by-query e =
-    let a = e .before .before .before .before .before .before .before .before .before .before .before .args in
-    let q = queryRead (a .query) (now (a .frame)) in
+    let s = start (before-query e) in
+    let a = s .args in
+    let f = now (a .frame) in
+    let q = queryRead (a .query) f in
     e .query-reason .ensures
-    ∙ ap (λ (k : List ℕ). first (queryOrder (controlOf (a .agent) .rows) (q .role) (q .table) (q .only) k)) (key-there (a .query) (now (a .frame)) (whole (now (a .frame)) (e .before .before .before .before .before .before .before .before .before .before .before .pre .0 .0)))
+    ∙ ap (λ (k : List ℕ). first (queryOrder (controlOf (a .agent) .rows) (q .role) (q .table) (q .only) k))
+    (key-there (a .query) f (whole f (s .pre .0 .0)))
+
+-- so the reason that the query has, if any, is the READ's
+by-both : (e : tie.After-query-reason) →
+    let a = start (before-query e) .args in
+    readReason (controlOf (a .agent)) (queryRead (a .query) (now (a .frame))) ≡ e .query-reason .result
+by-both e = order (before-query e) ∙ (rw (eq-eqb _ 0 (e .before .before .before .before .before .if1 .left))) ∙ sym (by-query e)
 
 returns-2 : tie.Need-returns-2
 returns-2 c =
-    let a = c .before .before .before .before .before .before .before .before .before .before .before .before .before .before .before .before .args in
+    let g = c .before .before .before .before in
+    let e = g .before in
+    let a = start (before-query e) .args in
     let h = c .before .before .write-head2 in
-    refused (a .agent) _ (now (a .store)) (now (a .answer)) (h .last .1 .1 .0) (λ z. let w : _≡_ {A = ℕ} 0 1 = cc in omega arith) (c .before .before .before .before .before .query-reason .result)
-    (λ t. table-refused (atTables (a .agent) t) (READ (queryRead (a .query) (now (a .frame))))
-    (order (c .before .before .before .before .before .before .before .before) ∙ (rw (eq-eqb _ 0 (c .before .before .before .before .before .before .before .if1 .left))) ∙ sym (by-query (c .before .before .before .before .before))) (c .before .before .before .before .if2 .taken))
+    refused (a .agent) _ (now (a .store)) (now (a .answer)) (h .last .1 .1 .0) (λ z. let w : _≡_ {A = ℕ} 0 1 = cc in omega arith)
+    (e .query-reason .result)
+    (λ t. table-refused (atTables (a .agent) t) (READ (queryRead (a .query) (now (a .frame)))) (by-both e) (g .if2 .taken))
     (head-alone _ (now (a .answer)) _ (h .ensures))
 
 sub-read : tie.Need-sub-read
-sub-read c = omega (arith, c .before .before .before .before .before .before .before .before .before .before .before .before .before .pre .0 .0)
+sub-read c = omega (arith, start (before-query (c .before .before .before .before .before)) .pre .0 .0)
 
 part-read-start : tie.Need-part-read-start
-part-read-start c = omega (arith, c .before .before .before .before .before .before .before .before .before .before .before .before .before .pre .0 .0)
+part-read-start c = omega (arith, start (before-query (c .before .before .before .before .before)) .pre .0 .0)
 
 part-read-end : tie.Need-part-read-end
 part-read-end c = search needs
@@ -118,7 +142,13 @@ part-read-end-2 : tie.Need-part-read-end-2
 part-read-end-2 c = search needs
 
 read-requires : tie.Need-read-requires
-read-requires c κs = let p = c .before .before .before .before .before .before .before .before .before .before .before .before .before .before .before .pre in (simp (length-take, length-drop) (omega (arith, p .0 .0)), omega (arith, p .1, p .2), simp (length-take, length-drop) (omega (arith, p .3)))
+read-requires c κs =
+    let p = start (before-query (c .before .before .before .before .before .before .before)) .pre in (
+      search needs,
+      simp (length-take, length-drop) (omega (arith, p .0 .0)),
+      omega (arith, p .1, p .2),
+      simp (length-take, length-drop) (omega (arith, p .3)),
+    )
 
 write-head-requires-3 : tie.Need-write-head-requires-3
 write-head-requires-3 c κs = search needs
@@ -128,28 +158,32 @@ same-length-3 c = search needs
 
 returns-3 : tie.Need-returns-3
 returns-3 c =
-    let a = c .before .before .before .before .before .before .before .before .before .before .before .before .before .before .before .before .before .before .before .before .before .before .args in
-    let p = c .before .before .before .before .before .before .before .before .before .before .before .before .before .before .before .before .before .before .before .before .before .before .pre in
+    let r = c .before .before .before .before .before .before .read in
+    let h = c .before .before .write-head3 in
+    let g = c .before .before .before .before .before .before .before .before .before .before .before .before .before in
+    let st = start (before-query (g .before)) in
+    let a = st .args in
+    let p = st .pre in
     let f = now (a .frame) in
     let q = queryRead (a .query) f in
     let s = now (a .store) in
     let d = now (a .answer) in
-    let r = c .before .before .before .before .before .before .read in
-    let h = c .before .before .write-head3 in
+    let lent = take (length d - 4) (drop 4 d) in
+    let out = r .last .1 .1 .1 .1 .1 .1 .1 .1 .0 in
     let formed : Formed (onTables (READ q)) = query-formed (a .query) f (p .0) in
-    let e : readReason (controlOf (a .agent)) q ≡ 0 =
-    order (c .before .before .before .before .before .before .before .before .before .before .before .before .before .before) ∙ (rw (eq-eqb _ 0 (c .before .before .before .before .before .before .before .before .before .before .before .before .before .if1 .left))) ∙ sym (by-query (c .before .before .before .before .before .before .before .before .before .before .before)) ∙ c .before .before .before .before .before .before .before .before .before .before .if2 .left in
+    let e : readReason (controlOf (a .agent)) q ≡ 0 = by-both (g .before) ∙ g .if2 .left in
     let es = shown (flat (a .agent) s) q in
+    let key = key-there (a .query) f (whole f (p .0 .0)) in
+    let asked : List ℕ → List (List ℕ) =
+    λ k. readIn (controlOf (a .agent) .rows) (q .role) (q .table) (q .only) k (tablesIn (a .agent .tables) s) in
     flat-handles (a .agent) _ s d (λ k.
     let z = shown-sized (flat (a .agent) s) q k in
-    let w : length (take (length d - 4) (drop 4 d)) ≡ length d - 4 = length-window 4 (length d - 4) d (omega (arith, p .3)) in
-    let t : Reads es (take (length d - 4) (drop 4 d)) (r .last .1 .1 .1 .1 .1 .1 .1 .0) (r .result) =
-    subst (λ (x : List (List ℕ)). Reads x (take (length d - 4) (drop 4 d)) (r .last .1 .1 .1 .1 .1 .1 .1 .0) (r .result))
-    (ap (λ (key : List ℕ). readIn (controlOf (a .agent) .rows) (q .role) (q .table) (q .only) key (tablesIn (a .agent .tables) s)) (key-there (a .query) f (whole f (p .0 .0)))
-    ∙ taken (a .agent) q s formed k e) (r .ensures (k .tables .distinct)) in
-    let n = reads-all es (take (length d - 4) (drop 4 d)) (omega (arith, z .1, p .3)) t in
+    let w : length lent ≡ length d - 4 = length-window 4 (length d - 4) d (omega (arith, p .3)) in
+    let t : Reads es lent out (r .result) =
+    subst (λ (x : List (List ℕ)). Reads x lent out (r .result)) (ap asked key ∙ taken (a .agent) q s formed k e) (r .ensures (k .tables .distinct)) in
+    let n = reads-all es lent (omega (arith, z .1, p .3)) t in
     was-read (a .agent) q s d (h .last .1 .1 .0) e
-    (records-then-head 0 (r .result) es d (r .last .1 .1 .1 .1 .1 .1 .1 .0) (h .last .1 .1 .0) (omega (arith, p .3)) (n .0) (r .kept .1 .1 .1 .1 .1 .1 .1 .0) (n .1) (h .ensures)))
+    (records-then-head 0 (r .result) es d out (h .last .1 .1 .0) (omega (arith, p .3)) (n .0) (r .kept .1 .1 .1 .1 .1 .1 .1 .1 .0) (n .1) (h .ensures)))
 
 pub read-spec : {M : Type 1} → statement M
 read-spec =

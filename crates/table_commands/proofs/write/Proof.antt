@@ -9,6 +9,7 @@ use borrow.Rule.Slice.PartMut.{same-len-mid}
 use Rattle.rules.specs.Bytes.{parts, concat}
 use Rattle.rules.specs.Frame.{WRITE, updateOf}
 use Rattle.rules.specs.Call.{writeReason, batchOf, pairOf}
+use Rattle.rules.specs.Update.{Batch}
 use Rattle.rules.proofs.Formed.{parts-count}
 use Rattle.rules.proofs.Lists.{rest-all}
 use Rattle.rules.proofs.Refused.{table-refused}
@@ -42,27 +43,38 @@ write-head-requires c κs = search needs
 same-length : tie.Need-same-length
 same-length c = search needs
 
+-- where a state came from: the call's start, the reason that was found, the batch's answer
+abbrev start : tie.After-write-reason → tie.Start
+start e = e .before .before .before .before .before .before .before .before .before .before .before
+
+abbrev judged : tie.After-batch → tie.After-write-reason
+judged e = e .before .before .before .before .before .before .before .before
+
 order : (e : tie.After-write-reason) →
-    let a = e .before .before .before .before .before .before .before .before .before .before .before .args in
+    let a = start e .args in
     writeReason (controlOf (a .agent)) (headOf (a .head)) (a .atomicity) ≡ e .write-reason .result
 order e =
-    let a = e .before .before .before .before .before .before .before .before .before .before .before .args in
-    write-order (a .agent) (headOf (a .head)) (a .atomicity) refl (e .before .before .before .before .by-primary .ensures) (e .before .is-empty .ensures) (e .write-reason .ensures)
+    let a = start e .args in
+    write-order (a .agent) (headOf (a .head)) (a .atomicity) refl (e .before .before .before .before .by-primary .ensures) (e .before .is-empty .ensures)
+    (e .write-reason .ensures)
 
 returns : tie.Need-returns
 returns c =
-    let a = c .before .before .before .before .before .before .before .before .before .before .before .before .before .before .before .before .args in
+    let g = c .before .before .before .before in
+    let e = g .before in
+    let a = start e .args in
     let h = c .before .before .write-head in
-    let f = now (a .frame) in
-    refused (a .agent) _ (now (a .store)) (now (a .answer)) (h .last .1 .1 .0) (λ z. let w : _≡_ {A = ℕ} 0 1 = cc in omega arith) (c .before .before .before .before .before .write-reason .result)
-    (λ t. table-refused (atTables (a .agent) t) (WRITE (headOf (a .head)) (a .atomicity) (updatesIn (a .n) (drop 29 f))) (order (c .before .before .before .before .before)) (c .before .before .before .before .if1 .taken))
+    let us = updatesIn (a .n) (drop 29 (now (a .frame))) in
+    refused (a .agent) _ (now (a .store)) (now (a .answer)) (h .last .1 .1 .0) (λ z. let w : _≡_ {A = ℕ} 0 1 = cc in omega arith)
+    (e .write-reason .result)
+    (λ t. table-refused (atTables (a .agent) t) (WRITE (headOf (a .head)) (a .atomicity) us) (order e) (g .if1 .taken))
     (head-alone _ (now (a .answer)) _ (h .ensures))
 
 sub-batch : tie.Need-sub-batch
-sub-batch c = omega (arith, c .before .before .before .before .before .before .before .before .before .before .before .before .before .pre .0 .1)
+sub-batch c = omega (arith, start (c .before .before .before .before .before) .pre .0 .1)
 
 part-batch-start : tie.Need-part-batch-start
-part-batch-start c = omega (arith, c .before .before .before .before .before .before .before .before .before .before .before .before .before .pre .0 .1)
+part-batch-start c = omega (arith, start (c .before .before .before .before .before) .pre .0 .1)
 
 part-batch-end : tie.Need-part-batch-end
 part-batch-end c = search needs
@@ -77,18 +89,27 @@ part-batch-end-2 : tie.Need-part-batch-end-2
 part-batch-end-2 c = search needs
 
 batch-requires : tie.Need-batch-requires
-batch-requires c κs = let p = c .before .before .before .before .before .before .before .before .before .before .before .before .before .before .before .pre in (p .1, p .2, simp (length-take, length-drop) (omega (arith, p .0 .1)), p .0 .0, simp (length-take, length-drop) (omega (arith, p .3, p .0 .0)))
+batch-requires c κs =
+    let p = start (c .before .before .before .before .before .before .before) .pre in (
+      search needs,
+      p .1,
+      p .2,
+      simp (length-take, length-drop) (omega (arith, p .0 .1)),
+      p .0 .0,
+      simp (length-take, length-drop) (omega (arith, p .3, p .0 .0)),
+    )
 
 head-reason-requires : tie.Need-head-reason-requires
 head-reason-requires c κs = search needs
 
 write-head-requires-2 : tie.Need-write-head-requires-2
 write-head-requires-2 c κs =
-    let a = c .before .before .before .before .before .before .before .before .before .before .before .before .before .before .before .before .before .before .before .before .before .before .args in
-    let d = now (a .answer) in
-    let b = c .before .before .before .before .before .before .batch in
-    let l = same-len-mid 4 (length d - 4) d (b .last .1 .1 .1 .1 .1 .1 .1 .0) (b .kept .1 .1 .1 .1 .1 .1 .1 .0) in
-    omega (arith, l, c .before .before .before .before .before .before .before .before .before .before .before .before .before .before .before .before .before .before .before .before .before .before .pre .3)
+    let e = c .before .before .before .before .before .before in
+    let b = e .batch in
+    let s = start (judged e) in
+    let d = now (s .args .answer) in
+    let l = same-len-mid 4 (length d - 4) d (b .last .1 .1 .1 .1 .1 .1 .1 .1 .0) (b .kept .1 .1 .1 .1 .1 .1 .1 .1 .0) in
+    omega (arith, l, s .pre .3)
 
 same-length-2 : tie.Need-same-length-2
 same-length-2 c = search needs
@@ -98,25 +119,33 @@ same-length-3 c = search needs
 
 returns-2 : tie.Need-returns-2
 returns-2 c =
-    let a = c .before .before .before .before .before .before .before .before .before .before .before .before .before .before .before .before .before .before .before .before .before .before .before .before .before .before .args in
-    let p = c .before .before .before .before .before .before .before .before .before .before .before .before .before .before .before .before .before .before .before .before .before .before .before .before .before .before .pre in
-    let b = c .before .before .before .before .before .before .before .before .before .before .batch in
+    let e = c .before .before .before .before .before .before .before .before .before .before in
+    let s = start (judged e) in
+    let a = s .args in
+    let b = e .batch in
     let g = c .before .before .before .before .before .head-reason in
     let h = c .before .before .before .write-head2 in
-    let s = now (a .store) in
+    let store = now (a .store) in
+    let d = now (a .answer) in
     let f = now (a .frame) in
+    let batched : List ℕ → Batch =
+    λ l. batchOf (flat (a .agent) store) (headOf (a .head)) (a .atomicity) (updatesIn (a .n) l) in
     let us = updatesIn (a .n) (drop 29 f) in
-    let rs = batchOf (flat (a .agent) s) (headOf (a .head)) (a .atomicity) us .reasons in
+    let rs = batched (drop 29 f) .reasons in
     let lent = rest-all 29 f in
+    let count = reasons-count (a .atomicity) (rowsOf (a .agent .configuration .rows)) (a .head .role) (tablesIn (a .agent .tables) store) us in
     let n : a .n ≡ length (map pairOf rs) =
-    sym (length-map rs pairOf ∙ reasons-count (a .atomicity) (rowsOf (a .agent .configuration .rows)) (a .head .role) (tablesIn (a .agent .tables) s) us
-    ∙ length-map (parts (a .n) 221 (drop 29 f)) updateOf ∙ parts-count (a .n) 221 (drop 29 f)) in
-    flat-handles (a .agent) _ s (now (a .answer)) (λ k.
+    sym (length-map rs pairOf ∙ count ∙ length-map (parts (a .n) 221 (drop 29 f)) updateOf ∙ parts-count (a .n) 221 (drop 29 f)) in
+    flat-handles (a .agent) _ store d (λ k.
     let t = k .tables .distinct in
-    was-written (a .agent) (headOf (a .head)) (a .atomicity) us s (b .last .1 .1 .1 .0) (now (a .answer)) (h .last .1 .1 .0) (g .result) (b .result)
-    (order (c .before .before .before .before .before .before .before .before .before .before .before .before .before .before .before) ∙ c .before .before .before .before .before .before .before .before .before .before .before .before .before .before .if1 .left) (subst (λ (l : List ℕ). BatchApplied (batchOf (flat (a .agent) s) (headOf (a .head)) (a .atomicity) (updatesIn (a .n) l)) s (b .last .1 .1 .1 .0) (b .result)) lent (b .ensures .0 t)) (g .ensures)
-    (records-then-head (g .result) (a .n) (map pairOf rs) (now (a .answer)) (b .last .1 .1 .1 .1 .1 .1 .1 .0) (h .last .1 .1 .0) (omega (arith, p .3)) n (b .kept .1 .1 .1 .1 .1 .1 .1 .0)
-    (b .ensures .1 t ∙ ap (λ (l : List ℕ). splice (take (length (now (a .answer)) - 4) (drop 4 (now (a .answer)))) 0 (concat (map pairOf (batchOf (flat (a .agent) s) (headOf (a .head)) (a .atomicity) (updatesIn (a .n) l) .reasons)))) lent) (h .ensures)))
+    let done = subst (λ (l : List ℕ). BatchApplied (batched l) store (b .last .1 .1 .1 .1 .0) (b .result)) lent (b .ensures .0 t) in
+    let pairs =
+    b .ensures .1 t
+    ∙ ap (λ (l : List ℕ). splice (take (length d - 4) (drop 4 d)) 0 (concat (map pairOf (batched l .reasons)))) lent in
+    was-written (a .agent) (headOf (a .head)) (a .atomicity) us store (b .last .1 .1 .1 .1 .0) d (h .last .1 .1 .0) (g .result) (b .result)
+    (order (judged e) ∙ e .before .before .before .before .before .before .before .if1 .left) done (g .ensures)
+    (records-then-head (g .result) (a .n) (map pairOf rs) d (b .last .1 .1 .1 .1 .1 .1 .1 .1 .0) (h .last .1 .1 .0) (omega (arith, s .pre .3)) n
+    (b .kept .1 .1 .1 .1 .1 .1 .1 .1 .0) pairs (h .ensures)))
 
 pub write-spec : {M : Type 1} → statement M
 write-spec =
