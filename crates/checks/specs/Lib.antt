@@ -1,2 +1,3 @@
--- The order of a whole entry; the other contracts cite the rules' definitions alone.
+-- The order of a whole entry, and the tests of slots and parameters; the public contracts cite the rules' definitions alone.
 pub mod Orders
+pub mod Tests

@@ -2,11 +2,11 @@
 use mathlib.Core.Path.{refl}
 use mathlib.Core.Bool.{and-true}
 use denote.Ref.{now}
+use borrow.Author.Needs.{needs}
 use borrow.Author.Tests.{eq-eqb, ne-eqb}
 use Rattle.rules.specs.Update.{entryFormed, entryFits}
 use Rattle.rules.specs.Key.{keyFormed, keyFits}
 use Rattle.rows.specs.Meaning.{rowOf}
-use borrow.Author.Needs.{needs}
 use Rattle.checks.proofs.entry_reason.Statement.{statement}
 use Rattle.checks.proofs.entry_reason.Tie as tie
 
@@ -20,22 +20,23 @@ part-key-reason-end : tie.Need-part-key-reason-end
 part-key-reason-end c = search needs
 
 key-reason-requires : tie.Need-key-reason-requires
-key-reason-requires c κs = search needs
+key-reason-requires c = search needs
 
 returns : tie.Need-returns
 unfolding entryFormed entryFits
 returns c =
-    let a = c .before .before .before .before .args in
+    let t = c .before .before in
+    let a = t .before .before .before .args in
+    let row = rowOf (now (a .row)) in
     let e = now (a .entry) in
-    rw (eq-eqb (a .kind) 3 (c .before .before .if1 .taken), and-true (keyFormed (rowOf (a .row)) e), and-true (keyFits (rowOf (a .row)) e))
-    (c .key-reason .ensures e refl)
+    rw (eq-eqb (a .kind) 3 (t .if1 .taken), and-true (keyFormed row e), and-true (keyFits row e)) (c .key-reason .ensures e refl)
 
 whole-reason-requires : tie.Need-whole-reason-requires
-whole-reason-requires c κs = search needs
+whole-reason-requires c = search needs
 
 returns-2 : tie.Need-returns-2
 unfolding entryFormed entryFits
-returns-2 c = rw (ne-eqb (c .before .before .before .args .kind) 3 (c .before .if1 .left)) (c .whole-reason .ensures)
+returns-2 c = rw (ne-eqb (c .before .before .before .before .args .kind) 3 (c .before .if1 .left)) (c .whole-reason .ensures)
 
 pub entry-reason-spec : {M : Type 1} → statement M
 entry-reason-spec =

@@ -4,55 +4,65 @@ use mathlib.Core.Bool.{Bool}
 use mathlib.Core.List.{List}
 use Prim.Native.Nat.{ℕ}
 use denote.Ref.{now}
+use borrow.Author.Needs.{needs}
 use borrow.Author.Tests.{not-true, not-false}
 use Rattle.rules.specs.Bytes.{part}
 use Rattle.rules.specs.Reason.{first}
 use Rattle.rules.specs.Key.{keyFormed, keyFits, keyRules}
 use Rattle.rows.specs.Meaning.{rowOf}
 use Rattle.checks.proofs.LentKey.{formed-lent, fits-lent, rules-lent, slots-behind, priority-behind}
-use borrow.Author.Needs.{needs}
 use Rattle.checks.proofs.key_reason.Statement.{statement}
 use Rattle.checks.proofs.key_reason.Tie as tie
 
-sub-key-formed : tie.Need-sub-key-formed
-sub-key-formed c = search needs
-
-part-key-formed-start : tie.Need-part-key-formed-start
-part-key-formed-start c = search needs
-
-part-key-formed-end : tie.Need-part-key-formed-end
-part-key-formed-end c = search needs
-
-key-formed-requires : tie.Need-key-formed-requires
-key-formed-requires c κs = search needs
-
 -- what a test came out as holds of each key that ends in these bytes
-formed : (c : tie.After-key-formed) (k : List ℕ) {b : Bool} →
-    let a = c .before .before .before .args in
-    part 4 144 k ≡ now (a .key) → c .key-formed .result ≡ b → keyFormed (rowOf (a .row)) k ≡ b
-formed c k h e = formed-lent (rowOf (c .before .before .before .args .row)) k (slots-behind k h) ∙ sym (c .key-formed .ensures) ∙ e
+formed : (c : tie.After-slots-pass) (k : List ℕ) {b : Bool} →
+    let a = c .before .before .before .before .args in
+    part 4 144 k ≡ now (a .key) → c .slots-pass .result ≡ b → keyFormed (rowOf (now (a .row))) k ≡ b
+formed c k h e =
+    formed-lent (rowOf (now (c .before .before .before .before .args .row))) k (slots-behind k h) ∙ sym (c .slots-pass .ensures) ∙ e
+
+fits : (c : tie.After-slots-pass2) (k : List ℕ) {b : Bool} →
+    let a = c .before .before .before .before .before .before .before .args in
+    part 4 144 k ≡ now (a .key) → c .slots-pass2 .result ≡ b → keyFits (rowOf (now (a .row))) k ≡ b
+fits c k h e =
+    let a = c .before .before .before .before .before .before .before .args in
+    fits-lent (rowOf (now (a .row))) k (slots-behind k h) ∙ sym (c .slots-pass2 .ensures) ∙ e
+
+ruled : (c : tie.After-key-rules) (k : List ℕ) {b : Bool} →
+    let a = c .before .before .before .before .before .before .before .before .before .before .before .args in
+    part 4 144 k ≡ now (a .key) → c .key-rules .result ≡ b → keyRules (rowOf (now (a .row))) k ≡ b
+ruled c k h e =
+    let a = c .before .before .before .before .before .before .before .before .before .before .before .args in
+    rules-lent (rowOf (now (a .row))) k (slots-behind k h) (priority-behind k h ∙ sym (c .before .before .integer .ensures))
+    ∙ sym (c .key-rules .ensures) ∙ e
+
+sub-slots-pass : tie.Need-sub-slots-pass
+sub-slots-pass c = search needs
+
+part-slots-pass-start : tie.Need-part-slots-pass-start
+part-slots-pass-start c = search needs
+
+part-slots-pass-end : tie.Need-part-slots-pass-end
+part-slots-pass-end c = search needs
+
+slots-pass-requires : tie.Need-slots-pass-requires
+slots-pass-requires c = search needs
 
 returns : tie.Need-returns
 unfolding first
 returns c k h = rw (formed (c .before) k h (not-true _ (c .if1 .taken)))
 
-sub-key-fits : tie.Need-sub-key-fits
-sub-key-fits c = search needs
+sub-slots-pass-2 : tie.Need-sub-slots-pass-2
+sub-slots-pass-2 c = search needs
 
-part-key-fits-start : tie.Need-part-key-fits-start
-part-key-fits-start c = search needs
+part-slots-pass-start-2 : tie.Need-part-slots-pass-start-2
+part-slots-pass-start-2 c = search needs
 
-part-key-fits-end : tie.Need-part-key-fits-end
-part-key-fits-end c = search needs
+part-slots-pass-end-2 : tie.Need-part-slots-pass-end-2
+part-slots-pass-end-2 c = search needs
 
-key-fits-requires : tie.Need-key-fits-requires
-key-fits-requires c κs = search needs
-
-fits : (c : tie.After-key-fits) (k : List ℕ) {b : Bool} →
-    let a = c .before .before .before .before .before .before .args in
-    part 4 144 k ≡ now (a .key) → c .key-fits .result ≡ b → keyFits (rowOf (a .row)) k ≡ b
-fits c k h e =
-    fits-lent (rowOf (c .before .before .before .before .before .before .args .row)) k (slots-behind k h) ∙ sym (c .key-fits .ensures) ∙ e
+slots-pass-requires-2 : tie.Need-slots-pass-requires-2
+slots-pass-requires-2 c = search needs
 
 returns-2 : tie.Need-returns-2
 unfolding first
@@ -61,7 +71,7 @@ returns-2 c k h =
     rw (formed (g .before) k h (not-false _ (g .if1 .left)), fits (c .before) k h (not-true _ (c .if2 .taken)))
 
 integer-requires : tie.Need-integer-requires
-integer-requires c κs = search needs
+integer-requires c = search needs
 
 sub-key-rules : tie.Need-sub-key-rules
 sub-key-rules c = search needs
@@ -73,15 +83,7 @@ part-key-rules-end : tie.Need-part-key-rules-end
 part-key-rules-end c = search needs
 
 key-rules-requires : tie.Need-key-rules-requires
-key-rules-requires c κs = search needs
-
-ruled : (c : tie.After-key-rules) (k : List ℕ) {b : Bool} →
-    let a = c .before .before .before .before .before .before .before .before .before .before .args in
-    part 4 144 k ≡ now (a .key) → c .key-rules .result ≡ b → keyRules (rowOf (a .row)) k ≡ b
-ruled c k h e =
-    let a = c .before .before .before .before .before .before .before .before .before .before .args in
-    rules-lent (rowOf (a .row)) k (slots-behind k h) (priority-behind k h ∙ sym (c .before .before .integer .ensures))
-    ∙ sym (c .key-rules .ensures) ∙ e
+key-rules-requires c = search needs
 
 returns-3 : tie.Need-returns-3
 unfolding first
@@ -109,15 +111,15 @@ pub key-reason-spec : {M : Type 1} → statement M
 key-reason-spec =
     tie.close
     (tie.spec
-    sub-key-formed
-    part-key-formed-start
-    part-key-formed-end
-    key-formed-requires
+    sub-slots-pass
+    part-slots-pass-start
+    part-slots-pass-end
+    slots-pass-requires
     returns
-    sub-key-fits
-    part-key-fits-start
-    part-key-fits-end
-    key-fits-requires
+    sub-slots-pass-2
+    part-slots-pass-start-2
+    part-slots-pass-end-2
+    slots-pass-requires-2
     returns-2
     integer-requires
     sub-key-rules

@@ -12,13 +12,13 @@ has-priority-requires c κs = search needs
 returns : tie.Need-returns
 unfolding priorityRule
 returns c =
-    let p : ℕ = c .before .before .before .args .priority in
+    let p : ℕ = c .before .before .before .before .args .priority in
     rw (← c .before .before .has-priority .ensures, c .before .if1 .taken, le-leb 1 p (c .if2 .taken))
 
 returns-2 : tie.Need-returns-2
 unfolding priorityRule
 returns-2 c =
-    let p : ℕ = c .before .before .before .args .priority in
+    let p : ℕ = c .before .before .before .before .args .priority in
     rw (← c .before .before .has-priority .ensures, c .before .if1 .taken, lt-leb 1 p (c .if2 .left))
 
 returns-3 : tie.Need-returns-3
