@@ -62,20 +62,21 @@ typedef struct {
 
 /* An action: its id, how many parameters it has, and their widths in bits. */
 typedef struct {
-    uint32_t id;
+    uint8_t id[4];
     uint8_t count;
     uint8_t widths[4];
 } savorylatch_action;
 
-/* A row of the configuration: a table, how many entries it may hold, the role that owns it, its fields and its actions. */
+/* A row of the configuration: a table, the role that owns it, how many entries it may hold, its fields and its actions. Its 53 bytes are
+ * those that CONFIGURE sent: the ids and the size are big-endian. */
 typedef struct {
-    uint32_t table;
-    uint16_t size;
+    uint8_t table[4];
     uint8_t owner;
+    uint8_t size[2];
     uint8_t field_count;
     savorylatch_field fields[4];
-    savorylatch_action actions[4];
     uint8_t action_count;
+    savorylatch_action actions[4];
 } savorylatch_row;
 
 /* The rows in force, `count` of them. */
@@ -84,7 +85,7 @@ typedef struct {
     uint8_t count;
 } savorylatch_rows;
 
-/* An agent, with the number of entries that stand in its store. */
+/* An agent, with the number of entries in its store. */
 typedef struct {
     uint64_t device;
     savorylatch_streams streams;
@@ -115,26 +116,26 @@ SAVORYLATCH_FIELD(savorylatch_streams, marks, 768, 128);
 SAVORYLATCH_TYPE(savorylatch_field, 2, 1);
 SAVORYLATCH_FIELD(savorylatch_field, kind, 0, 1);
 SAVORYLATCH_FIELD(savorylatch_field, width, 1, 1);
-SAVORYLATCH_TYPE(savorylatch_action, 12, 4);
+SAVORYLATCH_TYPE(savorylatch_action, 9, 1);
 SAVORYLATCH_FIELD(savorylatch_action, id, 0, 4);
 SAVORYLATCH_FIELD(savorylatch_action, count, 4, 1);
 SAVORYLATCH_FIELD(savorylatch_action, widths, 5, 4);
-SAVORYLATCH_TYPE(savorylatch_row, 68, 4);
+SAVORYLATCH_TYPE(savorylatch_row, 53, 1);
 SAVORYLATCH_FIELD(savorylatch_row, table, 0, 4);
-SAVORYLATCH_FIELD(savorylatch_row, size, 4, 2);
-SAVORYLATCH_FIELD(savorylatch_row, owner, 6, 1);
+SAVORYLATCH_FIELD(savorylatch_row, owner, 4, 1);
+SAVORYLATCH_FIELD(savorylatch_row, size, 5, 2);
 SAVORYLATCH_FIELD(savorylatch_row, field_count, 7, 1);
 SAVORYLATCH_FIELD(savorylatch_row, fields, 8, 8);
-SAVORYLATCH_FIELD(savorylatch_row, actions, 16, 48);
-SAVORYLATCH_FIELD(savorylatch_row, action_count, 64, 1);
-SAVORYLATCH_TYPE(savorylatch_rows, 548, 4);
-SAVORYLATCH_FIELD(savorylatch_rows, rows, 0, 544);
-SAVORYLATCH_FIELD(savorylatch_rows, count, 544, 1);
-SAVORYLATCH_TYPE(savorylatch_agent, 1464, 8);
+SAVORYLATCH_FIELD(savorylatch_row, action_count, 16, 1);
+SAVORYLATCH_FIELD(savorylatch_row, actions, 17, 36);
+SAVORYLATCH_TYPE(savorylatch_rows, 425, 1);
+SAVORYLATCH_FIELD(savorylatch_rows, rows, 0, 424);
+SAVORYLATCH_FIELD(savorylatch_rows, count, 424, 1);
+SAVORYLATCH_TYPE(savorylatch_agent, 1344, 8);
 SAVORYLATCH_FIELD(savorylatch_agent, device, 0, 8);
 SAVORYLATCH_FIELD(savorylatch_agent, streams, 8, 896);
-SAVORYLATCH_FIELD(savorylatch_agent, rows, 904, 548);
-SAVORYLATCH_FIELD(savorylatch_agent, count, 1456, 8);
+SAVORYLATCH_FIELD(savorylatch_agent, rows, 904, 425);
+SAVORYLATCH_FIELD(savorylatch_agent, count, 1336, 8);
 #undef SAVORYLATCH_FIELD
 #undef SAVORYLATCH_TYPE
 #undef SAVORYLATCH_ALIGN

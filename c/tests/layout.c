@@ -72,21 +72,34 @@ static void put_head(uint8_t role) {
     put(8, DEVICE), put(1, role), put(1, 1), put(8, high(role)), put(8, low(role));
 }
 
+/* a big-endian number of the record */
+static void set(uint8_t *to, int bytes, uint32_t x) {
+    while (bytes-- > 0) *to++ = (uint8_t)(x >> 8 * bytes);
+}
+#define SET(field, x) set(field, COUNT(field), x)
+
+static uint32_t get(const uint8_t *from, size_t bytes) {
+    uint32_t x = 0;
+    while (bytes-- > 0) x = x << 8 | *from++;
+    return x;
+}
+#define GET(field) get(field, COUNT(field))
+
 static void put_row(const savorylatch_row *r) {
-    put(4, r->table), put(1, r->owner), put(2, r->size), put(1, r->field_count);
+    put(4, GET(r->table)), put(1, r->owner), put(2, GET(r->size)), put(1, r->field_count);
     for (size_t k = 0; k < COUNT(r->fields); k++) put(1, r->fields[k].kind), put(1, r->fields[k].width);
     put(1, r->action_count);
     for (size_t k = 0; k < COUNT(r->actions); k++) {
-        put(4, r->actions[k].id), put(1, r->actions[k].count);
+        put(4, GET(r->actions[k].id)), put(1, r->actions[k].count);
         for (size_t j = 0; j < COUNT(r->actions[k].widths); j++) put(1, r->actions[k].widths[j]);
     }
 }
 
 /* INSERT into the first row: one exact value, the other fields omitted, priority 1; its first action, with two values of one byte. */
 static void put_insert(const savorylatch_row *r, uint8_t value) {
-    put(1, 1), put(4, r->table), put(4, 1);
+    put(1, 1), put(4, GET(r->table)), put(4, 1);
     put(1, 1), put(1, 1), put(1, value), put(15, 0), put(17, 0), put(3 * 35, 0);
-    put(4, r->actions[0].id), put(1, 1), put(1, value), put(15, 0), put(1, 1), put(1, value), put(15, 0), put(2 * 17, 0);
+    put(4, GET(r->actions[0].id)), put(1, 1), put(1, value), put(15, 0), put(1, 1), put(1, value), put(15, 0), put(2 * 17, 0);
 }
 
 static uint8_t call(savorylatch_agent *a) {
@@ -148,13 +161,13 @@ static void places(void) {
     expect(same(&a, &want), "a stream of another role and its mark");
 
     savorylatch_row *r = want.rows.rows;
-    r[0].table = 0x02010203, r[0].size = 200, r[0].owner = 5, r[0].field_count = 3, r[0].action_count = 2;
-    r[1].table = 0x02212223, r[1].size = 7, r[1].owner = 6, r[1].field_count = 4, r[1].action_count = 4;
+    SET(r[0].table, 0x02010203), SET(r[0].size, 200), r[0].owner = 5, r[0].field_count = 3, r[0].action_count = 2;
+    SET(r[1].table, 0x02212223), SET(r[1].size, 7), r[1].owner = 6, r[1].field_count = 4, r[1].action_count = 4;
     for (int j = 0; j < r[0].field_count; j++) r[0].fields[j] = (savorylatch_field){.kind = 1 + 2 * j, .width = 9 + j};
     for (int k = 0; k < 2; k++)
         for (int j = 0; j < r[k].action_count; j++) {
             if (k) r[k].fields[j] = (savorylatch_field){.kind = 1 + j, .width = 100 + j};
-            r[k].actions[j].id = 0x01000000u + 0x10203 * (4 * k + j + 1);
+            SET(r[k].actions[j].id, 0x01000000u + 0x10203 * (4 * k + j + 1));
             r[k].actions[j].count = 2;
             r[k].actions[j].widths[0] = 40 + 8 * k + j, r[k].actions[j].widths[1] = 60 + 8 * k + j;
         }

@@ -16,7 +16,7 @@ use Rattle.rules.proofs.Tests.{and-true, both-true}
 use Rattle.rules.proofs.Formed.{parts-count}
 use Rattle.rules.proofs.Lists.{every-map, part-part, byte-part}
 use Rattle.rows.specs.Meaning.{rowOf, countsFit}
-use Rattle.configuration.specs.Passing.{tableIds, rowsPass, tableSizes}
+use Rattle.configuration.specs.Passing.{ids, rowsPass, tableSizes}
 use Rattle.rows.proofs.Bytes.{int-first, every-part, every-parts, column-next, column-none, passOnce}
 use Rattle.configuration.proofs.OneRow.{every-both}
 use Rattle.rows.proofs.Records.{fewParameters, rows-held}
@@ -103,11 +103,11 @@ sizeOf b = rules.rowOf b .size
 
 -- 14 of them: each by itself, no table id repeated, and the sizes
 pub rows-asked : (t : ℕ) (b : List ℕ) → rowsPass (parts t 53 b) ≡ passOnce alone tableOf t 53 b 0
-unfolding rowsPass tableIds
+unfolding rowsPass ids rules.rowOf
 rows-asked t b = refl
 
 pub configuration-asked : (rows : List (List ℕ)) → rules.configurationAllowed rows ≡ (rowsPass rows && leb (sum (tableSizes rows)) 256)
-unfolding rules.configurationAllowed rules.rowsAllowed rowsPass tableIds tableSizes
+unfolding rules.configurationAllowed rules.rowsAllowed rowsPass ids tableSizes rules.rowOf
 configuration-asked rows =
     rw (
       every-map rules.rowAllowed rules.rowOf rows,
@@ -115,7 +115,7 @@ configuration-asked rows =
       map-map (λ (r : rules.Row). r .size) rules.rowOf rows,
       every-both passes rules.unusedZero rows,
     )
-    (last-second (every passes rows) (distinct (map tableOf rows)) (leb (sum (map sizeOf rows)) 256) (every rules.unusedZero rows))
+    (last-second (every passes rows) (distinct (ids rows)) (leb (sum (map sizeOf rows)) 256) (every rules.unusedZero rows))
   where
     last-second : (own once few unused : Bool) → own && once && few && unused ≡ own && unused && once && few
     last-second own once few unused = simp (and-assoc, and-comm)
@@ -129,14 +129,6 @@ module _ (t i : ℕ) (b : List ℕ) where
   size-at : int (53 * i + 5) 2 b ≡ sizeOf (part (53 * i) 53 b)
   unfolding rules.rowOf
   size-at = ap number (sym (part-part (53 * i) 53 5 2 b (lit≤ tt)))
-
-  pub tables-next : i < t → drop i (tableIds (parts t 53 b)) ≡ int (53 * i) 4 b ∷ drop (i + 1) (tableIds (parts t 53 b))
-  unfolding tableIds
-  tables-next h = rw table-at (column-next tableOf t 53 i b h)
-
-  pub tables-none : t ≤ i → drop i (tableIds (parts t 53 b)) ≡ []
-  unfolding tableIds
-  tables-none h = column-none tableOf t 53 i b h
 
   pub sizes-next : i < t → drop i (tableSizes (parts t 53 b)) ≡ int (53 * i + 5) 2 b ∷ drop (i + 1) (tableSizes (parts t 53 b))
   unfolding tableSizes
@@ -155,5 +147,5 @@ unfolding rowsPass
 rows-allowed-held t b h e =
     let rows = parts t rowSize b in
     let pass = and-true (rowsPass rows) (leb (sum (tableSizes rows)) 256) (sym (configuration-asked rows) ∙ e) .0 in
-    let own = and-true (every alone rows) (distinct (tableIds rows)) pass .0 in
+    let own = and-true (every alone rows) (distinct (ids rows)) pass .0 in
     rows-held t b h (every-weaker alone countsFit counts-fit rows own)

@@ -1,6 +1,7 @@
 -- 14 decided on a row's bytes is 14 of the rules: the fields, widths and actions are parts of the bytes, asked one after another,
 -- and the order of the tests changes nothing. Assumes nothing.
-use Prim.Native.Nat.{ℕ, _+_, _*_, _-_, _≤_, _<_}
+use Prim.Native.Nat.{ℕ, zero, suc, _+_, _*_, _-_, _≤_, _<_}
+use native.Mathlib.Nat.{mul-suc}
 use native.Mathlib.Omega.{arith}
 use mathlib.Core.Path.{_≡_, refl, sym, ap, _∙_}
 use mathlib.Core.Bool.{Bool, true, false, _&&_, and-assoc, and-comm, and-false}
@@ -15,7 +16,7 @@ use Rattle.rules.proofs.Formed.{parts-count}
 use Rattle.rules.proofs.Lists.{every-map, parts-from, part-part, byte-part, drop-take}
 use Rattle.buffers.proofs.Words.{Bytes}
 use Rattle.numbers.proofs.Bytes.{int-none, int-next}
-use Rattle.configuration.specs.Passing.{fieldsPass, actionPasses, actionIds, actionsPass}
+use Rattle.configuration.specs.Passing.{fieldsPass, actionPasses, ids, actionsPass}
 use Rattle.rows.proofs.Bytes.{int-first, column-next, column-none, passOnce, once-refused, once-repeated, once-passed, once-ended}
 
 -- ---- parts of parts
@@ -57,6 +58,23 @@ module _ (p : List ℕ → Bool) (w a m n k : ℕ) (l : List ℕ) where
       let s : length ps ≤ i = omega (arith, parts-count n w (part a m l)) in
       let r : m - k ≡ e - (a + k) = omega arith in
       rw (drop-of-length-le ps {i = i} s, drop-part k a m l, r)
+
+-- ---- ids that records begin with, past the first i
+
+module _ (n w i : ℕ) (l : List ℕ) where
+  pub ids-next : 4 ≤ w → i < n → drop i (ids (parts n w l)) ≡ int (w * i) 4 l ∷ drop (i + 1) (ids (parts n w l))
+  unfolding ids
+  ids-next h g = rw (← int-first (w * i) w 4 l h) (column-next (int 0 4) n w i l g)
+
+  pub ids-none : n ≤ i → drop i (ids (parts n w l)) ≡ []
+  unfolding ids
+  ids-none h = column-none (int 0 4) n w i l h
+
+-- record i is within the n records
+pub record-within : (w i n : ℕ) → i < n → w * i + w ≤ w * n
+record-within w i zero h = absurd (omega arith)
+record-within w zero (suc n) h = omega (arith, mul-suc w n)
+record-within w (suc i) (suc n) h = omega (arith, mul-suc w n, mul-suc w i, record-within w i n (omega arith))
 
 -- ---- counts, 1 to 4
 
@@ -129,33 +147,19 @@ action-asked a h k =
 
 -- ---- the actions
 
-abbrev actionId : List ℕ → ℕ
-actionId a = rules.actionOf a .id
-
-id-at : (i : ℕ) (b : List ℕ) → 9 * i + 9 ≤ 36 → int (17 + 9 * i) 4 b ≡ actionId (part (9 * i) 9 (rules.actionBytes b))
-unfolding rules.actionOf
+id-at : (i : ℕ) (b : List ℕ) → 9 * i + 9 ≤ 36 → int (17 + 9 * i) 4 b ≡ int 0 4 (part (9 * i) 9 (rules.actionBytes b))
 id-at i b h = rw (part-part 17 36 (9 * i) 9 b h, int-first (17 + 9 * i) 9 4 b (lit≤ tt))
-
--- their ids, past the first i
-module _ (n i : ℕ) (b : List ℕ) where
-  pub ids-next : i < n → n ≤ 4 → drop i (actionIds n b) ≡ int (17 + 9 * i) 4 b ∷ drop (i + 1) (actionIds n b)
-  unfolding actionIds
-  ids-next h g = rw (id-at i b (omega arith)) (column-next actionId n 9 i (rules.actionBytes b) h)
-
-  pub ids-none : n ≤ i → drop i (actionIds n b) ≡ []
-  unfolding actionIds
-  ids-none h = column-none actionId n 9 i (rules.actionBytes b) h
 
 -- of n actions, past the first i
 abbrev pub actionsLeft : ℕ → List ℕ → ℕ → Bool
-actionsLeft n b i = passOnce actionPasses actionId n 9 (rules.actionBytes b) i && allZero (drop (9 * n) (rules.actionBytes b))
+actionsLeft n b i = passOnce actionPasses (int 0 4) n 9 (rules.actionBytes b) i && allZero (drop (9 * n) (rules.actionBytes b))
 
 pub actions-refused : (b : List ℕ) → between 1 4 (rules.actionCount b) ≡ false → actionsPass b ≡ false
 unfolding actionsPass
 actions-refused b h = rw h
 
 pub actions-asked : (b : List ℕ) → between 1 4 (rules.actionCount b) ≡ true → actionsPass b ≡ actionsLeft (rules.actionCount b) b 0
-unfolding actionsPass actionIds
+unfolding actionsPass ids
 actions-asked b h = rw h
 
 -- once i actions have passed, the next one, whose test and whose id's search came out so
@@ -164,23 +168,23 @@ module _ (n i : ℕ) (b : List ℕ) (h : i < n) (g : n ≤ 4) {t : Bool} (e : t 
   at-place = e ∙ ap actionPasses (sym (part-part 17 36 (9 * i) 9 b (omega arith)))
 
   pub action-refused : t ≡ false → actionsLeft n b i ≡ false
-  action-refused q = rw (once-refused actionPasses actionId n 9 (rules.actionBytes b) i h at-place q)
+  action-refused q = rw (once-refused actionPasses (int 0 4) n 9 (rules.actionBytes b) i h at-place q)
 
-  module _ {id : ℕ} {r : Bool} (f : id ≡ int (17 + 9 * i) 4 b) (d : r ≡ some-of (eqb id) (drop (i + 1) (actionIds n b))) where
+  module _ {id : ℕ} {r : Bool} (f : id ≡ int (17 + 9 * i) 4 b) (d : r ≡ some-of (eqb id) (drop (i + 1) (ids (parts n 9 (rules.actionBytes b))))) where
     pub action-repeated : r ≡ true → actionsLeft n b i ≡ false
-    unfolding actionIds
+    unfolding ids
     action-repeated q =
-        rw (once-repeated actionPasses actionId n 9 (rules.actionBytes b) i h at-place (f ∙ id-at i b (omega arith)) d q)
+        rw (once-repeated actionPasses (int 0 4) n 9 (rules.actionBytes b) i h at-place (f ∙ id-at i b (omega arith)) d q)
 
     pub action-passed : t ≡ true → r ≡ false → actionsLeft n b i ≡ actionsLeft n b (i + 1)
-    unfolding actionIds
+    unfolding ids
     action-passed p q =
-        rw (once-passed actionPasses actionId n 9 (rules.actionBytes b) i h at-place (f ∙ id-at i b (omega arith)) d p q)
+        rw (once-passed actionPasses (int 0 4) n 9 (rules.actionBytes b) i h at-place (f ∙ id-at i b (omega arith)) d p q)
 
 pub actions-passed : (n i : ℕ) (b : List ℕ) → n ≤ i → actionsLeft n b i ≡ allZero (part (17 + 9 * n) (53 - (17 + 9 * n)) b)
 actions-passed n i b h =
     let r : 36 - 9 * n ≡ 53 - (17 + 9 * n) = omega arith in
-    rw (once-ended actionPasses actionId n 9 (rules.actionBytes b) i h, drop-part (9 * n) 17 36 b, r)
+    rw (once-ended actionPasses (int 0 4) n 9 (rules.actionBytes b) i h, drop-part (9 * n) 17 36 b, r)
 
 -- ---- a row
 
@@ -192,7 +196,7 @@ regroup table owner size nf fields na actions ids fz az wz = simp (and-assoc, an
 
 pub row-asked : (b : List ℕ) → 4 ≤ length b → Bytes b → (rules.rowAllowed (rules.rowOf b) && rules.unusedZero b)
     ≡ (eqb (byte 0 b) 2 && leb (byte 4 b) 7 && leb 1 (int 5 2 b) && fieldsPass b && actionsPass b)
-unfolding rules.rowAllowed rules.rowOf rules.unusedZero fieldsPass actionsPass actionPasses actionIds
+unfolding rules.rowAllowed rules.rowOf rules.unusedZero fieldsPass actionsPass actionPasses rules.actionOf ids
 row-asked b h k =
     let nf : ℕ = rules.fieldCount b in
     let na : ℕ = rules.actionCount b in
@@ -212,5 +216,5 @@ row-asked b h k =
       every-both allowed rules.unusedWidths acts,
     )
     (regroup (eqb (byte 0 b) 2) (leb (byte 4 b) 7) (leb 1 (int 5 2 b)) (between 1 4 nf) (every rules.fieldAllowed (map rules.fieldOf fs))
-    (between 1 4 na) (every allowed acts) (distinct (actionIds na b)) (allZero (drop (2 * nf) fb)) (allZero (drop (9 * na) ab))
+    (between 1 4 na) (every allowed acts) (distinct (ids acts)) (allZero (drop (2 * nf) fb)) (allZero (drop (9 * na) ab))
     (every rules.unusedWidths acts))

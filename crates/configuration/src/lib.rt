@@ -7,7 +7,7 @@ ghost use lib.Dec.{eqb};
 ghost use Rattle.rules.specs.Frame.{rowSize};
 ghost use Rattle.rules.specs.Bytes.{some-of, parts, sum};
 ghost use Rattle.rules.specs.Row as rules;
-ghost use Rattle.configuration.specs.Passing.{fieldsPass, actionPasses, actionIds, actionsPass, tableIds, rowsPass, tableSizes};
+ghost use Rattle.configuration.specs.Passing.{fieldsPass, actionPasses, ids, actionsPass, rowsPass, tableSizes};
 use numbers::integer;
 use rows::Field;
 
@@ -60,14 +60,14 @@ fn action_allowed(a: &[u8]) -> bool
     buffers::all_zero(&a[past..9])
 }
 
-// Whether one of the actions from `from` on, of n, has the id.
-fn action_repeated(b: &[u8], id: u64, from: usize, n: usize) -> bool
-    requires { ⌜ (length (now b) ≡ rowSize) × (n ≤ 4) ⌝ }
-    ensures { λ r. ⌜ r ≡ some-of (eqb id) (drop from (actionIds n (now (b .entry)))) ⌝ }
+// Whether one of n records of w bytes, from record `from` on, begins with the id.
+fn id_repeated(b: &[u8], w: usize, from: usize, n: usize, id: u64) -> bool
+    requires { ⌜ (4 ≤ w) × (w * n ≤ length (now b)) ⌝ }
+    ensures { λ r. ⌜ r ≡ some-of (eqb id) (drop from (ids (parts n w (now (b .entry))))) ⌝ }
 {
     let mut j = from;
     while j < n {
-        if integer(b, 17 + 9 * j, 4) == id {
+        if integer(b, w * j, 4) == id {
             return true;
         }
         j += 1;
@@ -94,7 +94,8 @@ fn actions_allowed(b: &[u8]) -> bool
         if !action_allowed(&b[at..end]) {
             return false;
         }
-        if action_repeated(b, integer(b, at, 4), i + 1, n) {
+        let id = integer(b, at, 4);
+        if id_repeated(&b[17..rules::ROW], 9, i + 1, n, id) {
             return false;
         }
         i += 1;
@@ -125,21 +126,6 @@ fn row_allowed(b: &[u8]) -> bool
 
 // ---- reason 14, on the 53 bytes of each of the t rows
 
-// Whether one of the rows from `from` on has the table id.
-fn table_repeated(b: &[u8], table: u64, from: usize, t: usize) -> bool
-    requires { ⌜ (t ≤ 8) × (length (now b) ≡ rowSize * t) ⌝ }
-    ensures { λ r. ⌜ r ≡ some-of (eqb table) (drop from (tableIds (parts t rowSize (now (b .entry))))) ⌝ }
-{
-    let mut j = from;
-    while j < t {
-        if integer(b, rules::ROW * j, 4) == table {
-            return true;
-        }
-        j += 1;
-    }
-    false
-}
-
 // Each row by itself, and no table id repeated.
 fn each_allowed(b: &[u8], t: usize) -> bool
     requires { ⌜ (t ≤ 8) × (length (now b) ≡ rowSize * t) ⌝ }
@@ -152,7 +138,8 @@ fn each_allowed(b: &[u8], t: usize) -> bool
         if !row_allowed(&b[at..end]) {
             return false;
         }
-        if table_repeated(b, integer(b, at, 4), i + 1, t) {
+        let table = integer(b, at, 4);
+        if id_repeated(b, rules::ROW, i + 1, t, table) {
             return false;
         }
         i += 1;
@@ -174,7 +161,7 @@ fn sizes(b: &[u8], t: usize) -> u64
     total
 }
 
-// Whether 14 allows the t rows of 53 bytes each. Told from the bytes: where it does not, no row is read.
+// Whether 14 allows the t rows of 53 bytes each.
 pub fn allowed(b: &[u8], t: usize) -> bool
     requires { ⌜ (t ≤ 8) × (length (now b) ≡ rowSize * t) ⌝ }
     ensures { λ r. ⌜ r ≡ rules.configurationAllowed (parts t rowSize (now (b .entry))) ⌝ }

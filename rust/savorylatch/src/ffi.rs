@@ -47,21 +47,22 @@ pub struct Field {
 #[repr(C)]
 #[derive(Clone, Copy, Default)]
 pub struct Action {
-    pub id: u32,
+    pub id: [u8; 4],
     pub count: u8,
     pub widths: [u8; 4],
 }
 
+/// A row in the 53 bytes that CONFIGURE sent: the ids and the size are big-endian.
 #[repr(C)]
 #[derive(Clone, Copy, Default)]
 pub struct Row {
-    pub table: u32,
-    pub size: u16,
+    pub table: [u8; 4],
     pub owner: u8,
+    pub size: [u8; 2],
     pub field_count: u8,
     pub fields: [Field; 4],
-    pub actions: [Action; 4],
     pub action_count: u8,
+    pub actions: [Action; 4],
 }
 
 /// The rows in force, `count` of them.
@@ -72,7 +73,7 @@ pub struct Rows {
     pub count: u8,
 }
 
-/// The record, with the number of entries that stand in its store.
+/// The record, with the number of entries in its store.
 #[repr(C)]
 #[derive(Clone, Copy, Default)]
 pub struct Agent {
@@ -100,14 +101,14 @@ layout!(ElectionId, 16, 8, high: 0, 8; low: 8, 8;);
 layout!(Stream, 24, 8, id: 0, 16; phase: 16, 1; role: 17, 1;);
 layout!(Streams, 896, 8, streams: 0, 768; marks: 768, 128;);
 layout!(Field, 2, 1, kind: 0, 1; width: 1, 1;);
-layout!(Action, 12, 4, id: 0, 4; count: 4, 1; widths: 5, 4;);
+layout!(Action, 9, 1, id: 0, 4; count: 4, 1; widths: 5, 4;);
 layout!(
-    Row, 68, 4,
-    table: 0, 4; size: 4, 2; owner: 6, 1; field_count: 7, 1;
-    fields: 8, 8; actions: 16, 48; action_count: 64, 1;
+    Row, 53, 1,
+    table: 0, 4; owner: 4, 1; size: 5, 2; field_count: 7, 1;
+    fields: 8, 8; action_count: 16, 1; actions: 17, 36;
 );
-layout!(Rows, 548, 4, rows: 0, 544; count: 544, 1;);
-layout!(Agent, 1464, 8, device: 0, 8; streams: 8, 896; rows: 904, 548; count: 1456, 8;);
+layout!(Rows, 425, 1, rows: 0, 424; count: 424, 1;);
+layout!(Agent, 1344, 8, device: 0, 8; streams: 8, 896; rows: 904, 425; count: 1336, 8;);
 
 extern "C" {
     fn savorylatch_new(agent: *mut Agent, device: u64);

@@ -71,22 +71,31 @@ returns-3 c =
 integer-requires : tie.Need-integer-requires Inv-loop μ-loop
 integer-requires c κs = search needs
 
-add-action-repeated : tie.Need-add-action-repeated Inv-loop μ-loop
-add-action-repeated c = search needs
+sub-id-repeated : tie.Need-sub-id-repeated Inv-loop μ-loop
+sub-id-repeated c = search needs
 
-action-repeated-requires : tie.Need-action-repeated-requires Inv-loop μ-loop
-action-repeated-requires c κs = search needs
+part-id-repeated-start : tie.Need-part-id-repeated-start Inv-loop μ-loop
+part-id-repeated-start c = search needs
+
+part-id-repeated-end : tie.Need-part-id-repeated-end Inv-loop μ-loop
+part-id-repeated-end c = search needs
+
+add-id-repeated : tie.Need-add-id-repeated Inv-loop μ-loop
+add-id-repeated c = search needs
+
+id-repeated-requires : tie.Need-id-repeated-requires Inv-loop μ-loop
+id-repeated-requires c κs = search needs
 
 returns-4 : tie.Need-returns-4 Inv-loop μ-loop
 returns-4 c =
-    let d = c .before .before .before in
+    let d = c .before .before .before .before in
     let l = d .before .before .before .before in
     let b : List ℕ = l .before .before .before .before .before .args .b .now in
     let i : ℕ = l .loop .i in
     let r = d .before .action-allowed in
     let e = r .ensures ∙ ap actionPasses (part-lent (17 + 9 * i) 9 b) in
-    let f = c .before .before .integer .ensures in
-    let h = c .before .action-repeated .ensures in
+    let f = c .before .before .before .integer .ensures in
+    let h = c .before .id-repeated .ensures in
     sym (l .loop .inv .1 ∙ action-repeated (getD b 16 0) i b (omega arith) (omega arith) e f h (c .if4 .taken))
 
 add-i : tie.Need-add-i Inv-loop μ-loop
@@ -97,14 +106,14 @@ loop-less c = search needs
 
 loop-again : tie.Need-loop-again Inv-loop μ-loop
 loop-again c =
-    let d = c .before .before .before in
+    let d = c .before .before .before .before in
     let l = d .before .before .before .before in
     let b : List ℕ = l .before .before .before .before .before .args .b .now in
     let i : ℕ = l .loop .i in
     let r = d .before .action-allowed in
     let e = r .ensures ∙ ap actionPasses (part-lent (17 + 9 * i) 9 b) in
-    let f = c .before .before .integer .ensures in
-    let h = c .before .action-repeated .ensures in
+    let f = c .before .before .before .integer .ensures in
+    let h = c .before .id-repeated .ensures in
     let p = not-false (r .result) (d .if3 .left) in
     (omega arith, l .loop .inv .1 ∙ action-passed (getD b 16 0) i b (omega arith) (omega arith) e f h p (c .if4 .left))
 
@@ -152,8 +161,11 @@ actions-allowed-spec =
     action-allowed-requires
     returns-3
     integer-requires
-    add-action-repeated
-    action-repeated-requires
+    sub-id-repeated
+    part-id-repeated-start
+    part-id-repeated-end
+    add-id-repeated
+    id-repeated-requires
     returns-4
     add-i
     loop-less

@@ -6,7 +6,8 @@ use lib.ListN.{length-take, length-drop}
 use borrow.Author.Needs.{needs}
 use borrow.Author.Tests.{not-true, not-false}
 use Rattle.rules.specs.Bytes.{part, parts}
-use Rattle.configuration.specs.Passing.{tableIds, rowsPass}
+use Rattle.configuration.specs.Passing.{ids, rowsPass}
+use Rattle.rules.specs.Row as rules
 use Rattle.rows.proofs.Bytes.{passOnce, once-refused, once-repeated, once-passed, once-ended}
 use Rattle.configuration.proofs.OneRow.{part-lent}
 use Rattle.configuration.proofs.Configuration.{alone, tableOf, rows-asked, table-at}
@@ -59,21 +60,21 @@ returns c =
 integer-requires : tie.Need-integer-requires Inv-loop μ-loop
 integer-requires c κs = search needs
 
-add-table-repeated : tie.Need-add-table-repeated Inv-loop μ-loop
-add-table-repeated c = search needs
+add-id-repeated : tie.Need-add-id-repeated Inv-loop μ-loop
+add-id-repeated c = search needs
 
-table-repeated-requires : tie.Need-table-repeated-requires Inv-loop μ-loop
-table-repeated-requires c κs = search needs
+id-repeated-requires : tie.Need-id-repeated-requires Inv-loop μ-loop
+id-repeated-requires c κs = search needs
 
 returns-2 : tie.Need-returns-2 Inv-loop μ-loop
-unfolding tableIds
+unfolding ids rules.rowOf
 returns-2 c =
     let r = c .before .before .before .before in
     let l = r .before .before .before in
     let a = l .before .before .args in
     let i = l .loop .i in
     let f = c .before .before .integer .ensures ∙ table-at (a .t) i (a .b .now) in
-    let d = c .before .table-repeated .ensures in
+    let d = c .before .id-repeated .ensures in
     sym (l .loop .inv .1 ∙ once-repeated alone tableOf (a .t) 53 (a .b .now) i (omega arith) (tested r) f d (c .if2 .taken))
 
 add-i : tie.Need-add-i Inv-loop μ-loop
@@ -83,7 +84,7 @@ loop-less : tie.Need-loop-less Inv-loop μ-loop
 loop-less c = search needs
 
 loop-again : tie.Need-loop-again Inv-loop μ-loop
-unfolding tableIds
+unfolding ids rules.rowOf
 loop-again c =
     let g = c .before .before .before in
     let r = g .before in
@@ -91,7 +92,7 @@ loop-again c =
     let a = l .before .before .args in
     let i = l .loop .i in
     let f = c .before .before .integer .ensures ∙ table-at (a .t) i (a .b .now) in
-    let d = c .before .table-repeated .ensures in
+    let d = c .before .id-repeated .ensures in
     let p = not-false (r .row-allowed .result) (g .if1 .left) in (
       omega arith,
       l .loop .inv .1 ∙ once-passed alone tableOf (a .t) 53 (a .b .now) i (omega arith) (tested r) f d p (c .if2 .left),
@@ -118,8 +119,8 @@ each-allowed-spec =
     row-allowed-requires
     returns
     integer-requires
-    add-table-repeated
-    table-repeated-requires
+    add-id-repeated
+    id-repeated-requires
     returns-2
     add-i
     loop-less

@@ -70,9 +70,9 @@ impl Row {
         let fields = row.fields.iter().take(usize::from(row.field_count));
         let actions = row.actions.iter().take(usize::from(row.action_count));
         Row {
-            table: row.table,
+            table: u32::from_be_bytes(row.table),
             owner: row.owner,
-            size: row.size,
+            size: u16::from_be_bytes(row.size),
             fields: fields.filter_map(Field::of_record).collect(),
             actions: actions.map(Action::of_record).collect(),
         }
@@ -100,7 +100,7 @@ impl Action {
     fn of_record(action: &ffi::Action) -> Action {
         let widths = action.widths.iter().take(usize::from(action.count));
         Action {
-            id: action.id,
+            id: u32::from_be_bytes(action.id),
             widths: widths.copied().collect(),
         }
     }
