@@ -212,7 +212,7 @@ impl Streams {
         false
     }
 
-    // CLOSE, in the same shape. Only a stream that is bound can be a primary: a call of `leads` copies the record.
+    // CLOSE, in the same shape. `leads` is called for a bound stream only: the call copies the record.
     pub fn close(mut self, stream: u8) -> Outcome
         ensures { λ r. ⌜ outcomeOf r ≡ rules.closeStream (streamsOf self) stream ⌝ }
     {
