@@ -6,7 +6,7 @@ ghost use lib.ListN.{length, take};
 ghost use Rattle.rules.specs.Bytes.{concat};
 ghost use Rattle.rules.specs.Streams as rules;
 ghost use Rattle.buffers.specs.Splice.{splice};
-ghost use Rattle.election.specs.Meaning.{idOf, headOf, bindingOf};
+ghost use Rattle.election.specs.Meaning.{idOf, headOf};
 ghost use Rattle.leadership.specs.Scanning.{ScanOf, LeadershipIn, leads};
 ghost use Rattle.arbitration.specs.Meaning.{streamsOf, recordsOf, outcomeOf, ClosingOf, AudienceOf};
 use election::Binding;
@@ -188,37 +188,31 @@ impl Streams {
         }
     }
 
-    // Whether the stream is the primary of the role that it is bound to. Only one that holds the mark takes a scan, which ends at the
-    // mark's first holder.
-    fn leads(self, stream: u8, binding: Binding) -> bool
-        requires { ⌜ bindingOf binding ≡ rules.streamAt (streamsOf self) stream ⌝ }
-        ensures { λ r. ⌜ r ≡ leads (streamsOf self) stream (bindingOf binding) ⌝ }
+    // Whether a stream bound to the role with the id is its primary. Only one that holds the mark takes a scan, which ends at the mark's
+    // first holder.
+    fn leads(self, stream: u8, role: u8, id: ElectionId) -> bool
+        requires { ⌜ rules.bound role (idOf id) ≡ rules.streamAt (streamsOf self) stream ⌝ }
+        ensures { λ r. ⌜ r ≡ leads (streamsOf self) stream (rules.bound role (idOf id)) ⌝ }
     {
-        match binding {
-            Binding::Closed => false,
-            Binding::Open => false,
-            Binding::Bound(role, id) => {
-                let place = (role % 8) as usize;
-                let read = self.marks[place];
-                if !election::is_mark(id, role, read) {
-                    return false;
-                }
-                let own = stream as usize;
-                let mut k: usize = 0;
-                while k < 32 {
-                    let s = self.streams[k];
-                    let first = s.binding();
-                    if first.holds(role, id) {
-                        return k == own;
-                    }
-                    k += 1;
-                }
-                false
-            }
+        let place = (role % 8) as usize;
+        let read = self.marks[place];
+        if !election::is_mark(id, role, read) {
+            return false;
         }
+        let own = stream as usize;
+        let mut k: usize = 0;
+        while k < 32 {
+            let s = self.streams[k];
+            let first = s.binding();
+            if first.holds(role, id) {
+                return k == own;
+            }
+            k += 1;
+        }
+        false
     }
 
-    // CLOSE, in the same shape.
+    // CLOSE, in the same shape. `leads` is called for a bound stream only: the call copies the record.
     pub fn close(mut self, stream: u8) -> Outcome
         ensures { λ r. ⌜ outcomeOf r ≡ rules.closeStream (streamsOf self) stream ⌝ }
     {
@@ -226,7 +220,11 @@ impl Streams {
         let s = self.streams[k];
         let b = election::binding_of(stream, s);
         let reason = election::close_reason(b);
-        let primary = self.leads(stream, b);
+        let primary = match b {
+            Binding::Closed => false,
+            Binding::Open => false,
+            Binding::Bound(role, id) => self.leads(stream, role, id),
+        };
         let notify = closing_audience(b.role_or(0), primary);
         self.streams[k] = election::after_close(reason, s);
         Outcome {

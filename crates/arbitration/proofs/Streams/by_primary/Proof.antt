@@ -101,8 +101,8 @@ returns-2 c =
     let b = h .before in
     let t = b .before .before in
     let d = t .before in
-    found (d .before)
-    (first-hit _ (size (d .before .before .before .before)) (d .loop .inv .1) (t .loop-test .taken) (b .binding .ensures) (sym (c .if2 .taken) ∙ h .holds .ensures))
+    let z = size (d .before .before .before .before) in
+    found (d .before) (first-hit _ z (d .loop .inv .1) (t .loop-test .taken) (b .binding .ensures) (sym (c .if2 .taken) ∙ h .holds .ensures))
 
 add-k : tie.Need-add-k Inv-loop μ-loop
 add-k c = search needs
@@ -116,11 +116,14 @@ loop-again c =
     let b = h .before in
     let t = b .before .before in
     let d = t .before in
-    let f = first-same _ (size (d .before .before .before .before)) (d .loop .inv .1) (t .loop-test .taken) (b .binding .ensures) (sym (c .if2 .left) ∙ h .holds .ensures) in
-    (search needs, f)
+    let z = size (d .before .before .before .before) in
+    (search needs, first-same _ z (d .loop .inv .1) (t .loop-test .taken) (b .binding .ensures) (sym (c .if2 .left) ∙ h .holds .ensures))
 
 returns-3 : tie.Need-returns-3 Inv-loop μ-loop
-returns-3 c = let d = c .before in found (d .before) (first-all _ (size (d .before .before .before .before)) (d .loop .inv .1) (c .loop-test .left))
+returns-3 c =
+    let d = c .before in
+    let z = size (d .before .before .before .before) in
+    found (d .before) (first-all _ z (d .loop .inv .1) (c .loop-test .left))
 
 pub by-primary-spec : {M : Type 1} → statement M
 by-primary-spec =

@@ -1,9 +1,13 @@
 -- Right because what is stored in the stream's place is what a CLOSE with its reason leaves there. Assumes nothing.
-use mathlib.Core.Path.{_≡_}
+use mathlib.Core.Path.{_≡_, sym, ap, _∙_}
+use mathlib.Core.Logic.{⊎-elim}
+use mathlib.Core.Bool.{Bool}
 use lib.ListN.{length}
 use borrow.Author.Needs.{needs}
 use Rattle.rules.specs.Streams as rules
+use Rattle.election.specs.declared.Binding.{Binding}
 use Rattle.election.specs.Meaning.{bindingOf, roleOr}
+use Rattle.leadership.specs.Scanning.{leads}
 use Rattle.arbitration.specs.Meaning.{streamsOf}
 use Rattle.rules.proofs.Lists.{length-mapped}
 use Rattle.arbitration.proofs.Places.{read-at}
@@ -20,6 +24,23 @@ as-is : (c : tie.After-binding-of) → let a = c .before .before .args in
     bindingOf (c .binding-of .result) ≡ rules.streamAt (streamsOf (a .t1)) (a .stream)
 as-is c = let a = c .before .before .args in read-at (a .t1) (size c) (a .stream) (c .binding-of .ensures)
 
+-- the match leaves the binding as it is
+kept : (c : tie.At-match-came) → c .match .b ≡ c .before .before .binding-of .result
+kept c = ⊎-elim (λ w. w .2) (⊎-elim (λ w. w .2) (λ w. w .4 ∙ sym (w .1 .given .1))) (c .match .came)
+
+-- what it gives is whether the stream is the primary
+told : (c : tie.At-match-came) → let b = c .before .before in
+    let a = b .before .before .args in
+    c .match .primary ≡ leads (streamsOf (a .t1)) (a .stream) (bindingOf (b .binding-of .result))
+told c =
+    let b = c .before .before in
+    let a = b .before .before .args in
+    let f : Binding → Bool = λ x. leads (streamsOf (a .t1)) (a .stream) (bindingOf x) in
+    ⊎-elim
+    (λ w. w .3 ∙ ap f (sym (w .1 .given .1)))
+    (⊎-elim (λ w. w .3 ∙ ap f (sym (w .1 .given .1))) (λ w. w .5 ∙ w .3 .ensures ∙ ap f (sym (w .1 .given .1))))
+    (c .match .came)
+
 cast-k : tie.Need-cast-k
 cast-k c = search needs
 
@@ -35,8 +56,20 @@ binding-of-requires c κs = search needs
 close-reason-requires : tie.Need-close-reason-requires
 close-reason-requires c κs = search needs
 
+enum-told : tie.Need-enum-told
+enum-told c = search needs
+
+enum-told-2 : tie.Need-enum-told-2
+enum-told-2 c = search needs
+
+enum-known-b : tie.Need-enum-known-b
+enum-known-b c = search needs
+
 leads-requires : tie.Need-leads-requires
-leads-requires c κs = as-is (c .before)
+leads-requires c κs =
+    let m = c .before .before in
+    let b = m .before .before in
+    ap bindingOf (sym (c .before .b .given .1)) ∙ as-is b
 
 role-or-requires : tie.Need-role-or-requires
 role-or-requires c κs = search needs
@@ -47,8 +80,8 @@ closing-audience-requires c κs = search needs
 after-close-requires : tie.Need-after-close-requires
 after-close-requires c κs = search needs
 
-mul-t11 : tie.Need-mul-t11
-mul-t11 c = search needs
+mul-t13 : tie.Need-mul-t13
+mul-t13 c = search needs
 
 element-set-from-self : tie.Need-element-set-from-self
 element-set-from-self c = search needs
@@ -62,9 +95,10 @@ returns c =
     let b = r .before in
     let a = b .before .before .args in
     let x = bindingOf (b .binding-of .result) in
-    let q : roleOr (o .role-or .result) x ≡ o .role-or .result = rw (o .role-or .ensures) (own-role x 0) in
+    let p : o .role-or .result ≡ roleOr 0 x = o .role-or .ensures ∙ ap (λ (z : Binding). roleOr 0 (bindingOf z)) (kept l) in
+    let q : roleOr (o .role-or .result) x ≡ o .role-or .result = rw p (own-role x 0) in
     closes-stream (a .t1) (size b) (a .stream) (c .after-close .result) (as-is b) (r .close-reason .ensures) (c .after-close .ensures)
-    (n .closing-audience .result) (n .closing-audience .ensures (streamsOf (a .t1)) (a .stream) x (as-is b) q (l .leads .ensures))
+    (n .closing-audience .result) (n .closing-audience .ensures (streamsOf (a .t1)) (a .stream) x (as-is b) q (told l))
 
 pub close-spec : {M : Type 1} → statement M
 close-spec =
@@ -75,10 +109,13 @@ close-spec =
     element-copy-out-s
     binding-of-requires
     close-reason-requires
+    enum-told
+    enum-told-2
+    enum-known-b
     leads-requires
     role-or-requires
     closing-audience-requires
     after-close-requires
-    mul-t11
+    mul-t13
     element-set-from-self
     returns)
