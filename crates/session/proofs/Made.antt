@@ -14,7 +14,7 @@ use Rattle.buffers.specs.Splice.{splice}
 use Rattle.buffers.proofs.Splice.{splice-none, splice-next, splice-front, length-window}
 use Rattle.calls.specs.Contract.{Memory, Layout, Contract}
 use Rattle.calls.specs.Claim.{Step, Trace}
-use Rattle.transcript.specs.Input.{firstFrame, frameIn, Stands, Begins}
+use Rattle.transcript.specs.Input.{firstFrame, frameIn, WithinInput, Begins}
 use Rattle.transcript.specs.Line.{recordSize, lineIn}
 use Rattle.transcript.specs.declared.Next.{Next}
 use Rattle.transcript.specs.declared.Next.the-variants.{Frame}
@@ -71,9 +71,9 @@ module _ (input : List ℕ) (at : ℕ) (h : at ≤ length input) (r : Next) wher
   abbrev given : List ℕ
   given = take (length input - at) (drop at input)
 
-  pub ahead : (n : ℕ) → r ≡ Frame n → frameIn r given ≡ firstFrame given → Stands r given → Ahead input at n
+  pub ahead : (n : ℕ) → r ≡ Frame n → frameIn r given ≡ firstFrame given → WithinInput r given → Ahead input at n
   ahead n e found stands =
-      let s : (2 ≤ n) × (n ≤ length given) = subst (λ (x : Next). Stands x given) e stands in
+      let s : (2 ≤ n) × (n ≤ length given) = subst (λ (x : Next). WithinInput x given) e stands in
       let l : length given ≡ length input - at = length-window at (length input - at) input (omega arith) in
       let two : 2 ≤ n = s .0 in
       let w : at + n ≤ length input = omega (arith, s .1) in

@@ -17,7 +17,7 @@ use Rattle.rules.proofs.Replies.{written-whole}
 use Rattle.calls.specs.Contract.{Memory, Layout, Represents, Correct, requested}
 use Rattle.calls.specs.Claim.{Step, Trace}
 use Rattle.transcript.specs.Line.{lineOf, recordSize, lineIn}
-use Rattle.transcript.proofs.Answers.{line-printed}
+use Rattle.transcript.proofs.AnswerLines.{line-printed}
 use Rattle.session.specs.Session.{framesOf, OneBuffer, lines, linesFrom, PrintsAnswers}
 
 -- ---- one call

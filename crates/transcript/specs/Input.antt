@@ -22,10 +22,10 @@ abbrev pub frameIn : Next → List ℕ → Option (List ℕ)
 frameIn (Frame end) input = some (part 2 (end - 2) input)
 frameIn Broken input = none
 
--- the frame that was found stands in the input, after its length
-abbrev pub Stands : Next → List ℕ → Type 0
-Stands (Frame end) input = (2 ≤ end) × (end ≤ length input)
-Stands Broken input = Unit {0}
+-- the frame that was found is in the input, after its length
+abbrev pub WithinInput : Next → List ℕ → Type 0
+WithinInput (Frame end) input = (2 ≤ end) × (end ≤ length input)
+WithinInput Broken input = Unit {0}
 
 -- an input begins with these frames, each after its length, and goes on with the rest
 unfoldable pub Begins : List ℕ → List (List ℕ) → List ℕ → Type 0

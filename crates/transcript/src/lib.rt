@@ -6,7 +6,7 @@ ghost use Prim.Native.Nat.{_+_, _*_, _≤_, _<_};
 ghost use lib.ListN.{length};
 ghost use Rattle.rules.specs.Bytes.{parts};
 ghost use Rattle.buffers.specs.Splice.{splice};
-ghost use Rattle.transcript.specs.Input.{firstFrame, frameIn, Stands};
+ghost use Rattle.transcript.specs.Input.{firstFrame, frameIn, WithinInput};
 ghost use Rattle.transcript.specs.Line.{digit, digits, decimal, hex, field, recordsHex, recordSize, fits, lineIn};
 use numbers::integer;
 
@@ -19,7 +19,7 @@ pub enum Next {
 // The first frame of an input.
 pub fn next_frame(input: &[u8]) -> Next
     ensures found { λ r. ⌜ frameIn r (now (input .entry)) ≡ firstFrame (now (input .entry)) ⌝ }
-    ensures stands { λ r. ⌜ Stands r (now (input .entry)) ⌝ }
+    ensures within { λ r. ⌜ WithinInput r (now (input .entry)) ⌝ }
 {
     if input.len() < 2 {
         return Next::Broken;
