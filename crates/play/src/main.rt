@@ -33,7 +33,7 @@ fn refill(input: &mut [u8], at: usize, filled: usize) -> usize
     ensures count { λ r. ⌜ (filled - at ≤ r) × (r ≤ length (now (input .entry))) ⌝ }
     ensures kept { λ _. ⌜ take (filled - at) (now (input .exit)) ≡ part at (filled - at) (now (input .entry)) ⌝ }
 {
-    let rest = session::keep(input, at, filled);
+    let rest = session::compact(input, at, filled);
     rest + read(&mut input[rest..])
 }
 

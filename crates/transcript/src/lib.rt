@@ -10,10 +10,10 @@ ghost use Rattle.transcript.specs.Input.{firstFrame, frameIn, WithinInpu
 ghost use Rattle.transcript.specs.Line.{digit, digits, decimal, hex, field, recordsHex, recordSize, fits, lineIn};
 use numbers::integer;
 
-// The first frame of an input, from byte 2 to an end; or the input ends or breaks off.
+// The first frame of an input, from byte 2 to an end; or none, where the input ends or breaks off.
 pub enum Next {
     Frame(usize),
-    Broken,
+    Incomplete,
 }
 
 // The first frame of an input.
@@ -22,11 +22,11 @@ pub fn next_frame(input: &[u8]) -> Next
     ensures within { λ r. ⌜ WithinInput r (now (input .entry)) ⌝ }
 {
     if input.len() < 2 {
-        return Next::Broken;
+        return Next::Incomplete;
     }
     let end = 2 + integer(input, 0, 2) as usize;
     if input.len() < end {
-        return Next::Broken;
+        return Next::Incomplete;
     }
     Next::Frame(end)
 }

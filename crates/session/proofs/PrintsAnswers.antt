@@ -22,7 +22,8 @@ use Rattle.session.specs.Session.{framesOf, OneBuffer, lines, linesFrom,
 
 -- ---- one call
 
-module _ {A : Type 0} (L : Layout A) (m : Memory A) (w : Step A) (s : State) (ok : Sound s) (long : 56_320 ≤ length (m .store)) (wide : 57_344 ≤ length (w .input .buffer)) where
+module _ {A : Type 0} (L : Layout A) (m : Memory A) (w : Step A) (s : State) (ok : Sound s)
+    (long : 56_320 ≤ length (m .store)) (wide : 57_344 ≤ length (w .input .buffer)) where
   abbrev f : List ℕ
   f = w .input .frame
 
