@@ -45,12 +45,12 @@ returns c =
     ap (take rest) (k .compact .ensures .1 ∙ splice-front (now (a .input)) kept) ∙ take-at kept (drop (length kept) (now (a .input))) rest l in
     let same : k .compact .result ≡ rest = k .compact .ensures .0 in
     let r = c .before .before .read in
-    let within : k .compact .result ≤ length (k .compact .last .0) =
-    omega (arith, k .compact .kept .0, k .before .before .before .pre .0) in (
+    let bytes : List ℕ = k .compact .last .0 in
+    let within : k .compact .result ≤ length bytes = omega (arith, k .compact .kept .0, k .before .before .before .pre .0) in (
       (omega arith, omega (arith, r .ensures, k .compact .kept .0, within)),
-      ap (λ (n : ℕ). take n (putMid (k .compact .result) (length (k .compact .last .0) - k .compact .result) (k .compact .last .0) (r .last .0))) (sym same)
-          ∙ take-put (k .compact .result) (length (k .compact .last .0) - k .compact .result) (k .compact .last .0) (r .last .0) within
-          ∙ ap (λ (n : ℕ). take n (k .compact .last .0)) same ∙ e,
+      ap (λ (n : ℕ). take n (putMid (k .compact .result) (length bytes - k .compact .result) bytes (r .last .0))) (sym same)
+          ∙ take-put (k .compact .result) (length bytes - k .compact .result) bytes (r .last .0) within
+          ∙ ap (λ (n : ℕ). take n bytes) same ∙ e,
     )
 
 pub refill-spec : {M : Type 1} → statement M
