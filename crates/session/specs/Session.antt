@@ -13,7 +13,7 @@ use Rattle.rules.specs.Call.{State, fresh, answer, next}
 use Rattle.calls.specs.Contract.{Memory, Layout, Fresh}
 use Rattle.calls.specs.Claim.{Step, Trace}
 use Rattle.transcript.specs.Input.{firstFrame, Begins}
-use Rattle.transcript.specs.Line.{lineOf, recordSize, lineIn}
+use Rattle.transcript.specs.Line.{lineOf, recordSize, longestLine, lineIn}
 use Rattle.memory.specs.declared.Agent.{Agent}
 use Rattle.memory.specs.Layout.{Flat, memory}
 use Rattle.session.specs.declared.Advanced.{Advanced}
@@ -40,9 +40,9 @@ bufferAfter buffer (w ∷ ws) = bufferAfter (w .result .answer) ws
 
 -- ---- their lines
 
--- the line of a call, made from its frame and the bytes of its answer; the longest line has 112,980 bytes
+-- the line of a call, made from its frame and the bytes of its answer
 abbrev pub lineOfCall : ℕ → List ℕ → List ℕ → List ℕ
-lineOfCall ordinal frame answer = lineIn 112_980 ordinal (recordSize frame) answer
+lineOfCall ordinal frame answer = lineIn longestLine ordinal (recordSize frame) answer
 
 abbrev pub lineOfStep : {A : Type 0} → ℕ → Step A → List ℕ
 lineOfStep ordinal w = lineOfCall ordinal (w .input .frame) (w .result .answer)
@@ -96,7 +96,7 @@ pub record CallsMade (agent : Agent) (first : ℕ) (input store answer out : Lis
 -- the last of 64 bits, or the longest line has no room.
 abbrev pub Stops : Bool → List ℕ → ℕ → ℕ → ℕ → Type 0
 Stops true rest ordinal end room = (firstFrame rest ≡ none) × (length rest ≤ 65_536)
-Stops false rest ordinal end room = (ordinal ≡ 18446744073709551615) ⊎ (room < end + 112_980)
+Stops false rest ordinal end room = (ordinal ≡ 18446744073709551615) ⊎ (room < end + longestLine)
 
 -- The contract of `advance`: it made the calls of its input, and stopped only where it had to.
 pub record AdvanceContract (agent : Agent) (first : ℕ) (input store answer out : List ℕ)

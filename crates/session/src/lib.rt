@@ -4,6 +4,7 @@ ghost use Prim.Native.Nat.{_+_, _-_, _≤_};
 ghost use lib.ListN.{length};
 ghost use Rattle.rules.specs.Bytes.{part};
 ghost use Rattle.buffers.specs.Splice.{splice};
+ghost use Rattle.transcript.specs.Line.{longestLine};
 ghost use Rattle.session.specs.Session.{lineOfCall, AdvanceContract};
 use memory::Agent;
 use transcript::Next;
@@ -18,14 +19,14 @@ pub struct Advanced {
     pub waiting: bool,
 }
 
-// Adds the line of a call at `end`, where the longest, of 112,980 bytes, has room; where it ends.
+// Adds the line of a call at `end`, where the longest has room; where it ends.
 fn print(ordinal: u64, frame: &[u8], answer: &[u8], out: &mut [u8], end: usize) -> usize
-    requires { ⌜ end + 112_980 ≤ length (now out) ⌝ }
+    requires { ⌜ end + longestLine ≤ length (now out) ⌝ }
     ensures next { λ r. ⌜ r ≡ end + length (lineOfCall ordinal (now (frame .entry)) (now (answer .entry))) ⌝ }
     ensures bytes { λ _. ⌜ now (out .exit) ≡ splice (now (out .entry)) end (lineOfCall ordinal (now (frame .entry)) (now (answer .entry))) ⌝ }
 {
     let size = transcript::record_size(frame);
-    let limit = end + 112980;
+    let limit = end + transcript::LONGEST_LINE;
     end + transcript::write_line(ordinal, answer, size, &mut out[end..limit])
 }
 
@@ -46,7 +47,7 @@ pub fn advance(
     let mut at: usize = 0;
     let mut end: usize = 0;
     // the last ordinal of 64 bits is never reached
-    while ordinal < u64::MAX && 112980 <= out.len() - end {
+    while ordinal < u64::MAX && transcript::LONGEST_LINE <= out.len() - end {
         let next = transcript::next_frame(&input[at..]);
         let Next::Frame(n) = next else {
             return Advanced {

@@ -10,6 +10,9 @@ ghost use Rattle.transcript.specs.Input.{firstFrame, frameIn, WithinInpu
 ghost use Rattle.transcript.specs.Line.{digit, digits, decimal, hex, field, recordsHex, recordSize, fits, lineIn};
 use numbers::integer;
 
+// The length of the longest line: that of 256 entries, with 84 characters at most beside the records.
+pub const LONGEST_LINE: usize = 112980;
+
 // The first frame of an input, from byte 2 to an end; or none, where the input ends or breaks off.
 pub enum Next {
     Frame(usize),
