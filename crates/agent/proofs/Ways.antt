@@ -20,7 +20,7 @@ use Rattle.rules.specs.Sound.{Sound}
 use Rattle.rules.proofs.Refused.{pipeline-refused}
 use Rattle.rules.proofs.Tests.{and-true}
 use Rattle.buffers.specs.Splice.{splice}
-use Rattle.answers.proofs.Answers.{head-alone}
+use Rattle.answers.proofs.AnswerBytes.{head-alone}
 use Rattle.arbitration.specs.declared.Outcome.{Outcome}
 use Rattle.arbitration.specs.Meaning.{streamsOf, outcomeOf}
 use Rattle.calls.specs.Contract.{Memory, Result, Correct, Contract}

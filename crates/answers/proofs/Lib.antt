@@ -1,2 +1,2 @@
 -- Laws of answers as bytes.
-pub mod Answers
+pub mod AnswerBytes

@@ -29,10 +29,10 @@ use Rattle.rules.proofs.Presence.{presence}
 use Rattle.calls.specs.Contract.{Memory, Input, Result, callOf, requested, Layout, Represents, Fresh, FreeBytes, Correct, Contract}
 use Rattle.calls.specs.Claim.{Step, Trace, callsOf, AnsweredAlike, AskAlike, Place, ListClaim, Demand3}
 
--- ---- where a list has come to
+-- ---- the state that a list reaches
 
 -- a memory that calls leave, the state that it represents, and the calls ws that come then
-pub record Arrived {A : Type 0} (L : Layout A) (room : ℕ) (s : State) (ws : List (Step A)) : Type 0 where
+pub record Reached {A : Type 0} (L : Layout A) (room : ℕ) (s : State) (ws : List (Step A)) : Type 0 where
   pub memory : Memory A
   pub sound : Sound s
   pub long : length (memory .store) ≡ room
@@ -40,38 +40,38 @@ pub record Arrived {A : Type 0} (L : Layout A) (room : ℕ) (s : State) (ws : Li
   pub trace : Trace L memory ws
 
 -- one call: what it did, and where it leads
-module _ {A : Type 0} (L : Layout A) {room : ℕ} {s : State} {w : Step A} {ws : List (Step A)} (a : Arrived L room s (w ∷ ws)) where
-  abbrev does : Command
-  does = commandOf room (callOf (w .input))
+module _ {A : Type 0} (L : Layout A) {room : ℕ} {s : State} {w : Step A} {ws : List (Step A)} (a : Reached L room s (w ∷ ws)) where
+  abbrev command : Command
+  command = commandOf room (callOf (w .input))
 
-  met : Correct L s does (a .memory) (w .input .buffer) (w .result)
+  correct : Correct L s command (a .memory) (w .input .buffer) (w .result)
   unfolding Trace
-  met = rw (← a .long) (a .trace .0 s (a .sound) (a .state))
+  correct = rw (← a .long) (a .trace .0 s (a .sound) (a .state))
 
-  pub replied : (w .result .reason ≡ reply s does .returned)
-      × (w .result .answer ≡ reply s does .written ++ drop (length (reply s does .written)) (w .input .buffer))
-  replied = (met .returned, met .filled)
+  pub replied : (w .result .reason ≡ reply s command .returned)
+      × (w .result .answer ≡ reply s command .written ++ drop (length (reply s command .written)) (w .input .buffer))
+  replied = (correct .returned, correct .filled)
 
-  pub onward : Arrived L room (next s does) ws
+  pub onward : Reached L room (next s command) ws
   unfolding Trace
   onward = record {
     memory = w .result .memory;
-    sound = next-sound s does (call-formed room (callOf (w .input))) (a .sound);
-    long = met .room ∙ a .long;
-    state = met .state;
+    sound = next-sound s command (call-formed room (callOf (w .input))) (a .sound);
+    long = correct .room ∙ a .long;
+    state = correct .state;
     trace = a .trace .1;
   }
 
 module _ {A : Type 0} (L : Layout A) where
-  arrives : (room : ℕ) (s : State) (before ws : List (Step A)) → Arrived L room s (before ++ ws)
-      → Arrived L room (run s (commandsOf room (callsOf before))) ws
+  reaches : (room : ℕ) (s : State) (before ws : List (Step A)) → Reached L room s (before ++ ws)
+      → Reached L room (run s (commandsOf room (callsOf before))) ws
   unfolding run
-  arrives room s [] ws a = a
-  arrives room s (b ∷ before) ws a = arrives room (next s (commandOf room (callOf (b .input)))) before ws (onward L a)
+  reaches room s [] ws a = a
+  reaches room s (b ∷ before) ws a = reaches room (next s (commandOf room (callOf (b .input)))) before ws (onward L a)
 
   -- a list from a fresh agent
   pub starts : (device : ℕ) (start : Memory A) (ws : List (Step A)) → Fresh L device (start .agent) → Trace L start ws
-      → Arrived L (length (start .store)) (fresh device) ws
+      → Reached L (length (start .store)) (fresh device) ws
   starts device start ws f l = record {
     memory = start;
     sound = fresh-agent device;
@@ -92,7 +92,7 @@ pair-in i b rest h =
 -- an accepted READ's bytes, and how long an accepted WRITE's are
 read-bytes : (p : History) (q : Query) → accepted (stateSeen p) (onTables (READ q)) ≡ true
     → replySeen p (onTables (READ q)) .written
-    ≡ 0 ∷ 0 ∷ bytesOf 2 (length (readSeen (p .control .rows) q (present (p .effects)))) ++ concat (readSeen (p .control .rows) q (present (p .effects)))
+    ≡ (let found = readSeen (p .control .rows) q (present (p .effects)) in 0 ∷ 0 ∷ bytesOf 2 (length found) ++ concat found)
 unfolding replySeen replyOf answerSeen answerBytes codeOf pairs
 read-bytes p q e =
     ap (λ (b : Bool). replyOf (if b then record { reason = 0; records = readSeen (p .control .rows) q (present (p .effects)) } else
@@ -107,9 +107,15 @@ write-length : (p : History) (h : Head) (atomicity : ℕ) (us : List Update) →
 unfolding replySeen replyOf answerSeen answerBytes
 write-length p h atomicity us e = rw e (go (someFails p (h .role) us))
   where
-    go : (b : Bool) → length (replyOf (record { reason = if b then 23 else 0; records = pairsSeen p (h .role) atomicity us }) .written) ≡ 4 + 2 * length us
-    go true = head-length 23 (codeOf 23) (length (pairsSeen p (h .role) atomicity us)) (concat (pairsSeen p (h .role) atomicity us)) ∙ ap (λ (n : ℕ). 4 + n) (pairs-length (h .role) p atomicity us)
-    go false = head-length 0 (codeOf 0) (length (pairsSeen p (h .role) atomicity us)) (concat (pairsSeen p (h .role) atomicity us)) ∙ ap (λ (n : ℕ). 4 + n) (pairs-length (h .role) p atomicity us)
+    rs : List (List ℕ)
+    rs = pairsSeen p (h .role) atomicity us
+
+    size : (r : ℕ) → length (r ∷ codeOf r ∷ bytesOf 2 (length rs) ++ concat rs) ≡ 4 + 2 * length us
+    size r = head-length r (codeOf r) (length rs) (concat rs) ∙ ap (λ (n : ℕ). 4 + n) (pairs-length (h .role) p atomicity us)
+
+    go : (b : Bool) → length (replyOf (record { reason = if b then 23 else 0; records = rs }) .written) ≡ 4 + 2 * length us
+    go true = size 23
+    go false = size 0
 
 module _ {A : Type 0} (L : Layout A) (device : ℕ) (start : Memory A) (f : Fresh L device (start .agent)) (before : List (Step A)) (w : Step A) where
   abbrev room : ℕ
@@ -133,8 +139,8 @@ module _ {A : Type 0} (L : Layout A) (device : ℕ) (start : Memory A) (f : Fres
   agrees = agreement room device calls (callOf (w .input)) .replies
 
   module _ (after : List (Step A)) (l : Trace L start (before ++ w ∷ after)) where
-    here : Arrived L room s (w ∷ after)
-    here = arrives L room (fresh device) before (w ∷ after) (starts L device start (before ++ w ∷ after) f l)
+    here : Reached L room s (w ∷ after)
+    here = reaches L room (fresh device) before (w ∷ after) (starts L device start (before ++ w ∷ after) f l)
 
     is-returned : w .result .reason ≡ replySeen p c .returned
     is-returned = replied L here .0 ∙ ap (λ (r : Reply). r .returned) agrees
@@ -149,14 +155,15 @@ module _ {A : Type 0} (L : Layout A) (device : ℕ) (start : Memory A) (f : Fres
         (agreement room device calls (callOf (w .input)) .acceptance)
 
     is-read : (q : Query) → c ≡ onTables (READ q) → accepted (stateSeen p) c ≡ true →
-        let asked = readSeen (p .control .rows) q (present (p .effects)) in
-        w .result .answer ≡ (0 ∷ 0 ∷ bytesOf 2 (length asked) ++ concat asked) ++ drop (4 + length (concat asked)) (w .input .buffer)
+        let found = readSeen (p .control .rows) q (present (p .effects)) in
+        w .result .answer ≡ (0 ∷ 0 ∷ bytesOf 2 (length found) ++ concat found) ++ drop (4 + length (concat found)) (w .input .buffer)
     is-read q e a =
-        let asked : List (List ℕ) = readSeen (p .control .rows) q (present (p .effects)) in
-        let b : replySeen p c .written ≡ 0 ∷ 0 ∷ bytesOf 2 (length asked) ++ concat asked =
+        let found : List (List ℕ) = readSeen (p .control .rows) q (present (p .effects)) in
+        let b : replySeen p c .written ≡ 0 ∷ 0 ∷ bytesOf 2 (length found) ++ concat found =
         ap (λ (x : Command). replySeen p x .written) e ∙ read-bytes p q (subst (λ (x : Command). accepted (stateSeen p) x ≡ true) e a) in
         is-filled ∙ ap (λ (x : List ℕ). x ++ drop (length x) (w .input .buffer)) b
-        ∙ ap (λ (n : ℕ). (0 ∷ 0 ∷ bytesOf 2 (length asked) ++ concat asked) ++ drop n (w .input .buffer)) (head-length 0 0 (length asked) (concat asked))
+        ∙ ap (λ (n : ℕ). (0 ∷ 0 ∷ bytesOf 2 (length found) ++ concat found) ++ drop n (w .input .buffer))
+        (head-length 0 0 (length found) (concat found))
 
     -- the count in the answer's head
     counts : (c ≡ tooShort → ⊥) → int 2 2 (w .result .answer) ≡ length (answer s c .records)
@@ -205,13 +212,15 @@ module _ {A : Type 0} (L : Layout A) (device : ℕ) (start : Memory A) (f : Fres
             (λ z. absurd (let l = z .0 in omega (arith, l)), λ t. absurd (false≢true t))
 
   -- a READ in its stead and after it
-  reads-alike : (q : Query) → reply s (onTables (READ q)) ≡ reply (next s c) (onTables (READ q)) → (x y : Step A) → requested start (x .input) ≡ onTables (READ q)
-      → y .input ≡ x .input → Trace L start (before ++ x ∷ []) → Trace L start (before ++ w ∷ y ∷ []) → AnsweredAlike x y
+  reads-alike : (q : Query) → reply s (onTables (READ q)) ≡ reply (next s c) (onTables (READ q)) → (x y : Step A)
+      → requested start (x .input) ≡ onTables (READ q) → y .input ≡ x .input
+      → Trace L start (before ++ x ∷ []) → Trace L start (before ++ w ∷ y ∷ []) → AnsweredAlike x y
   reads-alike q same x y e i lx ly =
-      let ax = replied L (arrives L room (fresh device) before (x ∷ []) (starts L device start (before ++ x ∷ []) f lx)) in
-      let ay = replied L (onward L (arrives L room (fresh device) before (w ∷ y ∷ []) (starts L device start (before ++ w ∷ y ∷ []) f ly))) in
+      let ax = replied L (reaches L room (fresh device) before (x ∷ []) (starts L device start (before ++ x ∷ []) f lx)) in
+      let ay = replied L (onward L (reaches L room (fresh device) before (w ∷ y ∷ []) (starts L device start (before ++ w ∷ y ∷ []) f ly))) in
       let ey : commandOf room (callOf (y .input)) ≡ onTables (READ q) = ap (λ (j : Input). commandOf room (callOf j)) i ∙ e in
-      let r : reply s (commandOf room (callOf (x .input))) ≡ reply (next s c) (commandOf room (callOf (y .input))) = ap (reply s) e ∙ same ∙ ap (reply (next s c)) (sym ey) in (
+      let r : reply s (commandOf room (callOf (x .input))) ≡ reply (next s c) (commandOf room (callOf (y .input))) =
+      ap (reply s) e ∙ same ∙ ap (reply (next s c)) (sym ey) in (
         ax .0 ∙ ap (λ (t : Reply). t .returned) r ∙ sym (ay .0),
         ax .1 ∙ ap₂ (λ (t : Reply) (j : Input). t .written ++ drop (length (t .written)) (j .buffer)) r (sym i) ∙ sym (ay .1),
       )
@@ -256,8 +265,8 @@ module _ {A : Type 0} (L : Layout A) where
           (sound room′ device calls .tables .shortest)
 
   -- two lists from one state, with stores of one length
-  all-alike : (start : Memory A) (s : State) (ws xs : List (Step A)) → Arrived L (length (start .store)) s ws
-      → Arrived L (length (start .store)) s xs → Pointwise (AskAlike start) ws xs → Pointwise AnsweredAlike ws xs
+  all-alike : (start : Memory A) (s : State) (ws xs : List (Step A)) → Reached L (length (start .store)) s ws
+      → Reached L (length (start .store)) s xs → Pointwise (AskAlike start) ws xs → Pointwise AnsweredAlike ws xs
   all-alike start s [] [] a b h = tt
   all-alike start s [] (x ∷ xs) a b h = absurd h
   all-alike start s (w ∷ ws) [] a b h = absurd h
@@ -265,7 +274,7 @@ module _ {A : Type 0} (L : Layout A) where
       let c : Command = requested start (w .input) in
       let d : Command = requested start (x .input) in
       let r : reply s c ≡ reply s d = key-alone .answers s c d (h .0 .1) in
-      let more = subst (λ (t : State). Arrived L (length (start .store)) t xs) (sym (key-alone .states s c d (h .0 .1))) (onward L b) in (
+      let more = subst (λ (t : State). Reached L (length (start .store)) t xs) (sym (key-alone .states s c d (h .0 .1))) (onward L b) in (
         (
           replied L a .0 ∙ ap (λ (t : Reply). t .returned) r ∙ sym (replied L b .0),
           replied L a .1

@@ -10,7 +10,7 @@ use Rattle.rules.specs.Update.{Tables}
 use Rattle.rules.specs.Call.{Call, Control, State, fresh, accepted, commandOf, next, reply}
 use Rattle.rules.specs.Sound.{Sound}
 
--- ---- what a call is given, and what it gives back
+-- ---- what a call is handed, and what comes back
 
 -- What stays from one call to the next: the agent's record (of type A), and the store.
 pub record Memory (A : Type 0) : Type 0 where
@@ -38,9 +38,10 @@ requested m i = commandOf (length (m .store)) (callOf i)
 
 -- ---- layouts
 
--- A *layout* says what a memory means. The record tells the control (device id, streams and rows). Record and store together hold
--- the tables. That is a relation and not a function: where each table has a part of the store to itself, no memory tells in which
--- order the entries of two tables were inserted, and no answer depends on it. `used` is the parts of the store that entries occupy.
+-- A *layout* says what a memory means. The control (device id, streams and rows) is found from the record. Record and store together
+-- hold the tables. That is a relation and not a function: where each table has a part of the store to itself, the order in which
+-- entries of two tables were inserted cannot be found from the memory, and no answer depends on it. `used` is the parts of the store
+-- that entries occupy.
 pub record Layout (A : Type 0) : Type 1 where
   pub control : A → Control
   pub holds : Memory A → Tables → Type 0
@@ -56,7 +57,7 @@ module _ {A : Type 0} (L : Layout A) where
   abbrev pub Fresh : ℕ → A → Type 0
   Fresh device a = (store : List ℕ) → Represents (record { agent = a; store = store }) (fresh device)
 
-  -- What is outside of the parts used is free: the record and the used parts tell what a memory holds.
+  -- What is outside of the parts used is free: the record and the used parts determine what a memory holds.
   abbrev pub FreeBytes : Type 0
   FreeBytes = (m n : Memory A) (t : Tables) → m .agent ≡ n .agent → L .used m ≡ L .used n → L .holds m t → L .holds n t
 

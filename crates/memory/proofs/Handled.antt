@@ -12,7 +12,7 @@ use Rattle.rules.specs.Call.{State, plain, answer, next}
 use Rattle.rules.specs.Sound.{Sound}
 use Rattle.rules.proofs.Formed.{parts-count}
 use Rattle.buffers.specs.Splice.{splice}
-use Rattle.answers.proofs.Answers.{replies, fills}
+use Rattle.answers.proofs.AnswerBytes.{replies, fills}
 use Rattle.store.specs.Store.{tablesIn}
 use Rattle.calls.specs.Contract.{Result, Represents, Correct}
 use Rattle.memory.specs.declared.Agent.{Agent}

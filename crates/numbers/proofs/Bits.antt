@@ -1,6 +1,7 @@
 -- The bits of a number are those of its two halves, so quotients, remainders and masks go by halves. Assumes nothing.
 use Prim.Native.Nat.{ℕ, zero, suc, _+_, _*_, _-_, _^_, _≤_, _<_, _/_, _%_, min}
-use native.Mathlib.Nat.{one-mul, mod-lt, mod-eq-of-lt, mul-assoc, mul-add-mod-self-right, mul-add-div-right, div-add-mod', div-lt-iff-lt-mul, lt-of-le-of-lt, pow-suc}
+use native.Mathlib.Nat.{one-mul, mod-lt, mod-eq-of-lt, mul-assoc, mul-add-mod-self-right, mul-add-div-right, div-add-mod'}
+use native.Mathlib.Nat.{div-lt-iff-lt-mul, lt-of-le-of-lt, pow-suc}
 use native.Mathlib.Omega.{arith}
 use native.Mathlib.Decide.{decLe}
 use mathlib.Core.Path.{_≡_, refl, sym, ap, ap₂, subst, _∙_}
@@ -11,7 +12,7 @@ use lib.Dec.{leb, eqb}
 use lib.Pow.{pow-lt, pow-add, mod-pow-add, shr-shr, high, low}
 use borrow.Author.Tests.{le-leb, lt-leb, eq-eqb, ne-eqb}
 use Rattle.rules.specs.Key.{bitsWithin}
-use Rattle.numbers.proofs.Tests.{eqb-iff}
+use Rattle.numbers.proofs.EquivalentTests.{eqb-iff}
 
 -- 1 shifted
 pub one-shl : (w : ℕ) → w < 64 → (1 * 2 ^ w) % 2 ^ 64 ≡ 2 ^ w
@@ -42,7 +43,7 @@ byte-bits (suc k) =
     let e : 8 * suc k ≡ 8 * k + 8 = omega arith in
     pow-suc 256 k ∙ ap (λ (n : ℕ). n * 256) (byte-bits k) ∙ sym (ap (λ (n : ℕ). 2 ^ n) e ∙ pow-add 2 (8 * k) 8)
 
--- without 64 bits or more, what is left is of the high half
+-- without its lowest 64 bits or more, a number is what remains of its high half
 pub more-off : (h l k : ℕ) → 64 ≤ k → l < 2 ^ 64 → (h * 2 ^ 64 + l) / 2 ^ k ≡ h / 2 ^ (k - 64)
 more-off h l k b p =
     let e : k ≡ 64 + (k - 64) = omega arith in
@@ -53,7 +54,8 @@ more-off h l k b p =
 regroup : (a b d p q : ℕ) → (a * p + b) * q + d ≡ a * (q * p) + (d + b * q)
 regroup a b d p q = omega arith
 
--- without fewer, the high half's lowest bits go to the top of the low half; p is 2 to their number, q to that of those left
+-- without fewer, the lowest bits of the high half become the top of the low half; p is 2 to their number, and q is 2 to the number of
+-- the others
 module _ (h l p q : ℕ) (some : 0 < p) (e : q * p ≡ 2 ^ 64) where
   pub fewer-off : (h * 2 ^ 64 + l) / p ≡ h / p * 2 ^ 64 + (l / p + h % p * q)
   fewer-off =

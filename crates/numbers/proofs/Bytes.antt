@@ -1,6 +1,7 @@
--- A byte more moves what stands before it up by 256, so bytes read or written in parts are those of the whole. Assumes nothing.
+-- One more byte multiplies what comes before it by 256, so bytes read or written in parts are those of the whole. Assumes nothing.
 use Prim.Native.Nat.{ℕ, zero, suc, _+_, _*_, _/_, _%_, _^_, _<_, _≤_}
-use native.Mathlib.Nat.{add-zero, add-suc, pow-suc, pow-succ', mul-add-div-right, mul-add-mod-self-right, div-lt-iff-lt-mul, div-one, div-div-eq-div-mul}
+use native.Mathlib.Nat.{add-zero, add-suc, pow-suc, pow-succ', mul-add-div-right, mul-add-mod-self-right}
+use native.Mathlib.Nat.{div-lt-iff-lt-mul, div-one, div-div-eq-div-mul}
 use native.Mathlib.Numerals.{add-one}
 use native.Mathlib.Omega.{arith}
 use mathlib.Core.Path.{_≡_, refl, sym, ap, subst, _∙_}
@@ -18,7 +19,7 @@ unfolding numberFrom
 from-append x [] m = refl
 from-append x (b ∷ l) m = from-append (x * 256 + b) l m
 
--- what stood before the bytes is moved up by them; p is the place value of the bytes after the first
+-- what comes before the bytes is multiplied by 256 for each of them; p is the place value of the first of them
 first-byte : (x b p v w z : ℕ) → v ≡ (x * 256 + b) * p + z → w ≡ (0 * 256 + b) * p + z → v ≡ x * (p * 256) + w
 first-byte x b p v w z e f = omega arith
 

@@ -9,7 +9,7 @@ use lib.Dec.{leb, ltb, eqb, lit<}
 use borrow.Author.Tests.{ne-eqb}
 use Rattle.numbers.specs.declared.Number.{Number}
 use Rattle.numbers.specs.Whole.{wholeOf}
-use Rattle.numbers.proofs.Tests.{leb-iff, eqb-iff}
+use Rattle.numbers.proofs.EquivalentTests.{leb-iff, eqb-iff}
 
 module _ (a b : Number) where
   module _ (e : a .high ≡ b .high) where

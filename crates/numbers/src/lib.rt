@@ -110,11 +110,11 @@ impl Number {
         if 16 <= n {
             return all;
         }
-        all.without(16 - n)
+        all.shift_right_bytes(16 - n)
     }
 
-    // Without its k lowest bytes, 1 to 16.
-    fn without(self, k: usize) -> Number
+    // Shifted right by k bytes, 1 to 16: the number without its k lowest bytes.
+    fn shift_right_bytes(self, k: usize) -> Number
         requires { ⌜ (1 ≤ k) × (k ≤ 16) ⌝ }
         ensures { λ r. ⌜ wholeOf r ≡ wholeOf self / 256 ^ k ⌝ }
     {

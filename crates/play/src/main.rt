@@ -6,6 +6,7 @@ ghost use mathlib.Core.Option.{none};
 ghost use lib.ListN.{length, take, drop};
 ghost use Rattle.rules.specs.Bytes.{part};
 ghost use Rattle.transcript.specs.Input.{firstFrame, CutAt};
+ghost use Rattle.transcript.specs.Line.{longestLine};
 ghost use Rattle.session.specs.Session.{Session};
 use libc::STDIN_FILENO;
 use libc::STDOUT_FILENO;
@@ -33,14 +34,14 @@ fn refill(input: &mut [u8], at: usize, filled: usize) -> usize
     ensures count { λ r. ⌜ (filled - at ≤ r) × (r ≤ length (now (input .entry))) ⌝ }
     ensures kept { λ _. ⌜ take (filled - at) (now (input .exit)) ≡ part at (filled - at) (now (input .entry)) ⌝ }
 {
-    let rest = session::keep(input, at, filled);
+    let rest = session::compact(input, at, filled);
     rest + read(&mut input[rest..])
 }
 
 // Makes the calls of the whole input: those at hand, then more of it, until it ends. Lines are written out before a read, so that
 // who drives the program gets each answer.
 fn run(agent: Agent, input: &mut [u8], store: &mut [u8], answer: &mut [u8], out: &mut [u8]) -> Ended
-    requires { ⌜ (65_537 ≤ length (now input)) × (112_980 ≤ length (now out)) ⌝ }
+    requires { ⌜ (65_537 ≤ length (now input)) × (longestLine ≤ length (now out)) ⌝ }
     ensures { λ r. ⌜ Session agent 1 (now (store .entry)) (now (answer .entry)) (r .agent) (r .ordinal) (now (store .exit)) (now (answer .exit)) ⌝ }
 {
     let mut state = agent;

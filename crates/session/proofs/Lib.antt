@@ -1,4 +1,4 @@
 -- Laws of the calls that `play` makes.
-pub mod Made
-pub mod Printed
-pub mod Pieces
+pub mod CallsMade
+pub mod PrintsAnswers
+pub mod AnyPieces

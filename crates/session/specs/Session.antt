@@ -13,7 +13,7 @@ use Rattle.rules.specs.Call.{State, fresh, answer, next}
 use Rattle.calls.specs.Contract.{Memory, Layout, Fresh}
 use Rattle.calls.specs.Claim.{Step, Trace}
 use Rattle.transcript.specs.Input.{firstFrame, Begins}
-use Rattle.transcript.specs.Line.{lineOf, recordSize, lineIn}
+use Rattle.transcript.specs.Line.{lineOf, recordSize, longestLine, lineIn}
 use Rattle.memory.specs.declared.Agent.{Agent}
 use Rattle.memory.specs.Layout.{Flat, memory}
 use Rattle.session.specs.declared.Advanced.{Advanced}
@@ -40,9 +40,12 @@ bufferAfter buffer (w ∷ ws) = bufferAfter (w .result .answer) ws
 
 -- ---- their lines
 
--- the line of a call, made from the bytes of its answer; the longest line has 112,980 bytes
+-- the line of a call, made from its frame and the bytes of its answer
+abbrev pub lineOfCall : ℕ → List ℕ → List ℕ → List ℕ
+lineOfCall ordinal frame answer = lineIn longestLine ordinal (recordSize frame) answer
+
 abbrev pub lineOfStep : {A : Type 0} → ℕ → Step A → List ℕ
-lineOfStep ordinal w = lineIn 112_980 ordinal (recordSize (w .input .frame)) (w .result .answer)
+lineOfStep ordinal w = lineOfCall ordinal (w .input .frame) (w .result .answer)
 
 -- the lines of calls, the first with this ordinal, and the ordinals rising by one
 unfoldable pub lines : {A : Type 0} → ℕ → List (Step A) → List ℕ
@@ -66,18 +69,20 @@ PrintsAnswers {A} L =
 
 -- ---- what `advance` does
 
--- A *session*: calls made one after the other, the first with the ordinal `first`, from an agent, a store and an answer buffer; what
--- they leave for the next call is primed.
-pub record Session (agent : Agent) (first : ℕ) (store answer : List ℕ) (agent′ : Agent) (ordinal : ℕ) (store′ answer′ : List ℕ) : Type 0 where
+-- A *session*: calls made one after the other, the first with the ordinal `first`, from an agent, a store and an answer buffer; as
+-- the next call finds them, they are primed.
+pub record Session (agent : Agent) (first : ℕ) (store answer : List ℕ)
+    (agent′ : Agent) (ordinal : ℕ) (store′ answer′ : List ℕ) : Type 0 where
   pub steps : List (Step Agent)
   pub trace : Trace Flat (memory agent store) steps
   pub buffers : OneBuffer answer steps
   pub ordinals : ordinal ≡ first + length steps
-  pub left : memoryAfter (memory agent store) steps ≡ memory agent′ store′
-  pub buffer : bufferAfter answer steps ≡ answer′
+  pub memory-after : memoryAfter (memory agent store) steps ≡ memory agent′ store′
+  pub buffer-after : bufferAfter answer steps ≡ answer′
 
 -- The calls made of the first `at` bytes of an input, and their lines, which end at `end` of out.
-pub record Made (agent : Agent) (first : ℕ) (input store answer out : List ℕ) (agent′ : Agent) (ordinal at end : ℕ) (store′ answer′ out′ : List ℕ) : Type 0 where
+pub record CallsMade (agent : Agent) (first : ℕ) (input store answer out : List ℕ)
+    (agent′ : Agent) (ordinal at end : ℕ) (store′ answer′ out′ : List ℕ) : Type 0 where
   pub session : Session agent first store answer agent′ ordinal store′ answer′
   -- each call is handed one frame of the input without its length, in order; no byte is skipped and none is used twice
   pub frames : Begins input (framesOf (session .steps)) (drop at input)
@@ -91,17 +96,19 @@ pub record Made (agent : Agent) (first : ℕ) (input store answer out : List ℕ
 -- the last of 64 bits, or the longest line has no room.
 abbrev pub Stops : Bool → List ℕ → ℕ → ℕ → ℕ → Type 0
 Stops true rest ordinal end room = (firstFrame rest ≡ none) × (length rest ≤ 65_536)
-Stops false rest ordinal end room = (ordinal ≡ 18446744073709551615) ⊎ (room < end + 112_980)
+Stops false rest ordinal end room = (ordinal ≡ 18446744073709551615) ⊎ (room < end + longestLine)
 
--- What `advance` leaves: it made the calls of its input, and stopped only where it had to.
-pub record Plays (agent : Agent) (first : ℕ) (input store answer out : List ℕ) (r : Advanced) (store′ answer′ out′ : List ℕ) : Type 0 where
-  pub made : Made agent first input store answer out (r .agent) (r .ordinal) (r .at) (r .end) store′ answer′ out′
+-- The contract of `advance`: it made the calls of its input, and stopped only where it had to.
+pub record AdvanceContract (agent : Agent) (first : ℕ) (input store answer out : List ℕ)
+    (r : Advanced) (store′ answer′ out′ : List ℕ) : Type 0 where
+  pub made : CallsMade agent first input store answer out (r .agent) (r .ordinal) (r .at) (r .end) store′ answer′ out′
   pub stops : Stops (r .waiting) (drop (r .at) input) (r .ordinal) (r .end) (length out)
 
 -- ---- an input that is read in pieces
 
 -- An input was played up to a rest: the calls that were made of it, and the text that was printed.
-pub record Played (agent : Agent) (first : ℕ) (input store answer : List ℕ) (agent′ : Agent) (ordinal : ℕ) (rest store′ answer′ text : List ℕ) : Type 0 where
+pub record Played (agent : Agent) (first : ℕ) (input store answer : List ℕ)
+    (agent′ : Agent) (ordinal : ℕ) (rest store′ answer′ text : List ℕ) : Type 0 where
   pub session : Session agent first store answer agent′ ordinal store′ answer′
   pub frames : Begins input (framesOf (session .steps)) rest
   pub printed : text ≡ lines first (session .steps)
@@ -110,7 +117,7 @@ pub record Played (agent : Agent) (first : ℕ) (input store answer : List ℕ) 
 pub record InAnyPieces : Type 0 where
   -- `advance` plays its input, and the text is the first bytes of out
   pub piece : {agent agent′ : Agent} {first ordinal at end : ℕ} {input store answer out store′ answer′ out′ : List ℕ}
-      → Made agent first input store answer out agent′ ordinal at end store′ answer′ out′
+      → CallsMade agent first input store answer out agent′ ordinal at end store′ answer′ out′
       → Played agent first input store answer agent′ ordinal (drop at input) store′ answer′ (take end out′)
   -- what is left of a piece is kept before the next: the two are played as one
   pub pieces : {agent agent₁ agent₂ : Agent} {first ordinal₁ ordinal₂ : ℕ} {store answer store₁ answer₁ store₂ answer₂ : List ℕ}
@@ -120,8 +127,8 @@ pub record InAnyPieces : Type 0 where
       → Played agent first (input ++ more) store answer agent₂ ordinal₂ rest₂ store₂ answer₂ (text₁ ++ text₂)
   -- where no whole frame is left, from a fresh agent and with buffers that are long enough, the text is the lines of the rules' answers
   -- to the frames into which the input is cut
-  pub whole : {agent agent′ : Agent} {first ordinal : ℕ} {input store answer store′ answer′ rest text : List ℕ} (device : ℕ) → Fresh Flat device agent
-      → 56_320 ≤ length store → 57_344 ≤ length answer
+  pub whole : {agent agent′ : Agent} {first ordinal : ℕ} {input store answer store′ answer′ rest text : List ℕ} (device : ℕ)
+      → Fresh Flat device agent → 56_320 ≤ length store → 57_344 ≤ length answer
       → Played agent first input store answer agent′ ordinal rest store′ answer′ text → firstFrame rest ≡ none
       → (fs : List (List ℕ)) (last : List ℕ) → Begins input fs last → firstFrame last ≡ none
       → text ≡ linesFrom first (fresh device) fs

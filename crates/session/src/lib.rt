@@ -4,8 +4,8 @@ ghost use Prim.Native.Nat.{_+_, _-_, _≤_};
 ghost use lib.ListN.{length};
 ghost use Rattle.rules.specs.Bytes.{part};
 ghost use Rattle.buffers.specs.Splice.{splice};
-ghost use Rattle.transcript.specs.Line.{recordSize, lineIn};
-ghost use Rattle.session.specs.Session.{Plays};
+ghost use Rattle.transcript.specs.Line.{longestLine};
+ghost use Rattle.session.specs.Session.{lineOfCall, AdvanceContract};
 use memory::Agent;
 use transcript::Next;
 
@@ -19,14 +19,14 @@ pub struct Advanced {
     pub waiting: bool,
 }
 
-// Adds the line of a call at `end`, where the longest, of 112,980 bytes, has room; where it ends.
+// Adds the line of a call at `end`, where the longest has room; where it ends.
 fn print(ordinal: u64, frame: &[u8], answer: &[u8], out: &mut [u8], end: usize) -> usize
-    requires { ⌜ end + 112_980 ≤ length (now out) ⌝ }
-    ensures next { λ r. ⌜ r ≡ end + length (lineIn 112_980 ordinal (recordSize (now (frame .entry))) (now (answer .entry))) ⌝ }
-    ensures bytes { λ _. ⌜ now (out .exit) ≡ splice (now (out .entry)) end (lineIn 112_980 ordinal (recordSize (now (frame .entry))) (now (answer .entry))) ⌝ }
+    requires { ⌜ end + longestLine ≤ length (now out) ⌝ }
+    ensures next { λ r. ⌜ r ≡ end + length (lineOfCall ordinal (now (frame .entry)) (now (answer .entry))) ⌝ }
+    ensures bytes { λ _. ⌜ now (out .exit) ≡ splice (now (out .entry)) end (lineOfCall ordinal (now (frame .entry)) (now (answer .entry))) ⌝ }
 {
     let size = transcript::record_size(frame);
-    let limit = end + 112980;
+    let limit = end + transcript::LONGEST_LINE;
     end + transcript::write_line(ordinal, answer, size, &mut out[end..limit])
 }
 
@@ -39,14 +39,15 @@ pub fn advance(
     answer: &mut [u8],
     out: &mut [u8],
 ) -> Advanced
-    ensures { λ r. ⌜ Plays agent first (now (input .entry)) (now (store .entry)) (now (answer .entry)) (now (out .entry)) r (now (store .exit)) (now (answer .exit)) (now (out .exit)) ⌝ }
+    ensures { λ r. ⌜ AdvanceContract agent first (now (input .entry)) (now (store .entry)) (now (answer .entry)) (now (out .entry))
+        r (now (store .exit)) (now (answer .exit)) (now (out .exit)) ⌝ }
 {
     let mut state = agent;
     let mut ordinal = first;
     let mut at: usize = 0;
     let mut end: usize = 0;
     // the last ordinal of 64 bits is never reached
-    while ordinal < u64::MAX && 112980 <= out.len() - end {
+    while ordinal < u64::MAX && transcript::LONGEST_LINE <= out.len() - end {
         let next = transcript::next_frame(&input[at..]);
         let Next::Frame(n) = next else {
             return Advanced {
@@ -75,7 +76,7 @@ pub fn advance(
 }
 
 // Moves the bytes of the input from `at` on, up to `filled`, to its start; how many there are.
-pub fn keep(input: &mut [u8], at: usize, filled: usize) -> usize
+pub fn compact(input: &mut [u8], at: usize, filled: usize) -> usize
     requires { ⌜ (at ≤ filled) × (filled ≤ length (now input)) ⌝ }
     ensures count { λ r. ⌜ r ≡ filled - at ⌝ }
     ensures bytes { λ _. ⌜ now (input .exit) ≡ splice (now (input .entry)) 0 (part at (filled - at) (now (input .entry))) ⌝ }

@@ -16,7 +16,7 @@ use Rattle.rules.specs.Update.{Batch}
 use Rattle.buffers.specs.Splice.{splice}
 use Rattle.batches.specs.declared.Written.{Written}
 use Rattle.batches.specs.Batch.{BatchApplied}
-use Rattle.answers.proofs.Answers.{replies, fills}
+use Rattle.answers.proofs.AnswerBytes.{replies, fills}
 use Rattle.calls.specs.Contract.{Correct}
 use Rattle.memory.specs.declared.Agent.{Agent}
 use Rattle.memory.specs.Layout.{controlOf, Flat, memory, result}

@@ -1,5 +1,5 @@
 -- An input is cut into the same frames whether it comes whole or in pieces: a frame that is whole stays the first whatever comes
--- behind it. Assumes nothing.
+-- after it. Assumes nothing.
 use Prim.Native.Nat.{ℕ, _+_, _-_, _≤_}
 use native.Mathlib.Omega.{arith}
 use mathlib.Core.Path.{_≡_, refl, sym, ap, ap₂, subst, _∙_}
@@ -42,7 +42,7 @@ found-length input f e =
     ap length (w .bytes) ∙ length-take-le (int 0 2 input) (drop 2 input) (omega (arith, w .within, length-drop 2 input)) in
     omega (arith, w .within)
 
--- and stays the first, whatever comes behind
+-- and it stays the first, whatever comes after it
 pub found-more : (input more f : List ℕ) → firstFrame input ≡ some f → firstFrame (input ++ more) ≡ some f
 found-more input more f e =
     let w = found input f e in
@@ -58,12 +58,14 @@ found-more input more f e =
 
 -- ---- all frames
 
-pub begins-append : (input : List ℕ) (fs gs : List (List ℕ)) (mid rest : List ℕ) → Begins input fs mid → Begins mid gs rest → Begins input (fs ++ gs) rest
+pub begins-append : (input : List ℕ) (fs gs : List (List ℕ)) (mid rest : List ℕ)
+    → Begins input fs mid → Begins mid gs rest → Begins input (fs ++ gs) rest
 unfolding Begins
 begins-append input [] gs mid rest b c = rw b c
 begins-append input (f ∷ fs) gs mid rest b c = (b .0, begins-append (drop (2 + length f) input) fs gs mid rest (b .1) c)
 
-pub begins-more : (input : List ℕ) (fs : List (List ℕ)) (rest more : List ℕ) → Begins input fs rest → Begins (input ++ more) fs (rest ++ more)
+pub begins-more : (input : List ℕ) (fs : List (List ℕ)) (rest more : List ℕ)
+    → Begins input fs rest → Begins (input ++ more) fs (rest ++ more)
 unfolding Begins
 begins-more input [] rest more b = ap (λ (l : List ℕ). l ++ more) b
 begins-more input (f ∷ fs) rest more b = (
@@ -89,8 +91,9 @@ begins-only input (f ∷ fs) (g ∷ gs) rest last b n c m =
     let p = b .0 in
     let q = c .0 in
     let e : f ≡ g = cc in
-    let r : (fs ≡ gs) × (rest ≡ last) =
-    begins-only (drop (2 + length f) input) fs gs rest last (b .1) n (subst (λ (x : List ℕ). Begins (drop (2 + length x) input) gs last) (sym e) (c .1)) m in
+    let c′ : Begins (drop (2 + length f) input) gs last =
+    subst (λ (x : List ℕ). Begins (drop (2 + length x) input) gs last) (sym e) (c .1) in
+    let r : (fs ≡ gs) × (rest ≡ last) = begins-only (drop (2 + length f) input) fs gs rest last (b .1) n c′ m in
     (ap₂ (λ (x : List ℕ) (xs : List (List ℕ)). x ∷ xs) e (r .0), r .1)
 
 -- ---- where bytes are cut
@@ -100,7 +103,8 @@ unfolding Begins
 cut-none bytes = record { frames = []; begins = refl }
 
 -- further on, by frames that the bytes from there on begin with
-pub cut-more : {bytes : List ℕ} {at : ℕ} (n : ℕ) (fs : List (List ℕ)) → CutAt bytes at → Begins (drop at bytes) fs (drop n (drop at bytes)) → CutAt bytes (at + n)
+pub cut-more : {bytes : List ℕ} {at : ℕ} (n : ℕ) (fs : List (List ℕ))
+    → CutAt bytes at → Begins (drop at bytes) fs (drop n (drop at bytes)) → CutAt bytes (at + n)
 cut-more {bytes} {at} n fs c b = record {
   frames = c .frames ++ fs;
   begins = subst (Begins bytes (c .frames ++ fs)) (drop-drop n at bytes)

@@ -76,7 +76,8 @@ printed-length ordinal reason code n size l h =
     let rs : List (List ℕ) = parts n size l in
     let e : length (recordsHex rs) ≡ (1 + 2 * size) * n =
     records-length size rs (parts-lengths n size l (omega (arith, mul-comm n size))) ∙ ap (λ (k : ℕ). (1 + 2 * size) * k) (parts-count n size l) in
-    let s : length (printed ordinal reason code rs) ≡ length (field ordinal) + (length (field reason) + (length (field code) + length (decimal n))) + (length (recordsHex rs) + 1) =
+    let numbers : ℕ = length (field ordinal) + (length (field reason) + (length (field code) + length (decimal n))) in
+    let s : length (printed ordinal reason code rs) ≡ numbers + (length (recordsHex rs) + 1) =
     ap length (printed-split ordinal reason code n rs (parts-count n size l)) ∙ simp length-append in
     omega (arith, field-few ordinal, field-few reason, field-few code, digits-few 20 n)
 
@@ -89,4 +90,5 @@ lineIn-length room ordinal size answer = go (fits room size answer) refl
     go true q =
         let f = fitting room size answer q in
         let l : size * int 2 2 answer ≤ length (drop 4 answer) = omega (arith, f .whole, length-drop 4 answer) in
-        omega (arith, f .space, ap length (lineIn-whole room ordinal size answer q), printed-length ordinal (byte 0 answer) (byte 1 answer) (int 2 2 answer) size (drop 4 answer) l)
+        let p = printed-length ordinal (byte 0 answer) (byte 1 answer) (int 2 2 answer) size (drop 4 answer) l in
+        omega (arith, f .space, ap length (lineIn-whole room ordinal size answer q), p)

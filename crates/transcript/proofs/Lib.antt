@@ -1,7 +1,7 @@
 -- Laws of what `play` reads and prints.
-pub mod Answers
+pub mod AnswerLines
 pub mod Begins
-pub mod Begun
 pub mod Fitting
 pub mod Input
 pub mod Lines
+pub mod PrefixWritten

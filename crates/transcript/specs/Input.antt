@@ -9,7 +9,7 @@ use lib.Dec.{leb}
 use lib.ListN.{length, drop}
 use Rattle.rules.specs.Bytes.{if_then_else_, int, part}
 use Rattle.transcript.specs.declared.Next.{Next}
-use Rattle.transcript.specs.declared.Next.the-variants.{Frame, Broken}
+use Rattle.transcript.specs.declared.Next.the-variants.{Frame, Incomplete}
 
 -- the first frame of an input; none where it ends or breaks off
 unfoldable pub firstFrame : List ℕ → Option (List ℕ)
@@ -20,12 +20,12 @@ firstFrame input =
 -- what the reader found in an input
 abbrev pub frameIn : Next → List ℕ → Option (List ℕ)
 frameIn (Frame end) input = some (part 2 (end - 2) input)
-frameIn Broken input = none
+frameIn Incomplete input = none
 
--- the frame that was found stands in the input, after its length
-abbrev pub Stands : Next → List ℕ → Type 0
-Stands (Frame end) input = (2 ≤ end) × (end ≤ length input)
-Stands Broken input = Unit {0}
+-- the frame that was found is in the input, after its length
+abbrev pub WithinInput : Next → List ℕ → Type 0
+WithinInput (Frame end) input = (2 ≤ end) × (end ≤ length input)
+WithinInput Incomplete input = Unit {0}
 
 -- an input begins with these frames, each after its length, and goes on with the rest
 unfoldable pub Begins : List ℕ → List (List ℕ) → List ℕ → Type 0

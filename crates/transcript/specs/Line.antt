@@ -66,6 +66,10 @@ fits room size answer =
     let count = int 2 2 answer in
     leb size entrySize && leb 4 (length answer) && leb (4 + size * count) (length answer) && leb (84 + (1 + 2 * size) * count) room
 
+-- the length of the longest line: that of 256 entries, with 84 characters at most beside the records
+abbrev pub longestLine : ℕ
+longestLine = 112_980
+
 -- the line of an answer's bytes, nothing where it does not fit
 unfoldable pub lineIn : ℕ → ℕ → ℕ → List ℕ → List ℕ
 lineIn room ordinal size answer =

@@ -6,27 +6,30 @@ ghost use Prim.Native.Nat.{_+_, _*_, _≤_, _<_};
 ghost use lib.ListN.{length};
 ghost use Rattle.rules.specs.Bytes.{parts};
 ghost use Rattle.buffers.specs.Splice.{splice};
-ghost use Rattle.transcript.specs.Input.{firstFrame, frameIn, Stands};
+ghost use Rattle.transcript.specs.Input.{firstFrame, frameIn, WithinInput};
 ghost use Rattle.transcript.specs.Line.{digit, digits, decimal, hex, field, recordsHex, recordSize, fits, lineIn};
 use numbers::integer;
 
-// The first frame of an input, from byte 2 to an end; or the input ends or breaks off.
+// The length of the longest line: that of 256 entries, with 84 characters at most beside the records.
+pub const LONGEST_LINE: usize = 112980;
+
+// The first frame of an input, from byte 2 to an end; or none, where the input ends or breaks off.
 pub enum Next {
     Frame(usize),
-    Broken,
+    Incomplete,
 }
 
 // The first frame of an input.
 pub fn next_frame(input: &[u8]) -> Next
     ensures found { λ r. ⌜ frameIn r (now (input .entry)) ≡ firstFrame (now (input .entry)) ⌝ }
-    ensures stands { λ r. ⌜ Stands r (now (input .entry)) ⌝ }
+    ensures within { λ r. ⌜ WithinInput r (now (input .entry)) ⌝ }
 {
     if input.len() < 2 {
-        return Next::Broken;
+        return Next::Incomplete;
     }
     let end = 2 + integer(input, 0, 2) as usize;
     if input.len() < end {
-        return Next::Broken;
+        return Next::Incomplete;
     }
     Next::Frame(end)
 }

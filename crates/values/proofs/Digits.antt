@@ -13,7 +13,7 @@ use Rattle.rules.specs.Bytes.{if_then_else_, byte, part}
 use Rattle.rules.specs.Value.{stripped}
 use Rattle.rules.proofs.Lists.{byte-part}
 
--- the k + 1 bytes of v from place i, and which of them stay
+-- the k + 1 bytes of v from place i, and which of them the shortest form keeps
 module _ (v : List ℕ) (i k : ℕ) (inside : i < length v) where
   part-first : part i (suc k) v ≡ byte i v ∷ part (suc i) k v
   part-first = rw (drop-cons v i 0 inside)

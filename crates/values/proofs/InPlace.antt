@@ -1,19 +1,20 @@
--- Bytes replaced where they stand: what is written over them is their shortest form, and the rest stays. Assumes nothing.
+-- Bytes replaced in place: what is written over them is their shortest form, and the others are as they were. Assumes nothing.
 use Prim.Native.Nat.{ℕ, suc, _+_, _-_, _*_, _≤_}
 use native.Mathlib.Nat.{zero-mul}
 use native.Mathlib.Omega.{arith}
 use mathlib.Core.Path.{_≡_, refl, sym, ap, ap₂, _∙_}
 use mathlib.Core.List.{List, [], _∷_, _++_, map, append-assoc}
-use lib.ListN.{length, take, drop, set, replicate, length-append, length-drop, length-set, length-replicate}
+use lib.ListN.{length, take, drop, set, replicate, length-append, length-drop, length-set, length-replicate, take-append-drop}
 use lib.Seq.{take-all, take-append-seam, take-append-le, drop-append-le, drop-at, drop-drop, drop-set-lt, set-getD}
 use Rattle.rules.specs.Bytes.{concat, byte, part, parts}
 use Rattle.rules.specs.Value.{padded, short}
 use Rattle.rules.specs.Key.{kind, shortSlot, shortKey}
 use Rattle.rules.specs.Entry.{parameters, shortEntry}
 use Rattle.rules.proofs.Lists.{part-part}
-use Rattle.rules.proofs.Shortest.{part-length, short-length, key-length, key-of-key}
+use Rattle.rules.proofs.Shortest.{part-length, short-length, key-length, key-of-key, key-of-short}
 use Rattle.buffers.specs.Splice.{splice}
-use Rattle.buffers.proofs.Splice.{splice-none, splice-front, splice-set, splice-next, window-splice, splice-same, splice-over, splice-within, splice-end, splice-before, part-before}
+use Rattle.buffers.proofs.Splice.{splice-none, splice-front, splice-set, splice-next, window-splice, splice-same, splice-over}
+use Rattle.buffers.proofs.Splice.{splice-within, splice-end, splice-before, part-before}
 use Rattle.values.proofs.Digits.{first-byte}
 
 -- ---- parts, the last first
@@ -129,3 +130,7 @@ action-parts e h =
     let l : length (drop 148 e) ≤ 72 = simp length-drop (omega arith) in
     rw (take-all 72 (drop 148 e) l, drop-drop 4 148 e, append-assoc)
     (sym (drop-at (shortKey e) (part 148 4 e ++ concat (map short (parameters e))) 148 (key-length e (omega arith))))
+
+-- an entry is its key and what comes after it
+pub entry-parts : (e : List ℕ) → length e ≡ 220 → shortKey e ++ drop 148 (shortEntry e) ≡ shortEntry e
+entry-parts e h = rw (← key-of-short e h) (take-append-drop 148 (shortEntry e))

@@ -1,4 +1,3 @@
--- Laws of values: which digits stay, pieces written one after the other, and shortest forms made where the bytes stand.
+-- Laws of values: which digits the shortest form keeps, and shortest forms made in place.
 pub mod Digits
-pub mod Pieces
 pub mod InPlace

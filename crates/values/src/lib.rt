@@ -1,4 +1,4 @@
-// Values of 17 bytes, slots of 35, keys and entries: their shortest form, made where they stand
+// Values of 17 bytes, slots of 35, keys and entries: their shortest form, made in place
 // (document 01, "Configuration and entries").
 ghost use mathlib.Core.Path.{_≡_};
 ghost use Prim.Native.Nat.{_+_, _-_, _≤_, _<_};
@@ -11,7 +11,7 @@ ghost use Rattle.rules.specs.Entry.{shortEntry};
 ghost use Rattle.buffers.specs.Splice.{splice};
 use numbers::Number;
 
-// Whether a value stands here: length 1 to 16, padding 0.
+// Whether these 17 bytes are a value: length 1 to 16, padding 0.
 pub fn formed(v: &[u8]) -> bool
     requires { ⌜ length (now v) ≡ 17 ⌝ }
     ensures { λ r. ⌜ r ≡ isValue (now (v .entry)) ⌝ }
@@ -51,7 +51,7 @@ fn significant(v: &[u8], at: usize, n: usize) -> usize
     i
 }
 
-// Moves the digits that stay, of the n digits after `at`, down to the first place; returns how many they are.
+// Moves the digits of the shortest form, of the n digits after `at`, down to the first place; how many they are.
 fn strip_at(dst: &mut [u8], at: usize, n: usize) -> usize
     requires { ⌜ (1 ≤ n) × (at + n < length (now dst)) ⌝ }
     ensures bound { λ r. ⌜ r ≤ n ⌝ }
@@ -78,7 +78,7 @@ fn pad_at(dst: &mut [u8], at: usize, digits: usize)
     buffers::clear(&mut dst[past..end]);
 }
 
-// Brings the value at a place into shortest form, where it stands. The zeros of an unused part stay.
+// Brings the value at a place into shortest form, in place. The zeros of an unused part stay.
 fn shorten_at(dst: &mut [u8], at: usize)
     requires { ⌜ at + 17 ≤ length (now dst) ⌝ }
     ensures { λ _. ⌜ now (dst .exit) ≡ splice (now (dst .entry)) at (short (part at 17 (now (dst .entry)))) ⌝ }
@@ -94,7 +94,7 @@ fn shorten_at(dst: &mut [u8], at: usize)
     pad_at(dst, at, digits);
 }
 
-// Brings the slot of 35 bytes at a place into shortest form, where it stands.
+// Brings the slot of 35 bytes at a place into shortest form, in place.
 fn shorten_slot(dst: &mut [u8], at: usize)
     requires { ⌜ at + 35 ≤ length (now dst) ⌝ }
     ensures { λ _. ⌜ now (dst .exit) ≡ splice (now (dst .entry)) at (shortSlot (part at 35 (now (dst .entry)))) ⌝ }
@@ -104,8 +104,8 @@ fn shorten_slot(dst: &mut [u8], at: usize)
 }
 
 // Writes the key of an entry, its first 148 bytes, in shortest form. All bytes are copied first, since a copy of a
-// known length needs no loop over bytes; then each value is shortened where it stands, the last first: a value is
-// not read just after zeros were written below it, which was seen to be slow.
+// known length needs no loop over bytes; then each value is shortened in place, the last first: a value is not read
+// just after zeros were written below it, which was seen to be slow.
 pub fn shorten_key(entry: &[u8], dst: &mut [u8])
     requires { ⌜ (keySize ≤ length (now entry)) × (keySize ≤ length (now dst)) ⌝ }
     ensures { λ _. ⌜ now (dst .exit) ≡ splice (now (dst .entry)) 0 (shortKey (now (entry .entry))) ⌝ }

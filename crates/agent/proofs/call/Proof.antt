@@ -11,7 +11,7 @@ use Rattle.rules.specs.Call.{longEnough}
 use Rattle.frames.specs.declared.Command.{Command}
 use Rattle.frames.specs.declared.Frame.{Frame}
 use Rattle.frames.specs.Meaning.{eventRead, pipelineRead, commandRead, frameRead, CommandThere, FrameThere}
-use Rattle.answers.proofs.Answers.{head-alone}
+use Rattle.answers.proofs.AnswerBytes.{head-alone}
 use Rattle.agent.proofs.Ways.{lengths, short-met, met, malformed-met, event-met, pipeline-refused-met, pipeline-met}
 use borrow.Author.Needs.{needs}
 use Rattle.agent.proofs.call.Statement.{statement}

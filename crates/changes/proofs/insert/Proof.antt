@@ -7,8 +7,7 @@ use lib.ListN.{length}
 use denote.Ref.{now}
 use Rattle.rules.specs.Entry.{shortEntry}
 use Rattle.rules.proofs.Shortest.{entry-length}
-use Rattle.buffers.proofs.Splice.{drop-splice, length-splice}
-use Rattle.values.proofs.Pieces.{rest-back}
+use Rattle.buffers.proofs.Splice.{drop-splice, length-splice, rest-back}
 use Rattle.store.proofs.Writes.{parts-append}
 use borrow.Author.Needs.{needs}
 use Rattle.changes.proofs.insert.Statement.{statement}

@@ -7,7 +7,7 @@ use lib.ListN.{length, drop, length-drop}
 use denote.Ref.{now}
 use Rattle.rules.specs.Entry.{shortEntry}
 use Rattle.rules.proofs.Shortest.{entry-length}
-use Rattle.values.proofs.Pieces.{rest-back}
+use Rattle.buffers.proofs.Splice.{rest-back}
 use Rattle.store.proofs.Writes.{action-over}
 use borrow.Author.Needs.{needs}
 use Rattle.changes.proofs.modify.Statement.{statement}

@@ -13,8 +13,8 @@ use Rattle.buffers.proofs.Splice.{splice-front, length-window}
 use Rattle.play.proofs.refill.Statement.{statement}
 use Rattle.play.proofs.refill.Tie as tie
 
-keep-requires : tie.Need-keep-requires
-keep-requires c κs = search needs
+compact-requires : tie.Need-compact-requires
+compact-requires c κs = search needs
 
 sub-read : tie.Need-sub-read
 sub-read c = search needs
@@ -41,22 +41,23 @@ returns c =
     let rest : ℕ = a .filled - a .at in
     let kept : List ℕ = part (a .at) rest (now (a .input)) in
     let l : length kept ≡ rest = length-window (a .at) rest (now (a .input)) (omega (arith, k .before .before .before .pre .0)) in
-    let e : take rest (k .keep .last .0) ≡ kept =
-    ap (take rest) (k .keep .ensures .1 ∙ splice-front (now (a .input)) kept) ∙ take-at kept (drop (length kept) (now (a .input))) rest l in
-    let same : k .keep .result ≡ rest = k .keep .ensures .0 in
+    let e : take rest (k .compact .last .0) ≡ kept =
+    ap (take rest) (k .compact .ensures .1 ∙ splice-front (now (a .input)) kept) ∙ take-at kept (drop (length kept) (now (a .input))) rest l in
+    let same : k .compact .result ≡ rest = k .compact .ensures .0 in
     let r = c .before .before .read in
-    let within : k .keep .result ≤ length (k .keep .last .0) = omega (arith, k .keep .kept .0, k .before .before .before .pre .0) in (
-      (omega arith, omega (arith, r .ensures, k .keep .kept .0, within)),
-      ap (λ (n : ℕ). take n (putMid (k .keep .result) (length (k .keep .last .0) - k .keep .result) (k .keep .last .0) (r .last .0))) (sym same)
-          ∙ take-put (k .keep .result) (length (k .keep .last .0) - k .keep .result) (k .keep .last .0) (r .last .0) within
-          ∙ ap (λ (n : ℕ). take n (k .keep .last .0)) same ∙ e,
+    let bytes : List ℕ = k .compact .last .0 in
+    let within : k .compact .result ≤ length bytes = omega (arith, k .compact .kept .0, k .before .before .before .pre .0) in (
+      (omega arith, omega (arith, r .ensures, k .compact .kept .0, within)),
+      ap (λ (n : ℕ). take n (putMid (k .compact .result) (length bytes - k .compact .result) bytes (r .last .0))) (sym same)
+          ∙ take-put (k .compact .result) (length bytes - k .compact .result) bytes (r .last .0) within
+          ∙ ap (λ (n : ℕ). take n bytes) same ∙ e,
     )
 
 pub refill-spec : {M : Type 1} → statement M
 refill-spec =
     tie.close
     (tie.spec
-    keep-requires
+    compact-requires
     sub-read
     part-read-start
     part-read-end

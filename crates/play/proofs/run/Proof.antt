@@ -1,4 +1,4 @@
--- Right because each turn goes on from what the turn before it left, and a read has room: less than the longest frame is kept.
+-- Right because each turn goes on from where the turn before it ended, and a read has room: less than the longest frame is kept.
 -- Assumes nothing.
 use Prim.Native.Nat.{ℕ, _+_, _-_, _≤_, _<_}
 use native.Mathlib.Omega.{arith}
@@ -15,7 +15,7 @@ use Rattle.rules.proofs.Lists.{drop-take}
 use Rattle.transcript.specs.Input.{firstFrame, Begins, CutAt}
 use Rattle.transcript.proofs.Begins.{cut-none, cut-more}
 use Rattle.session.specs.Session.{framesOf, Session, Stops}
-use Rattle.session.proofs.Made.{session-none, session-append}
+use Rattle.session.proofs.CallsMade.{session-none, session-append}
 use Rattle.play.proofs.run.Statement.{statement}
 use Rattle.play.proofs.run.Tie as tie
 
@@ -26,43 +26,47 @@ Inv-loop input₀ store₀ answer₀ out₀ state₀ ordinal₀ at₀ filled₀ 
     × CutAt (take filled input) at
 
 abbrev μ-loop : tie.MeasureT-loop
-μ-loop input₀ store₀ answer₀ out₀ state₀ ordinal₀ at₀ filled₀ turns₀ input store answer out state ordinal at filled turns = 18446744073709551615 - turns
+μ-loop input₀ store₀ answer₀ out₀ state₀ ordinal₀ at₀ filled₀ turns₀ input store answer out state ordinal at filled turns =
+    18446744073709551615 - turns
 
 module _ (c : tie.After-advance Inv-loop μ-loop) where
   abbrev loop : tie.At-loop Inv-loop μ-loop
   loop = c .before .before .before .before .before .before .before
 
   -- the bytes at hand
-  abbrev given : List ℕ
-  given = take (loop .loop .filled - loop .loop .at) (drop (loop .loop .at) (loop .loop .input))
+  abbrev unread : List ℕ
+  unread = take (loop .loop .filled - loop .loop .at) (drop (loop .loop .at) (loop .loop .input))
 
-  given-length : length given ≡ loop .loop .filled - loop .loop .at
-  given-length = length-window (loop .loop .at) (loop .loop .filled - loop .loop .at) (loop .loop .input) (omega (arith, loop .loop .inv .1, loop .loop .inv .2))
+  unread-length : length unread ≡ loop .loop .filled - loop .loop .at
+  unread-length =
+      let l = loop .loop in
+      length-window (l .at) (l .filled - l .at) (l .input) (omega (arith, l .inv .1, l .inv .2))
 
   passed : loop .loop .at + c .advance .result .at ≤ loop .loop .filled
-  passed = omega (arith, given-length, c .advance .ensures .made .within, loop .loop .inv .1)
+  passed = omega (arith, unread-length, c .advance .ensures .made .within, loop .loop .inv .1)
 
   -- all bytes since the last read
   abbrev bytes : List ℕ
   bytes = take (loop .loop .filled) (loop .loop .input)
 
-  given-is : given ≡ drop (loop .loop .at) bytes
-  given-is = sym (drop-take (loop .loop .at) (loop .loop .filled) (loop .loop .input))
+  unread-is : unread ≡ drop (loop .loop .at) bytes
+  unread-is = sym (drop-take (loop .loop .at) (loop .loop .filled) (loop .loop .input))
 
   cut : CutAt bytes (loop .loop .at + c .advance .result .at)
   cut =
       let m = c .advance .ensures .made in
       cut-more (c .advance .result .at) (framesOf (m .session .steps)) (loop .loop .inv .7)
-      (subst (λ (g : List ℕ). Begins g (framesOf (m .session .steps)) (drop (c .advance .result .at) g)) given-is (m .frames))
+      (subst (λ (g : List ℕ). Begins g (framesOf (m .session .steps)) (drop (c .advance .result .at) g)) unread-is (m .frames))
 
   -- what waits for more holds no whole frame, and is short
   waits : c .advance .result .waiting ≡ true → (firstFrame (drop (loop .loop .at + c .advance .result .at) bytes) ≡ none)
       × (loop .loop .filled ≤ loop .loop .at + c .advance .result .at + 65_536)
   waits w =
-      let rest : List ℕ = drop (c .advance .result .at) given in
-      let s = subst (λ (b : Bool). Stops b rest (c .advance .result .ordinal) (c .advance .result .end) (length (loop .loop .out))) w (c .advance .ensures .stops) in (
-        ap firstFrame (sym (ap (drop (c .advance .result .at)) given-is ∙ drop-drop (c .advance .result .at) (loop .loop .at) bytes)) ∙ s .0,
-        omega (arith, s .1, length-drop (c .advance .result .at) given, given-length),
+      let rest : List ℕ = drop (c .advance .result .at) unread in
+      let r = c .advance .result in
+      let s = subst (λ (b : Bool). Stops b rest (r .ordinal) (r .end) (length (loop .loop .out))) w (c .advance .ensures .stops) in (
+        ap firstFrame (sym (ap (drop (c .advance .result .at)) unread-is ∙ drop-drop (c .advance .result .at) (loop .loop .at) bytes)) ∙ s .0,
+        omega (arith, s .1, length-drop (c .advance .result .at) unread, unread-length),
       )
 
 -- where the input ends
@@ -129,7 +133,9 @@ loop-again c =
     let i = loop d .loop .inv in
     let p : (c .if2 .at ≤ c .if2 .filled) × (c .if2 .filled ≤ length (c .if2 .input)) × (length (c .if2 .input) ≡ length (loop d .loop .input)) =
     ⊎-elim
-    (λ w. (omega (arith, w .7), omega (arith, w .8, w .2 .ensures .0 .1, w .2 .kept .0, ap length (w .6)), omega (arith, w .2 .kept .0, ap length (w .6))))
+    (λ w.
+    let l = ap length (w .6) in
+    (omega (arith, w .7), omega (arith, w .8, w .2 .ensures .0 .1, w .2 .kept .0, l), omega (arith, w .2 .kept .0, l)))
     (λ w. (omega (arith, w .2, w .3, passed d), omega (arith, w .3, ap length (w .1), i .2), ap length (w .1)))
     (c .if2 .came) in
     let q : CutAt (take (c .if2 .filled) (c .if2 .input)) (c .if2 .at) =

@@ -5,7 +5,7 @@ use lib.ListN.{length}
 use denote.Ref.{now}
 use Rattle.rules.specs.Bytes.{part}
 use Rattle.rules.proofs.Shortest.{part-length}
-use Rattle.values.proofs.Pieces.{rest-after}
+use Rattle.buffers.proofs.Splice.{rest-after}
 use Rattle.reads.specs.Read.{keyIn}
 use Rattle.reads.proofs.QueryOrder.{key-length}
 use borrow.Author.Needs.{needs}

@@ -52,7 +52,7 @@ use Rattle.rules.specs.Frame.{readFrame, malformed, onStreams, onPipeline, onTa
 use Rattle.rules.specs.Answer.{answerBytes}
 use Rattle.rules.specs.Call.{longEnough, plain as bare, eventAnswer}
 use Rattle.buffers.specs.Splice.{splice}
-use Rattle.answers.proofs.Answers.{head-alone}
+use Rattle.answers.proofs.AnswerBytes.{head-alone}
 use Rattle.arbitration.specs.Meaning.{outcomeOf}
 use Rattle.arbitration.specs.declared.Outcome.{Outcome}
 use Rattle.calls.specs.Contract as calls

@@ -14,14 +14,14 @@ use borrow.Author.Tests.{leb-true, leb-false}
 use Rattle.transcript.specs.Input.{firstFrame, frameIn}
 use Rattle.transcript.specs.declared.Next.{Next}
 use Rattle.transcript.proofs.Input.{rest-short}
-use Rattle.session.specs.Session.{Made}
-use Rattle.session.proofs.Made.{Ahead, ahead, made-none, made-next}
+use Rattle.session.specs.Session.{CallsMade}
+use Rattle.session.proofs.CallsMade.{FrameAt, frame-at, made-none, made-next}
 use Rattle.session.proofs.advance.Statement.{statement}
 use Rattle.session.proofs.advance.Tie as tie
 
 abbrev Inv-loop : tie.InvT-loop
 Inv-loop first input store₀ answer₀ out₀ state₀ ordinal₀ at₀ end₀ store answer out state ordinal at end =
-    Made state₀ first input store₀ answer₀ out₀ state ordinal at end store answer out
+    CallsMade state₀ first input store₀ answer₀ out₀ state ordinal at end store answer out
     × (length store ≡ length store₀) × (length answer ≡ length answer₀) × (length out ≡ length out₀)
     × (ordinal ≤ 18446744073709551615)
 
@@ -40,14 +40,17 @@ module _ (c : tie.After-known-told Inv-loop μ-loop) where
   frame-size = c .before .next .given .0 .0
 
   -- the frame that is next
-  upcoming : Ahead input (loop .loop .at) frame-size
+  upcoming : FrameAt input (loop .loop .at) frame-size
   upcoming =
       let f = c .before .before .before .next-frame in
-      ahead input (loop .loop .at) (loop .loop .inv .0 .within) (f .result) frame-size (c .before .next .given .1) (f .ensures .0) (f .ensures .1)
+      frame-at input (loop .loop .at) (loop .loop .inv .0 .within) (f .result) frame-size (c .before .next .given .1) (f .ensures .0) (f .ensures .1)
 
   -- the longest line has room
   space : loop .loop .end + 112_980 ≤ length (loop .loop .out)
-  space = omega (arith, leb-true 112_980 (length (loop .loop .out) - loop .loop .end) (c .before .before .before .before .before .if1 .taken), loop .loop .inv .0 .space, loop .loop .inv .3)
+  space =
+      let l = loop .loop in
+      let h = leb-true 112_980 (length (l .out) - l .end) (c .before .before .before .before .before .if1 .taken) in
+      omega (arith, h, l .inv .0 .space, l .inv .3)
 
 -- no whole frame
 module _ (c : tie.After-enum-told Inv-loop μ-loop) where
@@ -64,7 +67,8 @@ module _ (c : tie.After-enum-told Inv-loop μ-loop) where
       let input : List ℕ = now (known .before .args .input) in
       let part : List ℕ = take (length input - at) (drop at input) in
       let e : firstFrame rest ≡ none =
-      ap firstFrame (sym (part-to-end input at)) ∙ sym (c .before .before .next-frame .ensures .0) ∙ ap (λ (r : Next). frameIn r part) (c .enum-told .given .1) in
+      ap firstFrame (sym (part-to-end input at)) ∙ sym (c .before .before .next-frame .ensures .0)
+      ∙ ap (λ (r : Next). frameIn r part) (c .enum-told .given .1) in
       let bytes : (i : ℕ) → getD rest i 0 < 256 = λ i. omega (arith, getD-drop at input i 0, known .shared-slice-known .given (at + i)) in
       (e, rest-short rest bytes (sym e))
 

@@ -11,6 +11,7 @@ use Rattle.buffers.specs.Splice.{splice}
 use Rattle.buffers.proofs.Splice.{part-copied, length-window}
 use Rattle.transcript.specs.Line.{recordSize, lineIn}
 use Rattle.transcript.proofs.Fitting.{lineIn-length}
+use Rattle.session.specs.Session.{lineOfCall}
 use Rattle.session.proofs.print.Statement.{statement}
 use Rattle.session.proofs.print.Tie as tie
 
@@ -35,12 +36,16 @@ module _ (c : tie.After-write-line) where
   part-length = length-window end lent out (omega (arith, start .pre)) ∙ lent-is
 
   abbrev line : List ℕ
-  line = lineIn 112_980 (start .args .ordinal) (recordSize (now (start .args .frame))) (now (start .args .answer))
+  line = lineOfCall (start .args .ordinal) (now (start .args .frame)) (now (start .args .answer))
 
-  line-is : lineIn (length (take lent (drop end out))) (start .args .ordinal) (c .before .before .record-size .result) (now (start .args .answer)) ≡ line
+  -- the line in so much room, its records being of this size
+  abbrev line-in : ℕ → ℕ → List ℕ
+  line-in room size = lineIn room (start .args .ordinal) size (now (start .args .answer))
+
+  line-is : line-in (length (take lent (drop end out))) (c .before .before .record-size .result) ≡ line
   line-is =
-      ap (λ (n : ℕ). lineIn n (start .args .ordinal) (c .before .before .record-size .result) (now (start .args .answer))) part-length
-      ∙ ap (λ (n : ℕ). lineIn 112_980 (start .args .ordinal) n (now (start .args .answer))) (c .before .before .record-size .ensures)
+      ap (λ (n : ℕ). line-in n (c .before .before .record-size .result)) part-length
+      ∙ ap (line-in 112_980) (c .before .before .record-size .ensures)
 
   line-fits : length line ≤ 112_980
   line-fits = lineIn-length 112_980 (start .args .ordinal) (recordSize (now (start .args .frame))) (now (start .args .answer))

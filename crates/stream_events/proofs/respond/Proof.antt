@@ -1,7 +1,7 @@
 -- Right because the records are behind the head. Assumes nothing.
 use denote.Ref.{now}
 use Rattle.arbitration.specs.Meaning.{outcomeOf}
-use Rattle.answers.proofs.Answers.{records-then-head}
+use Rattle.answers.proofs.AnswerBytes.{records-then-head}
 use borrow.Author.Needs.{needs}
 use Rattle.stream_events.proofs.respond.Statement.{statement}
 use Rattle.stream_events.proofs.respond.Tie as tie

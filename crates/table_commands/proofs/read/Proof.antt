@@ -21,7 +21,7 @@ use Rattle.reads.specs.Read.{readIn, Reads}
 use Rattle.memory.specs.Layout.{controlOf}
 use Rattle.memory.specs.Handles.{atTables}
 use Rattle.memory.proofs.Handled.{flat, flat-handles, refused}
-use Rattle.answers.proofs.Answers.{records-then-head, head-alone}
+use Rattle.answers.proofs.AnswerBytes.{records-then-head, head-alone}
 use Rattle.table_commands.proofs.Reading.{key-there, query-formed, read-order, was-read, taken, reads-all}
 use borrow.Author.Needs.{needs}
 use Rattle.table_commands.proofs.read.Statement.{statement}

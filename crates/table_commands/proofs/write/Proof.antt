@@ -22,7 +22,7 @@ use Rattle.batches.specs.Batch.{updatesIn, BatchApplied}
 use Rattle.memory.specs.Layout.{controlOf}
 use Rattle.memory.specs.Handles.{atTables}
 use Rattle.memory.proofs.Handled.{flat, flat-handles, refused}
-use Rattle.answers.proofs.Answers.{records-then-head, head-alone}
+use Rattle.answers.proofs.AnswerBytes.{records-then-head, head-alone}
 use Rattle.table_commands.proofs.Writing.{write-order, was-written}
 use borrow.Author.Needs.{needs}
 use Rattle.table_commands.proofs.write.Statement.{statement}

@@ -9,7 +9,7 @@ use borrow.Author.Needs.{needs}
 use borrow.Fn.Kinds.{In}
 use borrow.Fn.PlainCycle.{Measures, is, falls, and}
 use Rattle.transcript.specs.Line.{digit, digits}
-use Rattle.transcript.proofs.Begun.{Begun, begun-none, begun-next, begun-left, begun-length, begun-all}
+use Rattle.transcript.proofs.PrefixWritten.{PrefixWritten, prefix-none, prefix-next, prefix-rest, prefix-length, prefix-all}
 use Rattle.transcript.proofs.Lines.{digits-none, digits-one, digits-more}
 use Rattle.transcript.proofs.put_digits.Reads as put-digits
 use Rattle.transcript.proofs.put_digits.Kinds as put-digits-kinds
@@ -36,7 +36,7 @@ module _ (t : ℕ) where
   returns : lts.Need-returns claims (at t) put-digits.Post
   returns c =
       let a = c .before .before .args in
-      begun-all (begun-none (digits (a .most) (a .x)) (a .at) (now (a .out))) (digits-none (a .most) (a .x) (c .if1 .taken))
+      prefix-all (prefix-none (digits (a .most) (a .x)) (a .at) (now (a .out))) (digits-none (a .most) (a .x) (c .if1 .taken))
 
   cast-glyph : lts.Need-cast-glyph claims (at t) put-digits.Post
   cast-glyph c = search needs
@@ -48,7 +48,8 @@ module _ (t : ℕ) where
   put-byte-requires c κs =
       let s = c .before .before .before .before .before in
       let a = s .args in
-      omega (arith, s .pre .1, ap length (digits-one (a .most) (a .x) (c .before .before .before .if1 .left) (c .before .before .if2 .taken)))
+      let e = digits-one (a .most) (a .x) (c .before .before .before .if1 .left) (c .before .before .if2 .taken) in
+      omega (arith, s .pre .1, ap length e)
 
   same-length : lts.Need-same-length claims (at t) put-digits.Post
   same-length c = search needs
@@ -59,23 +60,28 @@ module _ (t : ℕ) where
       let g = p .before .before in
       let s = g .before .before .before .before in
       let a = s .args in
-      let e : digits (a .most) (a .x) ≡ g .glyph .result ∷ [] = digits-one (a .most) (a .x) (g .before .before .if1 .left) (g .before .if2 .taken) ∙ ap (λ (d : ℕ). d ∷ []) (sym (g .glyph .ensures)) in
-      begun-all (begun-next (begun-none (digits (a .most) (a .x)) (a .at) (now (a .out))) (g .glyph .result ∷ []) e (s .pre .1) (p .put-byte .ensures)) refl
+      let e : digits (a .most) (a .x) ≡ g .glyph .result ∷ [] =
+      digits-one (a .most) (a .x) (g .before .before .if1 .left) (g .before .if2 .taken)
+      ∙ ap (λ (d : ℕ). d ∷ []) (sym (g .glyph .ensures)) in
+      let b = prefix-none (digits (a .most) (a .x)) (a .at) (now (a .out)) in
+      prefix-all (prefix-next b (g .glyph .result ∷ []) e (s .pre .1) (p .put-byte .ensures)) refl
 
   -- a number of more than one digit
   module _ (c : lts.Else2 claims (at t) put-digits.Post) where
-    abbrev more : digits (c .before .before .before .args .most) (c .before .before .before .args .x)
-        ≡ digits (c .before .before .before .args .most - 1) (c .before .before .before .args .x / 10) ++ (digit (c .before .before .before .args .x % 10) ∷ [])
-    more = digits-more (c .before .before .before .args .most) (c .before .before .before .args .x) (c .before .if1 .left) (c .if2 .left)
+    abbrev more : let a = c .before .before .before .args in
+        digits (a .most) (a .x) ≡ digits (a .most - 1) (a .x / 10) ++ (digit (a .x % 10) ∷ [])
+    more = let a = c .before .before .before .args in digits-more (a .most) (a .x) (c .before .if1 .left) (c .if2 .left)
 
   -- what the inner call leaves to be written
   tens : (c : lts.After-put-digits claims (at t) put-digits.Post)
-      → let s = c .before .before .before .before .before in
-      Begun (digits (s .args .most) (s .args .x)) (s .args .at) (now (s .args .out)) (digit (s .args .x % 10) ∷ []) (c .put-digits .last .1 .1 .0) (c .put-digits .result)
+      → let a = c .before .before .before .before .before .args in
+      PrefixWritten (digits (a .most) (a .x)) (a .at) (now (a .out)) (digit (a .x % 10) ∷ [])
+      (c .put-digits .last .1 .1 .0) (c .put-digits .result)
   tens c =
       let s = c .before .before .before .before .before in
       let a = s .args in
-      begun-next (begun-none (digits (a .most) (a .x)) (a .at) (now (a .out))) (digits (a .most - 1) (a .x / 10)) (more (c .before .before)) (s .pre .1) (c .put-digits .ensures)
+      let b = prefix-none (digits (a .most) (a .x)) (a .at) (now (a .out)) in
+      prefix-next b (digits (a .most - 1) (a .x / 10)) (more (c .before .before)) (s .pre .1) (c .put-digits .ensures)
 
   sub-put-digits : lts.Need-sub-put-digits claims (at t) put-digits.Post
   sub-put-digits c = omega arith
@@ -84,7 +90,8 @@ module _ (t : ℕ) where
   put-digits-requires c κs =
       let s = c .before .before .before .before in
       let a = s .args in
-      (omega (arith, s .pre .0), omega (arith, s .pre .1, ap length (more (c .before)), length-append (digits (a .most - 1) (a .x / 10)) (digit (a .x % 10) ∷ [])))
+      let l = length-append (digits (a .most - 1) (a .x / 10)) (digit (a .x % 10) ∷ []) in
+      (omega (arith, s .pre .0), omega (arith, s .pre .1, ap length (more (c .before)), l))
 
   cast-glyph-2 : lts.Need-cast-glyph-2 claims (at t) put-digits.Post
   cast-glyph-2 c = search needs
@@ -95,7 +102,8 @@ module _ (t : ℕ) where
   put-byte-requires-2 : lts.Need-put-byte-requires-2 claims (at t) put-digits.Post
   put-byte-requires-2 c κs =
       let d = c .before .before .before .before in
-      omega (arith, d .before .before .before .before .before .pre .1, begun-left (tens d), begun-length (tens d) (d .before .before .before .before .before .pre .1))
+      let s = d .before .before .before .before .before in
+      omega (arith, s .pre .1, prefix-rest (tens d), prefix-length (tens d) (s .pre .1))
 
   same-length-2 : lts.Need-same-length-2 claims (at t) put-digits.Post
   same-length-2 c = search needs
@@ -105,7 +113,9 @@ module _ (t : ℕ) where
       let p = c .before .before in
       let g = p .before .before in
       let d = g .before .before .before in
-      begun-all (begun-next (tens d) (g .glyph2 .result ∷ []) (ap (λ (x : ℕ). x ∷ []) (sym (g .glyph2 .ensures))) (d .before .before .before .before .before .pre .1) (p .put-byte2 .ensures)) refl
+      let s = d .before .before .before .before .before in
+      let e = ap (λ (x : ℕ). x ∷ []) (sym (g .glyph2 .ensures)) in
+      prefix-all (prefix-next (tens d) (g .glyph2 .result ∷ []) e (s .pre .1) (p .put-byte2 .ensures)) refl
 
 pub +put-digits-spec : {M : Type 1} → statement M
 +put-digits-spec =

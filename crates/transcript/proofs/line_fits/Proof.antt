@@ -11,7 +11,8 @@ use Rattle.transcript.proofs.line_fits.Tie as tie
 count-few : (c : tie.After-integer) → c .integer .result < 65_536
 count-few c =
     let k = c .before .before .before in
-    omega (arith, c .integer .ensures, int-two 2 (now (k .before .args .answer)) (λ i. k .shared-slice-known .given i .fits) (omega arith))
+    let few = int-two 2 (now (k .before .args .answer)) (λ i. k .shared-slice-known .given i .fits) (omega arith) in
+    omega (arith, c .integer .ensures, few)
 
 returns : tie.Need-returns
 returns c = let a = c .before .before .args in too-wide (a .room) (a .size) (now (a .answer)) (c .if1 .taken)
@@ -23,10 +24,14 @@ integer-requires : tie.Need-integer-requires
 integer-requires c κs = search needs
 
 mul-if3 : tie.Need-mul-if3
-mul-if3 c = record { fits = omega (arith, few-bytes (c .before .before .before .before .args .size) (c .integer .result) (omega arith) (count-few c)) }
+mul-if3 c =
+    let s = c .before .before .before .before in
+    record { fits = omega (arith, few-bytes (s .args .size) (c .integer .result) (omega arith) (count-few c)) }
 
 add-if3 : tie.Need-add-if3
-add-if3 c = record { fits = omega (arith, few-bytes (c .before .before .before .before .args .size) (c .integer .result) (omega arith) (count-few c)) }
+add-if3 c =
+    let s = c .before .before .before .before in
+    record { fits = omega (arith, few-bytes (s .args .size) (c .integer .result) (omega arith) (count-few c)) }
 
 returns-3 : tie.Need-returns-3
 returns-3 c =

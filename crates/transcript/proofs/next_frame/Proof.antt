@@ -15,7 +15,8 @@ integer-requires c κs = search needs
 add-end : tie.Need-add-end
 add-end c =
     let k = c .before .before in
-    record { fits = omega (arith, c .integer .ensures, int-two 0 (now (k .before .args .input)) (λ i. k .shared-slice-known .given i .fits) (omega arith)) }
+    let few = int-two 0 (now (k .before .args .input)) (λ i. k .shared-slice-known .given i .fits) (omega arith) in
+    record { fits = omega (arith, c .integer .ensures, few) }
 
 returns-2 : tie.Need-returns-2
 returns-2 c =
@@ -25,7 +26,8 @@ returns-2 c =
 returns-3 : tie.Need-returns-3
 returns-3 c =
     let d = c .before in
-    (whole (now (d .before .before .before .args .input)) (d .integer .result) (d .integer .ensures) (omega arith) (c .if2 .left), (omega arith, c .if2 .left))
+    let frame = whole (now (d .before .before .before .args .input)) (d .integer .result) (d .integer .ensures) (omega arith) (c .if2 .left) in
+    (frame, (omega arith, c .if2 .left))
 
 pub next-frame-spec : {M : Type 1} → statement M
 next-frame-spec = tie.close (tie.spec returns integer-requires add-end returns-2 returns-3)

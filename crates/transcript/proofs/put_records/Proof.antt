@@ -9,14 +9,14 @@ use denote.Ref.{now}
 use borrow.Author.Needs.{needs}
 use Rattle.rules.specs.Bytes.{parts}
 use Rattle.transcript.specs.Line.{hex, blank, recordsHex}
-use Rattle.transcript.proofs.Begun.{Begun, begun-none, begun-next, begun-room, begun-length, begun-all}
+use Rattle.transcript.proofs.PrefixWritten.{PrefixWritten, prefix-none, prefix-next, prefix-room, prefix-length, prefix-all}
 use Rattle.transcript.proofs.Lines.{records-from, records-end}
 use Rattle.transcript.proofs.put_records.Statement.{statement}
 use Rattle.transcript.proofs.put_records.Tie as tie
 
 abbrev Inv-loop : tie.InvT-loop
 Inv-loop records size count out₀ at i₀ to₀ out i to =
-    (i ≤ count) × Begun (recordsHex (parts count size records)) at out₀ (recordsHex (drop i (parts count size records))) out to
+    (i ≤ count) × PrefixWritten (recordsHex (parts count size records)) at out₀ (recordsHex (drop i (parts count size records))) out to
 
 abbrev μ-loop : tie.MeasureT-loop
 μ-loop records size count out₀ at i₀ to₀ out i to = count - i
@@ -48,14 +48,15 @@ module _ (c : tie.After-put-byte Inv-loop μ-loop) where
   abbrev turn : tie.In-loop Inv-loop μ-loop
   turn = c .before .before
 
-  blank-put : Begun (recordsHex (parts (start turn .args .count) (start turn .args .size) (now (start turn .args .records)))) (start turn .args .at) (now (start turn .args .out))
+  blank-put : let a = start turn .args in
+      PrefixWritten (recordsHex (parts (a .count) (a .size) (now (a .records)))) (a .at) (now (a .out))
       (hex (record′ turn) ++ after turn) (c .put-byte .last .1 .0) (c .put-byte .result)
-  blank-put = begun-next (turn .before .loop .inv .1) (blank ∷ []) (split turn) (start turn .pre .1) (c .put-byte .ensures)
+  blank-put = prefix-next (turn .before .loop .inv .1) (blank ∷ []) (split turn) (start turn .pre .1) (c .put-byte .ensures)
 
 loop-holds : tie.Need-loop-holds Inv-loop μ-loop
 loop-holds c =
     let a = c .before .before .args in
-    (search needs, begun-none (recordsHex (parts (a .count) (a .size) (now (a .records)))) (a .at) (now (a .out)))
+    (search needs, prefix-none (recordsHex (parts (a .count) (a .size) (now (a .records)))) (a .at) (now (a .out)))
 
 mul-from : tie.Need-mul-from Inv-loop μ-loop
 mul-from c = record { fits = omega (arith, whole c) }
@@ -66,7 +67,7 @@ add-end c = record { fits = omega (arith, whole c) }
 put-byte-requires : tie.Need-put-byte-requires Inv-loop μ-loop
 put-byte-requires c κs =
     let d = c .before in
-    omega (arith, begun-room (d .before .loop .inv .1) (blank ∷ []) (hex (record′ d) ++ after d) (split d) (start d .pre .1))
+    omega (arith, prefix-room (d .before .loop .inv .1) (blank ∷ []) (hex (record′ d) ++ after d) (split d) (start d .pre .1))
 
 sub-put-hex : tie.Need-sub-put-hex Inv-loop μ-loop
 sub-put-hex c = search needs
@@ -80,7 +81,7 @@ part-put-hex-end c = omega (arith, whole (c .before .before .before .before))
 put-hex-requires : tie.Need-put-hex-requires Inv-loop μ-loop
 put-hex-requires c κs =
     let p = c .before .before .before .before in
-    begun-room (blank-put p) (hex (record′ (turn p))) (after (turn p)) refl (start (turn p) .pre .1)
+    prefix-room (blank-put p) (hex (record′ (turn p))) (after (turn p)) refl (start (turn p) .pre .1)
 
 add-i : tie.Need-add-i Inv-loop μ-loop
 add-i c = search needs
@@ -92,15 +93,15 @@ loop-again : tie.Need-loop-again Inv-loop μ-loop
 loop-again c =
     let h = c .before .before in
     let p = h .before .before .before .before .before in
-    (omega arith, begun-next (blank-put p) (hex (record′ (turn p))) refl (start (turn p) .pre .1) (h .put-hex .ensures))
+    (omega arith, prefix-next (blank-put p) (hex (record′ (turn p))) refl (start (turn p) .pre .1) (h .put-hex .ensures))
 
 same-length : tie.Need-same-length Inv-loop μ-loop
-same-length c = begun-length (c .before .loop .inv .1) (c .before .before .before .before .pre .1)
+same-length c = prefix-length (c .before .loop .inv .1) (c .before .before .before .before .pre .1)
 
 returns : tie.Need-returns Inv-loop μ-loop
 returns c =
     let a = c .before .before .before .before .args in
-    begun-all (c .before .loop .inv .1) (records-end (c .before .loop .i) (a .count) (a .size) (now (a .records)) (omega arith))
+    prefix-all (c .before .loop .inv .1) (records-end (c .before .loop .i) (a .count) (a .size) (now (a .records)) (omega arith))
 
 pub put-records-spec : {M : Type 1} → statement M
 put-records-spec =

@@ -1,4 +1,4 @@
--- Right because count, digits and zeros stand one after the other: the digits where they stood. Assumes nothing.
+-- Right because count, digits and zeros come one after the other, and the digits are where they were. Assumes nothing.
 use Prim.Native.Nat.{ℕ, _+_, _-_}
 use native.Mathlib.Omega.{arith}
 use mathlib.Core.Path.{_≡_, sym, ap, _∙_}

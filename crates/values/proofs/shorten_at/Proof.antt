@@ -1,4 +1,4 @@
--- Right because the digits that stay are moved down and padded, and an unused part is left alone. Assumes nothing.
+-- Right because the digits of the shortest form are moved down and padded, and an unused part stays as it is. Assumes nothing.
 use Prim.Native.Nat.{ℕ, _+_, _≤_}
 use native.Mathlib.Omega.{arith}
 use mathlib.Core.Path.{_≡_, sym, ap, ap₂, _∙_}

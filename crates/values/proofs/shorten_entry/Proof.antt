@@ -8,7 +8,8 @@ use denote.Ref.{now}
 use Rattle.rules.specs.Key.{shortKey}
 use Rattle.rules.specs.Entry.{shortEntry}
 use Rattle.rules.proofs.Shortest.{key-length, entry-length}
-use Rattle.values.proofs.Pieces.{rest-after, entry-parts}
+use Rattle.buffers.proofs.Splice.{rest-after}
+use Rattle.values.proofs.InPlace.{entry-parts}
 use borrow.Author.Needs.{needs}
 use Rattle.values.proofs.shorten_entry.Statement.{statement}
 use Rattle.values.proofs.shorten_entry.Tie as tie

@@ -1,4 +1,5 @@
--- Right because all bytes are copied, and each turn, the last first, brings one more of the slots into shortest form where it stands. Assumes nothing.
+-- Right because all bytes are copied, and each turn brings one more of the slots into shortest form in place, the last first.
+-- Assumes nothing.
 use Prim.Native.Nat.{ℕ, _+_, _*_, _-_, _≤_}
 use native.Mathlib.Omega.{arith}
 use mathlib.Core.Path.{_≡_, refl, ap, _∙_}

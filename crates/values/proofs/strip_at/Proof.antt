@@ -1,4 +1,5 @@
--- Right because the digits that stay are moved down to the first place, where they stand already if none goes. Assumes nothing.
+-- Right because the digits of the shortest form are moved down to the first place, where they are already if none is dropped.
+-- Assumes nothing.
 use Prim.Native.Nat.{ℕ, _+_, _-_}
 use native.Mathlib.Omega.{arith}
 use mathlib.Core.Path.{_≡_, sym, ap, _∙_}

@@ -6,7 +6,7 @@ use lib.Pow.{pow-pos}
 use borrow.Author.Tests.{lt-ltb}
 use borrow.Author.Needs.{needs}
 use Rattle.numbers.specs.Whole.{wholeOf}
-use Rattle.numbers.proofs.Tests.{leb-iff}
+use Rattle.numbers.proofs.EquivalentTests.{leb-iff}
 use Rattle.numbers.proofs.Halves.{whole-below}
 use Rattle.numbers.proofs.Number.fits.Statement.{statement}
 use Rattle.numbers.proofs.Number.fits.Tie as tie

@@ -7,7 +7,7 @@ use lib.Pow.{pow-pos, pow-lt}
 use borrow.Author.Tests.{ne-eqb}
 use borrow.Author.Needs.{needs}
 use Rattle.numbers.specs.Whole.{wholeOf}
-use Rattle.numbers.proofs.Tests.{eqb-iff}
+use Rattle.numbers.proofs.EquivalentTests.{eqb-iff}
 use Rattle.numbers.proofs.Halves.{whole-below}
 use Rattle.numbers.proofs.Number.is_ones.Statement.{statement}
 use Rattle.numbers.proofs.Number.is_ones.Tie as tie

@@ -8,7 +8,7 @@ use lib.Pow.{pow-pos}
 use borrow.Author.Tests.{ne-eqb}
 use borrow.Author.Needs.{needs}
 use Rattle.numbers.specs.Whole.{wholeOf}
-use Rattle.numbers.proofs.Tests.{eqb-iff}
+use Rattle.numbers.proofs.EquivalentTests.{eqb-iff}
 use Rattle.numbers.proofs.Halves.{whole-below, high-zero}
 use Rattle.numbers.proofs.Bits.{one-shl, low-bits, more-bits}
 use Rattle.numbers.proofs.Number.low_zero.Statement.{statement}

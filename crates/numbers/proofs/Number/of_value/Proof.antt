@@ -35,11 +35,11 @@ returns c =
     let s : List ℕ = now (d .args .v) in
     c .before .from-bytes .ensures ∙ int-all 1 16 (getD s 0 0) s (omega arith) (omega arith)
 
-sub-without : tie.Need-sub-without
-sub-without c = search needs
+sub-shift-right-bytes : tie.Need-sub-shift-right-bytes
+sub-shift-right-bytes c = search needs
 
-without-requires : tie.Need-without-requires
-without-requires c κs = search needs
+shift-right-bytes-requires : tie.Need-shift-right-bytes-requires
+shift-right-bytes-requires c κs = search needs
 
 returns-2 : tie.Need-returns-2
 returns-2 c =
@@ -47,7 +47,7 @@ returns-2 c =
     let s : List ℕ = now (d .before .before .args .v) in
     let n : ℕ = getD s 0 0 in
     let e : n + (16 - n) ≡ 16 = omega arith in
-    c .without .ensures
+    c .shift-right-bytes .ensures
     ∙ ap (λ (x : ℕ). x / 256 ^ (16 - n)) (c .before .before .from-bytes .ensures)
     ∙ sym (int-front 1 n (16 - n) s (λ i. d .shared-slice-known2 .given i .fits) (omega arith)
     ∙ ap (λ (m : ℕ). int 1 m s / 256 ^ (16 - n)) e)
@@ -63,6 +63,6 @@ of-value-spec =
     part-from-bytes-end
     from-bytes-requires
     returns
-    sub-without
-    without-requires
+    sub-shift-right-bytes
+    shift-right-bytes-requires
     returns-2)

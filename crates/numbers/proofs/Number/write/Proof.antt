@@ -1,13 +1,13 @@
 -- Right because the bytes of the high half and then those of the low one are the bytes of the number. Assumes nothing.
-use Prim.Native.Nat.{ℕ, _-_}
+use Prim.Native.Nat.{ℕ}
 use native.Mathlib.Omega.{arith}
-use mathlib.Core.List.{List}
-use mathlib.Core.Path.{_≡_, sym, ap, _∙_}
+use mathlib.Core.List.{List, _++_}
+use mathlib.Core.Path.{_≡_, sym}
 use lib.ListN.{length}
 use Rattle.rules.specs.Bytes.{bytesOf}
-use Rattle.buffers.specs.Splice.{splice}
-use Rattle.buffers.proofs.Splice.{length-splice, part-copied, splice-next}
+use Rattle.buffers.proofs.Splice.{rest-after}
 use Rattle.rules.proofs.Sizes.{bytes-length}
+use Rattle.numbers.specs.Whole.{wholeOf}
 use Rattle.numbers.proofs.Bytes.{bytesOf-append}
 use borrow.Author.Needs.{needs}
 use Rattle.numbers.proofs.Number.write.Statement.{statement}
@@ -39,15 +39,11 @@ returns c =
     let hs : List ℕ = bytesOf 8 (a .self .high) in
     let ls : List ℕ = bytesOf 8 (a .self .low) in
     let lh : length hs ≡ 8 = bytes-length 8 (a .self .high) in
-    let ll : length ls ≡ 8 = bytes-length 8 (a .self .low) in
-    let ys : List ℕ = w .write-word .last .1 .0 in
-    let e : ys ≡ splice d 0 hs = w .write-word .ensures in
-    let n : length ys ≡ length d = ap length e ∙ length-splice d 0 hs (omega arith) in
+    let all : List ℕ = bytesOf 16 (wholeOf (a .self)) in
+    let la : length all ≡ 16 = bytes-length 16 (wholeOf (a .self)) in
+    let e : hs ++ ls ≡ all = sym (bytesOf-append 8 8 (a .self .high) (a .self .low) (omega arith)) in
     let v = c .before .before .write-word2 in
-    part-copied ys (v .last .1 .0) ls 8 (length ys - 8) (v .ensures) (omega arith) (omega arith)
-    ∙ ap (λ (l : List ℕ). splice l 8 ls) e
-    ∙ splice-next d 0 8 hs ls (omega arith) (omega arith)
-    ∙ ap (splice d 0) (sym (bytesOf-append 8 8 (a .self .high) (a .self .low) (omega arith)))
+    rest-after d (w .write-word .last .1 .0) (v .last .1 .0) hs ls all 8 lh e (omega arith) (w .write-word .ensures) (v .ensures)
 
 pub write-spec : {M : Type 1} → statement M
 write-spec =

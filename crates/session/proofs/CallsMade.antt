@@ -14,8 +14,8 @@ use Rattle.buffers.specs.Splice.{splice}
 use Rattle.buffers.proofs.Splice.{splice-none, splice-next, splice-front, length-window}
 use Rattle.calls.specs.Contract.{Memory, Layout, Contract}
 use Rattle.calls.specs.Claim.{Step, Trace}
-use Rattle.transcript.specs.Input.{firstFrame, frameIn, Stands, Begins}
-use Rattle.transcript.specs.Line.{recordSize, lineIn}
+use Rattle.transcript.specs.Input.{firstFrame, frameIn, WithinInput, Begins}
+use Rattle.transcript.specs.Line.{recordSize}
 use Rattle.transcript.specs.declared.Next.{Next}
 use Rattle.transcript.specs.declared.Next.the-variants.{Frame}
 use Rattle.transcript.proofs.Begins.{begins-append}
@@ -24,7 +24,7 @@ use Rattle.memory.specs.declared.Agent.{Agent}
 use Rattle.agent.specs.declared.Called.{Called}
 use Rattle.memory.specs.Layout as meaning
 use Rattle.memory.specs.Layout.{Flat, memory, result}
-use Rattle.session.specs.Session.{framesOf, OneBuffer, memoryAfter, bufferAfter, lines, lineOfStep, Session, Made}
+use Rattle.session.specs.Session.{framesOf, OneBuffer, memoryAfter, bufferAfter, lines, lineOfCall, lineOfStep, Session, CallsMade}
 
 -- ---- calls after calls
 
@@ -61,24 +61,24 @@ module _ {A : Type 0} where
 -- ---- the next frame
 
 -- what the reader found in the input from place `at` on
-pub record Ahead (input : List ℕ) (at n : ℕ) : Type 0 where
+pub record FrameAt (input : List ℕ) (at n : ℕ) : Type 0 where
   pub two : 2 ≤ n
   pub within : at + n ≤ length input
   pub first : firstFrame (drop at input) ≡ some (take (at + n - (at + 2)) (drop (at + 2) input))
   pub size : length (take (at + n - (at + 2)) (drop (at + 2) input)) ≡ n - 2
 
 module _ (input : List ℕ) (at : ℕ) (h : at ≤ length input) (r : Next) where
-  abbrev given : List ℕ
-  given = take (length input - at) (drop at input)
+  abbrev unread : List ℕ
+  unread = take (length input - at) (drop at input)
 
-  pub ahead : (n : ℕ) → r ≡ Frame n → frameIn r given ≡ firstFrame given → Stands r given → Ahead input at n
-  ahead n e found stands =
-      let s : (2 ≤ n) × (n ≤ length given) = subst (λ (x : Next). Stands x given) e stands in
-      let l : length given ≡ length input - at = length-window at (length input - at) input (omega arith) in
+  pub frame-at : (n : ℕ) → r ≡ Frame n → frameIn r unread ≡ firstFrame unread → WithinInput r unread → FrameAt input at n
+  frame-at n e found inside =
+      let s : (2 ≤ n) × (n ≤ length unread) = subst (λ (x : Next). WithinInput x unread) e inside in
+      let l : length unread ≡ length input - at = length-window at (length input - at) input (omega arith) in
       let two : 2 ≤ n = s .0 in
       let w : at + n ≤ length input = omega (arith, s .1) in
       let m : n - 2 ≡ at + n - (at + 2) = omega arith in
-      let f : firstFrame given ≡ some (part 2 (n - 2) given) = sym found ∙ ap (λ (x : Next). frameIn x given) e in
+      let f : firstFrame unread ≡ some (part 2 (n - 2) unread) = sym found ∙ ap (λ (x : Next). frameIn x unread) e in
       record {
         two = two;
         within = w;
@@ -91,7 +91,14 @@ module _ (input : List ℕ) (at : ℕ) (h : at ≤ length input) (r : Next) wher
 
 pub session-none : (agent : Agent) (first : ℕ) (store answer : List ℕ) → Session agent first store answer agent first store answer
 unfolding Trace OneBuffer memoryAfter bufferAfter
-session-none agent first store answer = record { steps = []; trace = tt; buffers = tt; ordinals = sym (add-zero first); left = refl; buffer = refl }
+session-none agent first store answer = record {
+  steps = [];
+  trace = tt;
+  buffers = tt;
+  ordinals = sym (add-zero first);
+  memory-after = refl;
+  buffer-after = refl;
+}
 
 pub session-one : (agent : Agent) (ordinal : ℕ) (store answer f : List ℕ) (r : Called) (store′ answer′ : List ℕ)
     → Contract Flat (memory agent store) (meaning.input f answer) (result (r .agent) (r .reason) store′ answer′)
@@ -102,8 +109,8 @@ session-one agent ordinal store answer f r store′ answer′ k = record {
   trace = (k, tt);
   buffers = (refl, tt);
   ordinals = refl;
-  left = refl;
-  buffer = refl;
+  memory-after = refl;
+  buffer-after = refl;
 }
 
 module _ {agent agent₁ agent′ : Agent} {first ordinal₁ ordinal′ : ℕ} {store answer store₁ answer₁ store′ answer′ : List ℕ} where
@@ -114,14 +121,17 @@ module _ {agent agent₁ agent′ : Agent} {first ordinal₁ ordinal′ : ℕ} {
       let vs : List (Step Agent) = b .steps in
       record {
         steps = ws ++ vs;
-        trace = trace-append Flat (memory agent store) ws vs (a .trace) (subst (λ (x : Memory Agent). Trace Flat x vs) (sym (a .left)) (b .trace));
-        buffers = buffers-append answer ws vs (a .buffers) (subst (λ (x : List ℕ). OneBuffer x vs) (sym (a .buffer)) (b .buffers));
+        trace = trace-append Flat (memory agent store) ws vs (a .trace)
+            (subst (λ (x : Memory Agent). Trace Flat x vs) (sym (a .memory-after)) (b .trace));
+        buffers = buffers-append answer ws vs (a .buffers) (subst (λ (x : List ℕ). OneBuffer x vs) (sym (a .buffer-after)) (b .buffers));
         ordinals = omega (arith, a .ordinals, b .ordinals, length-append ws vs);
-        left = memory-append (memory agent store) ws vs ∙ ap (λ (x : Memory Agent). memoryAfter x vs) (a .left) ∙ b .left;
-        buffer = buffer-append answer ws vs ∙ ap (λ (x : List ℕ). bufferAfter x vs) (a .buffer) ∙ b .buffer;
+        memory-after = memory-append (memory agent store) ws vs
+            ∙ ap (λ (x : Memory Agent). memoryAfter x vs) (a .memory-after) ∙ b .memory-after;
+        buffer-after = buffer-append answer ws vs ∙ ap (λ (x : List ℕ). bufferAfter x vs) (a .buffer-after) ∙ b .buffer-after;
       }
 
-pub made-none : (agent : Agent) (first : ℕ) (input store answer out : List ℕ) → Made agent first input store answer out agent first 0 0 store answer out
+pub made-none : (agent : Agent) (first : ℕ) (input store answer out : List ℕ)
+    → CallsMade agent first input store answer out agent first 0 0 store answer out
 unfolding Begins lines session-none
 made-none agent first input store answer out = record {
   session = session-none agent first store answer;
@@ -133,17 +143,17 @@ made-none agent first input store answer out = record {
 }
 
 module _ {agent : Agent} {first : ℕ} {input store answer out : List ℕ} {agent₁ : Agent} {ordinal at end : ℕ} {store₁ answer₁ out₁ : List ℕ}
-    (m : Made agent first input store answer out agent₁ ordinal at end store₁ answer₁ out₁) where
-  pub made-next : {n end′ : ℕ} {r : Called} {store′ answer′ out′ : List ℕ} → Ahead input at n →
+    (m : CallsMade agent first input store answer out agent₁ ordinal at end store₁ answer₁ out₁) where
+  pub made-next : {n end′ : ℕ} {r : Called} {store′ answer′ out′ : List ℕ} → FrameAt input at n →
       let f = take (at + n - (at + 2)) (drop (at + 2) input) in
-      let line = lineIn 112_980 ordinal (recordSize f) answer′ in
+      let line = lineOfCall ordinal f answer′ in
       Contract Flat (memory agent₁ store₁) (meaning.input f answer₁) (result (r .agent) (r .reason) store′ answer′)
       → (end′ ≡ end + length line) × (out′ ≡ splice out₁ end line) → end + 112_980 ≤ length out
-      → Made agent first input store answer out (r .agent) (ordinal + 1) (at + n) end′ store′ answer′ out′
+      → CallsMade agent first input store answer out (r .agent) (ordinal + 1) (at + n) end′ store′ answer′ out′
   unfolding Begins lines session-one session-append
   made-next {n} {end′} {r} {store′} {answer′} {out′} a k p room =
       let f : List ℕ = take (at + n - (at + 2)) (drop (at + 2) input) in
-      let line : List ℕ = lineIn 112_980 ordinal (recordSize f) answer′ in
+      let line : List ℕ = lineOfCall ordinal f answer′ in
       let one = session-one agent₁ ordinal store₁ answer₁ f r store′ answer′ k in
       let w : List (Step Agent) = one .steps in
       let ws : List (Step Agent) = m .session .steps in
@@ -151,7 +161,7 @@ module _ {agent : Agent} {first : ℕ} {input store answer out : List ℕ} {agen
       let past : 2 + length f ≡ n = omega (arith, a .size) in
       let all : lines first (ws ++ w) ≡ lines first ws ++ line =
       lines-append first ws w
-      ∙ ap (λ (i : ℕ). lines first ws ++ (lineIn 112_980 i (recordSize f) answer′ ++ [])) (sym (m .session .ordinals))
+      ∙ ap (λ (i : ℕ). lines first ws ++ (lineOfCall i f answer′ ++ [])) (sym (m .session .ordinals))
       ∙ ap (λ (l : List ℕ). lines first ws ++ l) (append-nil line) in
       record {
         session = session-append (m .session) one;

@@ -8,8 +8,8 @@ use borrow.Author.Needs.{needs}
 use Rattle.numbers.specs.Whole.{wholeOf}
 use Rattle.numbers.proofs.Halves.{whole-below}
 use Rattle.numbers.proofs.Bits.{one-shl, byte-bits, more-off, fewer-off, low-room}
-use Rattle.numbers.proofs.Number.without.Statement.{statement}
-use Rattle.numbers.proofs.Number.without.Tie as tie
+use Rattle.numbers.proofs.Number.shift_right_bytes.Statement.{statement}
+use Rattle.numbers.proofs.Number.shift_right_bytes.Tie as tie
 
 -- 1 shifted by j
 abbrev shl : ℕ → ℕ
@@ -94,8 +94,8 @@ returns-3 c =
     sym (ap (λ (n : ℕ). wholeOf (a .self) / n) (byte-bits (a .k) ∙ sym (one-shl j h))
     ∙ fewer-off (a .self .high) (a .self .low) (shl j) (shl (64 - j)) (shl-some j h) (powers j (omega arith) h))
 
-pub without-spec : {M : Type 1} → statement M
-without-spec =
+pub shift-right-bytes-spec : {M : Type 1} → statement M
+shift-right-bytes-spec =
     tie.close
     (tie.spec
     returns

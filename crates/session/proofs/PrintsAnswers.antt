@@ -17,12 +17,13 @@ use Rattle.rules.proofs.Replies.{written-whole}
 use Rattle.calls.specs.Contract.{Memory, Layout, Represents, Correct, requested}
 use Rattle.calls.specs.Claim.{Step, Trace}
 use Rattle.transcript.specs.Line.{lineOf, recordSize, lineIn}
-use Rattle.transcript.proofs.Answers.{line-printed}
+use Rattle.transcript.proofs.AnswerLines.{line-printed}
 use Rattle.session.specs.Session.{framesOf, OneBuffer, lines, linesFrom, PrintsAnswers}
 
 -- ---- one call
 
-module _ {A : Type 0} (L : Layout A) (m : Memory A) (w : Step A) (s : State) (ok : Sound s) (long : 56_320 ≤ length (m .store)) (wide : 57_344 ≤ length (w .input .buffer)) where
+module _ {A : Type 0} (L : Layout A) (m : Memory A) (w : Step A) (s : State) (ok : Sound s)
+    (long : 56_320 ≤ length (m .store)) (wide : 57_344 ≤ length (w .input .buffer)) where
   abbrev f : List ℕ
   f = w .input .frame
 

@@ -11,7 +11,9 @@ use lib.ListN.{length, drop, length-append}
 use lib.Seq.{take-at, drop-at}
 use borrow.Author.Tests.{le-leb}
 use Rattle.rules.specs.Bytes.{if_then_else_, concat, byte, int, parts, bytesOf}
-use Rattle.rules.specs.Frame.{PipelineCommand, Command, malformed, OPEN, CLOSE, ARBITRATE, CONFIGURE, WRITE, READ, headAt, queryOf, updateOf, streamFormed, arbitrateFormed, configureFormed, writeFormed, readFormed, formed, configureOf, writeOf, readFrame, onStreams, onPipeline, onTables}
+use Rattle.rules.specs.Frame.{Update, PipelineCommand, Command, malformed, OPEN, CLOSE, ARBITRATE, CONFIGURE, WRITE, READ}
+use Rattle.rules.specs.Frame.{onStreams, onPipeline, onTables, headAt, queryOf, updateOf, configureOf, writeOf, readFrame}
+use Rattle.rules.specs.Frame.{formed, streamFormed, arbitrateFormed, configureFormed, writeFormed, readFormed}
 use Rattle.rules.specs.Reason.{codeOf}
 use Rattle.rules.specs.Answer.{Answer, answerBytes}
 use Rattle.rules.specs.Call.{State, answer}
@@ -41,16 +43,19 @@ module _ (a : Answer) (rest : List ℕ) where
   unfolding answerBytes bytesOf
   head = refl
 
-pub line-of-answer : (room ordinal size : ℕ) (a : Answer) (rest : List ℕ) → size ≤ 220 → EveryLength size (a .records) → length (a .records) ≤ 256
-    → 112_980 ≤ room → lineIn room ordinal size (answerBytes a ++ rest) ≡ lineOf ordinal a
+pub line-of-answer : (room ordinal size : ℕ) (a : Answer) (rest : List ℕ)
+    → size ≤ 220 → EveryLength size (a .records) → length (a .records) ≤ 256 → 112_980 ≤ room
+    → lineIn room ordinal size (answerBytes a ++ rest) ≡ lineOf ordinal a
 line-of-answer room ordinal size a rest narrow h few space =
     let bytes : List ℕ = answerBytes a ++ rest in
     let n : ℕ = length (a .records) in
     let e : int 2 2 bytes ≡ n = count-read a rest few in
-    let l : length bytes ≡ 4 + (length (concat (a .records)) + length rest) = omega (arith, ap length (head a rest), length-append (concat (a .records)) rest) in
+    let l : length bytes ≡ 4 + (length (concat (a .records)) + length rest) =
+    omega (arith, ap length (head a rest), length-append (concat (a .records)) rest) in
     let k : length (concat (a .records)) ≡ size * n = concat-length size (a .records) h in
     let m : (1 + 2 * size) * n ≤ 112_896 = mul-le-mul {n₁ = 1 + 2 * size} {m₁ = n} {n₂ = 441} {m₂ = 256} (omega arith) few in
-    let t : fits room size bytes ≡ true = sym (by-room room size bytes n (sym e) narrow (omega arith) (omega arith)) ∙ le-leb (84 + (1 + 2 * size) * n) room (omega arith) in
+    let t : fits room size bytes ≡ true =
+    sym (by-room room size bytes n (sym e) narrow (omega arith) (omega arith)) ∙ le-leb (84 + (1 + 2 * size) * n) room (omega arith) in
     lineIn-whole room ordinal size bytes t
     ∙ ap (λ (i : ℕ). printed ordinal (byte 0 bytes) (byte 1 bytes) (parts i size (drop 4 bytes))) e
     ∙ ap (λ (b : List ℕ). printed ordinal (byte 0 b) (byte 1 b) (parts n size (drop 4 b))) (head a rest)
@@ -59,47 +64,49 @@ line-of-answer room ordinal size a rest narrow h few space =
 -- ---- the records of an answer, by the frame's command byte
 
 module _ (s : State) (ok : Sound s) where
-  -- what a command of the right form is answered with
-  abbrev Answers : ℕ → Command → Type 0
-  Answers n c = Formed c → Sized n (answer s c .records)
+  -- a command of the right form is answered with records of n bytes
+  abbrev SizedRecords : ℕ → Command → Type 0
+  SizedRecords n c = Formed c → Sized n (answer s c .records)
 
-  answers : (c : Command) → Answers (sizeOf c) c
-  answers c f = answer-sized s c f ok
+  own-size : (c : Command) → SizedRecords (sizeOf c) c
+  own-size c f = answer-sized s c f ok
 
   -- no records are of any size
-  malformed-answers : (n : ℕ) → Answers n malformed
+  malformed-sized : (n : ℕ) → SizedRecords n malformed
   unfolding answer
-  malformed-answers n f = (tt, omega arith)
+  malformed-sized n f = (tt, omega arith)
 
-  pipeline-answers : (n : ℕ) (x : PipelineCommand) → Answers n (onPipeline x)
+  pipeline-sized : (n : ℕ) (x : PipelineCommand) → SizedRecords n (onPipeline x)
   unfolding answer
-  pipeline-answers n x f = (tt, omega arith)
+  pipeline-sized n x f = (tt, omega arith)
 
   -- a command with the test of its form
-  formed-answers : (n : ℕ) (b : Bool) (c : Command) → Answers n c → Answers n (formed b c)
-  formed-answers n true c h = h
-  formed-answers n false c h = malformed-answers n
+  formed-sized : (n : ℕ) (b : Bool) (c : Command) → SizedRecords n c → SizedRecords n (formed b c)
+  formed-sized n true c h = h
+  formed-sized n false c h = malformed-sized n
 
   -- a command byte with its own size, and CONFIGURE, which has no records of any size
-  either : (b : Bool) (n m : ℕ) (c d : Command) → Answers n c → Answers m d → Answers (if b then n else m) (if b then c else d)
+  either : (b : Bool) (n m : ℕ) (c d : Command) → SizedRecords n c → SizedRecords m d → SizedRecords (if b then n else m) (if b then c else d)
   either true n m c d h k = h
   either false n m c d h k = k
 
-  unless : (b : Bool) (n : ℕ) (c d : Command) → Answers n c → Answers n d → Answers n (if b then c else d)
+  unless : (b : Bool) (n : ℕ) (c d : Command) → SizedRecords n c → SizedRecords n d → SizedRecords n (if b then c else d)
   unless true n c d h k = h
   unless false n c d h k = k
 
-  by-command : (f : List ℕ) → Answers (recordSize f) (readFrame f)
+  by-command : (f : List ℕ) → SizedRecords (recordSize f) (readFrame f)
   unfolding recordSize readFrame configureOf writeOf
-  by-command [] = malformed-answers 0
+  by-command [] = malformed-sized 0
   by-command (c ∷ operands) =
       let f : List ℕ = c ∷ operands in
-      either (eqb c 0x01) 20 _ _ _ (formed-answers 20 (streamFormed f) _ (answers (onStreams (OPEN (byte 1 f)))))
-      (either (eqb c 0x02) 20 _ _ _ (formed-answers 20 (streamFormed f) _ (answers (onStreams (CLOSE (byte 1 f)))))
-      (either (eqb c 0x03) 20 _ _ _ (formed-answers 20 (arbitrateFormed f) _ (answers (onStreams (ARBITRATE (byte 1 f) (headAt 2 f)))))
-      (unless (eqb c 0x04) _ _ _ (formed-answers _ (configureFormed (byte 27 f) f) _ (pipeline-answers _ (CONFIGURE (headAt 1 f) (parts (byte 27 f) 53 (drop 28 f)))))
-      (either (eqb c 0x05) 2 _ _ _ (formed-answers 2 (writeFormed (byte 28 f) f) _ (answers (onTables (WRITE (headAt 1 f) (byte 27 f) (map updateOf (parts (byte 28 f) 221 (drop 29 f)))))))
-      (either (eqb c 0x06) 220 0 _ _ (formed-answers 220 (readFormed f) _ (answers (onTables (READ (queryOf f))))) (malformed-answers 0))))))
+      let rows : List (List ℕ) = parts (byte 27 f) 53 (drop 28 f) in
+      let updates : List Update = map updateOf (parts (byte 28 f) 221 (drop 29 f)) in
+      either (eqb c 0x01) 20 _ _ _ (formed-sized 20 (streamFormed f) _ (own-size (onStreams (OPEN (byte 1 f)))))
+      (either (eqb c 0x02) 20 _ _ _ (formed-sized 20 (streamFormed f) _ (own-size (onStreams (CLOSE (byte 1 f)))))
+      (either (eqb c 0x03) 20 _ _ _ (formed-sized 20 (arbitrateFormed f) _ (own-size (onStreams (ARBITRATE (byte 1 f) (headAt 2 f)))))
+      (unless (eqb c 0x04) _ _ _ (formed-sized _ (configureFormed (byte 27 f) f) _ (pipeline-sized _ (CONFIGURE (headAt 1 f) rows)))
+      (either (eqb c 0x05) 2 _ _ _ (formed-sized 2 (writeFormed (byte 28 f) f) _ (own-size (onTables (WRITE (headAt 1 f) (byte 27 f) updates))))
+      (either (eqb c 0x06) 220 0 _ _ (formed-sized 220 (readFormed f) _ (own-size (onTables (READ (queryOf f))))) (malformed-sized 0))))))
 
   sized : (f : List ℕ) → Sized (recordSize f) (answer s (readFrame f) .records)
   sized f = by-command f (frame-formed f)

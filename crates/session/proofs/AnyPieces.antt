@@ -13,8 +13,8 @@ use Rattle.transcript.proofs.Begins.{in-pieces}
 use Rattle.memory.specs.declared.Agent.{Agent}
 use Rattle.memory.specs.Layout.{Flat, memory}
 use Rattle.session.specs.Session.{framesOf, lines, linesFrom, Played, InAnyPieces}
-use Rattle.session.proofs.Made.{lines-append, session-append, made-lines}
-use Rattle.session.proofs.Printed.{prints-answers}
+use Rattle.session.proofs.CallsMade.{lines-append, session-append, made-lines}
+use Rattle.session.proofs.PrintsAnswers.{prints-answers}
 
 module _ {agent agent₁ agent₂ : Agent} {first ordinal₁ ordinal₂ : ℕ} {store answer store₁ answer₁ store₂ answer₂ : List ℕ} where
   played-pieces : (input more : List ℕ) {rest₁ rest₂ text₁ text₂ : List ℕ}
@@ -39,7 +39,8 @@ module _ {agent agent′ : Agent} {first ordinal : ℕ} {input store answer stor
       → (fs : List (List ℕ)) (last : List ℕ) → Begins input fs last → firstFrame last ≡ none
       → text ≡ linesFrom first (fresh device) fs
   played-whole device f long wide p n fs last b m =
-      p .printed ∙ prints-answers Flat device first (memory agent store) answer (p .session .steps) f long wide (p .session .trace) (p .session .buffers)
+      p .printed
+      ∙ prints-answers Flat device first (memory agent store) answer (p .session .steps) f long wide (p .session .trace) (p .session .buffers)
       ∙ ap (linesFrom first (fresh device)) (in-pieces .only input (framesOf (p .session .steps)) fs rest last (p .frames) n b m .0)
 
 pub in-any-pieces : InAnyPieces
