@@ -71,11 +71,11 @@ fn write(
     ensures { λ r. ⌜ Handles (memory agent (now (store .entry))) (onTables (tableRead (TableCommand.Write head atomicity n) (now (frame .entry)))) (now (answer .entry)) (result (withTables agent (r .tables)) (r .reason) (now (store .exit)) (now (answer .exit))) ⌝ }
 {
     let streams = agent.streams;
-    let rows = agent.configuration.rows;
     let tables = agent.tables;
     let primary = streams.by_primary(head.role, head.id);
     let here = head.device == agent.device.id;
-    let refused = write_reason(here, head.role, primary, rows.is_empty(), atomicity);
+    let unconfigured = agent.configuration.rows.is_empty();
+    let refused = write_reason(here, head.role, primary, unconfigured, atomicity);
     if refused != 0 {
         answers::write_head(refused, 0, answer);
         return TableOutcome {
@@ -84,8 +84,8 @@ fn write(
         };
     }
     let done = batches::batch(
-        &rows.bytes,
-        rows.count,
+        &agent.configuration.rows.bytes,
+        agent.configuration.rows.count,
         head.role,
         atomicity,
         store,
@@ -124,16 +124,16 @@ fn read(agent: Agent, query: Query, frame: &[u8], store: &[u8], answer: &mut [u8
     requires { ⌜ OperandsThere (TableCommand.Read query) (now frame) × (agent .tables .count ≤ 256) × (56320 ≤ length (now store)) × (57344 ≤ length (now answer)) ⌝ }
     ensures { λ r. ⌜ Handles (memory agent (now (store .entry))) (onTables (tableRead (TableCommand.Read query) (now (frame .entry)))) (now (answer .entry)) (result agent r (now (store .entry)) (now (answer .exit))) ⌝ }
 {
-    let rows = agent.configuration.rows;
     let here = query.device == agent.device.id;
-    let barred = read_reason(here, query.role, rows.is_empty());
+    let unconfigured = agent.configuration.rows.is_empty();
+    let barred = read_reason(here, query.role, unconfigured);
     if barred != 0 {
         answers::write_head(barred, 0, answer);
         return barred;
     }
     let wrong = reads::query_reason(
-        &rows.bytes,
-        rows.count,
+        &agent.configuration.rows.bytes,
+        agent.configuration.rows.count,
         query.role,
         query.table,
         query.only,
@@ -145,8 +145,8 @@ fn read(agent: Agent, query: Query, frame: &[u8], store: &[u8], answer: &mut [u8
     }
     let held = agent.tables;
     let count = reads::read(
-        &rows.bytes,
-        rows.count,
+        &agent.configuration.rows.bytes,
+        agent.configuration.rows.count,
         query.role,
         query.table,
         query.only,
