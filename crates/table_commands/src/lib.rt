@@ -83,9 +83,10 @@ fn write(
             reason: refused,
         };
     }
+    let rows = agent.configuration.rows;
     let done = batches::batch(
-        &agent.configuration.rows.bytes,
-        agent.configuration.rows.count,
+        &rows.bytes,
+        rows.count,
         head.role,
         atomicity,
         store,
@@ -131,9 +132,10 @@ fn read(agent: Agent, query: Query, frame: &[u8], store: &[u8], answer: &mut [u8
         answers::write_head(barred, 0, answer);
         return barred;
     }
+    let rows = agent.configuration.rows;
     let wrong = reads::query_reason(
-        &agent.configuration.rows.bytes,
-        agent.configuration.rows.count,
+        &rows.bytes,
+        rows.count,
         query.role,
         query.table,
         query.only,
@@ -145,8 +147,8 @@ fn read(agent: Agent, query: Query, frame: &[u8], store: &[u8], answer: &mut [u8
     }
     let held = agent.tables;
     let count = reads::read(
-        &agent.configuration.rows.bytes,
-        agent.configuration.rows.count,
+        &rows.bytes,
+        rows.count,
         query.role,
         query.table,
         query.only,

@@ -39,22 +39,22 @@ write-head-requires c κs = search needs
 same-length : tie.Need-same-length
 same-length c = search needs
 
--- Where a state came from: the call's start (the agent is its `t1`, as the rows are lent from it), the two reasons that were found
+-- where a state came from: the call's start, the two reasons that were found
 abbrev start : tie.After-read-reason → tie.Start
 start e = e .before .before .before .before .before .before .before
 
 abbrev before-query : tie.After-query-reason → tie.After-read-reason
-before-query e = e .before .before .before .before .before .before
+before-query e = e .before .before .before .before .before .before .before
 
 -- the order, once its first part is known
 order : (e : tie.After-read-reason) →
     let a = start e .args in
     let q = queryRead (a .query) (now (a .frame)) in
-    let rest = first (queryOrder (controlOf (a .t1) .rows) (q .role) (q .table) (q .only) (q .key)) in
-    readReason (controlOf (a .t1)) q ≡ (if eqb (e .read-reason .result) 0 then rest else e .read-reason .result)
+    let rest = first (queryOrder (controlOf (a .agent) .rows) (q .role) (q .table) (q .only) (q .key)) in
+    readReason (controlOf (a .agent)) q ≡ (if eqb (e .read-reason .result) 0 then rest else e .read-reason .result)
 order e =
     let a = start e .args in
-    read-order (a .t1) (queryRead (a .query) (now (a .frame))) refl (e .before .is-empty .ensures) (e .read-reason .ensures)
+    read-order (a .agent) (queryRead (a .query) (now (a .frame))) refl (e .before .is-empty .ensures) (e .read-reason .ensures)
 
 returns : tie.Need-returns
 returns c =
@@ -63,23 +63,23 @@ returns c =
     let a = start e .args in
     let h = c .before .before .write-head in
     let n = g .if1 .taken in
-    refused (a .t1) _ (now (a .store)) (now (a .answer)) (h .last .1 .1 .0) (λ z. let w : _≡_ {A = ℕ} 0 1 = cc in omega arith)
+    refused (a .agent) _ (now (a .store)) (now (a .answer)) (h .last .1 .1 .0) (λ z. let w : _≡_ {A = ℕ} 0 1 = cc in omega arith)
     (e .read-reason .result)
-    (λ t. table-refused (atTables (a .t1) t) (READ (queryRead (a .query) (now (a .frame)))) (order e ∙ (rw (ne-eqb _ 0 n))) n)
+    (λ t. table-refused (atTables (a .agent) t) (READ (queryRead (a .query) (now (a .frame)))) (order e ∙ (rw (ne-eqb _ 0 n))) n)
     (head-alone _ (now (a .answer)) _ (h .ensures))
 
 sub-query-reason : tie.Need-sub-query-reason
-sub-query-reason c = omega (arith, start (c .before .before .before .before) .pre .0 .0)
+sub-query-reason c = omega (arith, start (c .before .before .before .before .before) .pre .0 .0)
 
 part-query-reason-start : tie.Need-part-query-reason-start
-part-query-reason-start c = omega (arith, start (c .before .before .before .before) .pre .0 .0)
+part-query-reason-start c = omega (arith, start (c .before .before .before .before .before) .pre .0 .0)
 
 part-query-reason-end : tie.Need-part-query-reason-end
 part-query-reason-end c = search needs
 
 query-reason-requires : tie.Need-query-reason-requires
 query-reason-requires c κs =
-    let p = start (c .before .before .before .before .before) .pre in
+    let p = start (c .before .before .before .before .before .before) .pre in
     (search needs, simp (length-take, length-drop) (omega (arith, p .0 .0)), p .0 .2)
 
 write-head-requires-2 : tie.Need-write-head-requires-2
@@ -96,21 +96,21 @@ whole f n = let e : length f - 10 ≡ 149 = omega arith in ap (λ (m : ℕ). tak
 by-query : (e : tie.After-query-reason) →
     let a = start (before-query e) .args in
     let q = queryRead (a .query) (now (a .frame)) in
-    e .query-reason .result ≡ first (queryOrder (controlOf (a .t1) .rows) (q .role) (q .table) (q .only) (q .key))
+    e .query-reason .result ≡ first (queryOrder (controlOf (a .agent) .rows) (q .role) (q .table) (q .only) (q .key))
 by-query e =
     let s = start (before-query e) in
     let a = s .args in
     let f = now (a .frame) in
     let q = queryRead (a .query) f in
     e .query-reason .ensures
-    ∙ ap (λ (k : List ℕ). first (queryOrder (controlOf (a .t1) .rows) (q .role) (q .table) (q .only) k))
+    ∙ ap (λ (k : List ℕ). first (queryOrder (controlOf (a .agent) .rows) (q .role) (q .table) (q .only) k))
     (key-there (a .query) f (whole f (s .pre .0 .0)))
 
 -- so the reason that the query has, if any, is the READ's
 by-both : (e : tie.After-query-reason) →
     let a = start (before-query e) .args in
-    readReason (controlOf (a .t1)) (queryRead (a .query) (now (a .frame))) ≡ e .query-reason .result
-by-both e = order (before-query e) ∙ (rw (eq-eqb _ 0 (e .before .before .before .before .before .if1 .left))) ∙ sym (by-query e)
+    readReason (controlOf (a .agent)) (queryRead (a .query) (now (a .frame))) ≡ e .query-reason .result
+by-both e = order (before-query e) ∙ (rw (eq-eqb _ 0 (e .before .before .before .before .before .before .if1 .left))) ∙ sym (by-query e)
 
 returns-2 : tie.Need-returns-2
 returns-2 c =
@@ -118,9 +118,9 @@ returns-2 c =
     let e = g .before in
     let a = start (before-query e) .args in
     let h = c .before .before .write-head2 in
-    refused (a .t1) _ (now (a .store)) (now (a .answer)) (h .last .1 .1 .0) (λ z. let w : _≡_ {A = ℕ} 0 1 = cc in omega arith)
+    refused (a .agent) _ (now (a .store)) (now (a .answer)) (h .last .1 .1 .0) (λ z. let w : _≡_ {A = ℕ} 0 1 = cc in omega arith)
     (e .query-reason .result)
-    (λ t. table-refused (atTables (a .t1) t) (READ (queryRead (a .query) (now (a .frame)))) (by-both e) (g .if2 .taken))
+    (λ t. table-refused (atTables (a .agent) t) (READ (queryRead (a .query) (now (a .frame)))) (by-both e) (g .if2 .taken))
     (head-alone _ (now (a .answer)) _ (h .ensures))
 
 sub-read : tie.Need-sub-read
@@ -171,18 +171,18 @@ returns-3 c =
     let lent = take (length d - 4) (drop 4 d) in
     let out = r .last .1 .1 .1 .1 .1 .1 .1 .1 .0 in
     let formed : Formed (onTables (READ q)) = query-formed (a .query) f (p .0) in
-    let e : readReason (controlOf (a .t1)) q ≡ 0 = by-both (g .before) ∙ g .if2 .left in
-    let es = shown (flat (a .t1) s) q in
+    let e : readReason (controlOf (a .agent)) q ≡ 0 = by-both (g .before) ∙ g .if2 .left in
+    let es = shown (flat (a .agent) s) q in
     let key = key-there (a .query) f (whole f (p .0 .0)) in
     let asked : List ℕ → List (List ℕ) =
-    λ k. readIn (controlOf (a .t1) .rows) (q .role) (q .table) (q .only) k (tablesIn (a .t1 .tables) s) in
-    flat-handles (a .t1) _ s d (λ k.
-    let z = shown-sized (flat (a .t1) s) q k in
+    λ k. readIn (controlOf (a .agent) .rows) (q .role) (q .table) (q .only) k (tablesIn (a .agent .tables) s) in
+    flat-handles (a .agent) _ s d (λ k.
+    let z = shown-sized (flat (a .agent) s) q k in
     let w : length lent ≡ length d - 4 = length-window 4 (length d - 4) d (omega (arith, p .3)) in
     let t : Reads es lent out (r .result) =
-    subst (λ (x : List (List ℕ)). Reads x lent out (r .result)) (ap asked key ∙ taken (a .t1) q s formed k e) (r .ensures (k .tables .distinct)) in
+    subst (λ (x : List (List ℕ)). Reads x lent out (r .result)) (ap asked key ∙ taken (a .agent) q s formed k e) (r .ensures (k .tables .distinct)) in
     let n = reads-all es lent (omega (arith, z .1, p .3)) t in
-    was-read (a .t1) q s d (h .last .1 .1 .0) e
+    was-read (a .agent) q s d (h .last .1 .1 .0) e
     (records-then-head 0 (r .result) es d out (h .last .1 .1 .0) (omega (arith, p .3)) (n .0) (r .kept .1 .1 .1 .1 .1 .1 .1 .1 .0) (n .1) (h .ensures)))
 
 pub read-spec : {M : Type 1} → statement M

@@ -43,19 +43,19 @@ write-head-requires c κs = search needs
 same-length : tie.Need-same-length
 same-length c = search needs
 
--- Where a state came from: the call's start (the agent is its `t1`, as the rows are lent from it), the reason that was found, the batch's answer
+-- where a state came from: the call's start, the reason that was found, the batch's answer
 abbrev start : tie.After-write-reason → tie.Start
 start e = e .before .before .before .before .before .before .before .before .before .before
 
 abbrev judged : tie.After-batch → tie.After-write-reason
-judged e = e .before .before .before .before .before .before .before .before
+judged e = e .before .before .before .before .before .before .before .before .before
 
 order : (e : tie.After-write-reason) →
     let a = start e .args in
-    writeReason (controlOf (a .t1)) (headOf (a .head)) (a .atomicity) ≡ e .write-reason .result
+    writeReason (controlOf (a .agent)) (headOf (a .head)) (a .atomicity) ≡ e .write-reason .result
 order e =
     let a = start e .args in
-    write-order (a .t1) (headOf (a .head)) (a .atomicity) refl (e .before .before .before .before .by-primary .ensures) (e .before .is-empty .ensures)
+    write-order (a .agent) (headOf (a .head)) (a .atomicity) refl (e .before .before .before .before .by-primary .ensures) (e .before .is-empty .ensures)
     (e .write-reason .ensures)
 
 returns : tie.Need-returns
@@ -65,16 +65,16 @@ returns c =
     let a = start e .args in
     let h = c .before .before .write-head in
     let us = updatesIn (a .n) (drop 29 (now (a .frame))) in
-    refused (a .t1) _ (now (a .store)) (now (a .answer)) (h .last .1 .1 .0) (λ z. let w : _≡_ {A = ℕ} 0 1 = cc in omega arith)
+    refused (a .agent) _ (now (a .store)) (now (a .answer)) (h .last .1 .1 .0) (λ z. let w : _≡_ {A = ℕ} 0 1 = cc in omega arith)
     (e .write-reason .result)
-    (λ t. table-refused (atTables (a .t1) t) (WRITE (headOf (a .head)) (a .atomicity) us) (order e) (g .if1 .taken))
+    (λ t. table-refused (atTables (a .agent) t) (WRITE (headOf (a .head)) (a .atomicity) us) (order e) (g .if1 .taken))
     (head-alone _ (now (a .answer)) _ (h .ensures))
 
 sub-batch : tie.Need-sub-batch
-sub-batch c = omega (arith, start (c .before .before .before .before .before) .pre .0 .1)
+sub-batch c = omega (arith, start (c .before .before .before .before .before .before) .pre .0 .1)
 
 part-batch-start : tie.Need-part-batch-start
-part-batch-start c = omega (arith, start (c .before .before .before .before .before) .pre .0 .1)
+part-batch-start c = omega (arith, start (c .before .before .before .before .before .before) .pre .0 .1)
 
 part-batch-end : tie.Need-part-batch-end
 part-batch-end c = search needs
@@ -90,7 +90,7 @@ part-batch-end-2 c = search needs
 
 batch-requires : tie.Need-batch-requires
 batch-requires c κs =
-    let p = start (c .before .before .before .before .before .before .before) .pre in (
+    let p = start (c .before .before .before .before .before .before .before .before) .pre in (
       search needs,
       p .1,
       p .2,
@@ -129,21 +129,21 @@ returns-2 c =
     let d = now (a .answer) in
     let f = now (a .frame) in
     let batched : List ℕ → Batch =
-    λ l. batchOf (flat (a .t1) store) (headOf (a .head)) (a .atomicity) (updatesIn (a .n) l) in
+    λ l. batchOf (flat (a .agent) store) (headOf (a .head)) (a .atomicity) (updatesIn (a .n) l) in
     let us = updatesIn (a .n) (drop 29 f) in
     let rs = batched (drop 29 f) .reasons in
     let lent = rest-all 29 f in
-    let count = reasons-count (a .atomicity) (rowsOf (a .t1 .configuration .rows)) (a .head .role) (tablesIn (a .t1 .tables) store) us in
+    let count = reasons-count (a .atomicity) (rowsOf (a .agent .configuration .rows)) (a .head .role) (tablesIn (a .agent .tables) store) us in
     let n : a .n ≡ length (map pairOf rs) =
     sym (length-map rs pairOf ∙ count ∙ length-map (parts (a .n) 221 (drop 29 f)) updateOf ∙ parts-count (a .n) 221 (drop 29 f)) in
-    flat-handles (a .t1) _ store d (λ k.
+    flat-handles (a .agent) _ store d (λ k.
     let t = k .tables .distinct in
     let done = subst (λ (l : List ℕ). BatchApplied (batched l) store (b .last .1 .1 .1 .1 .0) (b .result)) lent (b .ensures .0 t) in
     let pairs =
     b .ensures .1 t
     ∙ ap (λ (l : List ℕ). splice (take (length d - 4) (drop 4 d)) 0 (concat (map pairOf (batched l .reasons)))) lent in
-    was-written (a .t1) (headOf (a .head)) (a .atomicity) us store (b .last .1 .1 .1 .1 .0) d (h .last .1 .1 .0) (g .result) (b .result)
-    (order (judged e) ∙ e .before .before .before .before .before .before .before .if1 .left) done (g .ensures)
+    was-written (a .agent) (headOf (a .head)) (a .atomicity) us store (b .last .1 .1 .1 .1 .0) d (h .last .1 .1 .0) (g .result) (b .result)
+    (order (judged e) ∙ e .before .before .before .before .before .before .before .before .if1 .left) done (g .ensures)
     (records-then-head (g .result) (a .n) (map pairOf rs) d (b .last .1 .1 .1 .1 .1 .1 .1 .1 .0) (h .last .1 .1 .0) (omega (arith, s .pre .3)) n
     (b .kept .1 .1 .1 .1 .1 .1 .1 .1 .0) pairs (h .ensures)))
 
