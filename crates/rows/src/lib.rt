@@ -32,6 +32,14 @@ pub struct Lookup {
     pub at: usize,
 }
 
+impl Lookup {
+    // Of an unknown table.
+    const NONE: Lookup = Lookup {
+        known: false,
+        at: 0,
+    };
+}
+
 impl Field {
     pub fn at(b: &[u8], at: usize) -> Field
         requires { ⌜ at + 2 ≤ length (now b) ⌝ }
@@ -94,10 +102,7 @@ pub fn find(rows: &[u8], count: u8, table: u64) -> Lookup
     let mut i: usize = 0;
     while i < 8 {
         if n <= i {
-            return Lookup {
-                known: false,
-                at: 0,
-            };
+            return Lookup::NONE;
         }
         let at = rules::ROW * i;
         if integer(rows, at, 4) == table {
@@ -105,10 +110,7 @@ pub fn find(rows: &[u8], count: u8, table: u64) -> Lookup
         }
         i += 1;
     }
-    Lookup {
-        known: false,
-        at: 0,
-    }
+    Lookup::NONE
 }
 
 impl Rows {
