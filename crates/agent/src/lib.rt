@@ -14,7 +14,8 @@ pub struct Called {
 // One call: 2 is tested first, then 1; then one way for each group of commands, which stores the parts of the record that the group
 // may change.
 pub fn call(mut agent: Agent, frame: &[u8], store: &mut [u8], answer: &mut [u8]) -> Called
-    ensures { λ r. ⌜ Contract Flat (memory agent (now (store .entry))) (input (now (frame .entry)) (now (answer .entry))) (result (r .agent) (r .reason) (now (store .exit)) (now (answer .exit))) ⌝ }
+    ensures { λ r. ⌜ Contract Flat (memory agent (now (store .entry))) (input (now (frame .entry)) (now (answer .entry)))
+        (result (r .agent) (r .reason) (now (store .exit)) (now (answer .exit))) ⌝ }
 {
     if answers::too_short(store.len(), answer.len()) {
         return Called { agent, reason: 2 };

@@ -82,12 +82,14 @@ fn step(
     i: usize,
     answer: &mut [u8],
 ) -> Taken
-    requires { ⌜ (length (now rows) ≡ rowsSize) × Sized tables (now store) × (length (now update) ≡ updateSize) × NotesFit atomicity (i + 1) (now log) × (2 * i + 2 ≤ length (now answer)) ⌝ }
+    requires { ⌜ (length (now rows) ≡ rowsSize) × Sized tables (now store) × (length (now update) ≡ updateSize)
+        × NotesFit atomicity (i + 1) (now log) × (2 * i + 2 ≤ length (now answer)) ⌝ }
     ensures reason { λ r. ⌜ StepJudged r (rowsIn count (now (rows .entry))) role tables (now (store .entry)) (now (update .entry)) ⌝ }
     ensures pair { λ r. ⌜ now (answer .exit) ≡ splice (now (answer .entry)) (2 * i) (pairOf (r .reason)) ⌝ }
     ensures few { λ r. ⌜ r .tables .count ≤ 256 ⌝ }
     ensures left { λ r. ⌜ StepLeft r (now (update .entry)) tables (now (store .entry)) (now (store .exit)) ⌝ }
-    ensures log { λ r. ⌜ StepNoted atomicity r i (now (update .entry)) tables (now (store .entry)) (now (store .exit)) (now (log .entry)) (now (log .exit)) ⌝ }
+    ensures log { λ r. ⌜ StepNoted atomicity r i (now (update .entry)) tables (now (store .entry)) (now (store .exit)) (now (log .entry))
+        (now (log .exit)) ⌝ }
     ensures refused { λ r. ⌜ StepRefused r tables (now (store .entry)) (now (store .exit)) (now (log .entry)) (now (log .exit)) ⌝ }
 {
     let verdict = judging::judge(rows, count, role, store, tables, update);
@@ -118,12 +120,18 @@ fn take(
     log: &mut [u8],
     answer: &mut [u8],
 ) -> Progress
-    requires { ⌜ (length (now rows) ≡ rowsSize) × Sized tables (now store) × (length (now updates) ≡ updateSize * n) × (2 * n ≤ length (now answer)) × NotesFit atomicity n (now log) ⌝ }
+    requires { ⌜ (length (now rows) ≡ rowsSize) × Sized tables (now store) × (length (now updates) ≡ updateSize * n)
+        × (2 * n ≤ length (now answer)) × NotesFit atomicity n (now log) ⌝ }
     ensures bound { λ r. ⌜ (r .tables .count ≤ 256) × (r .done ≤ n) ⌝ }
     ensures none { λ r. ⌜ (atomicity ≡ 1 → r .done ≡ n → r .reason ≡ 0) ⌝ }
-    ensures left { λ r. ⌜ (r .done ≡ n → StoreLeft (alone (rowsIn count (now (rows .entry))) role n (now (updates .entry))) tables (now (store .entry)) (now (store .exit)) (writtenOf r)) ⌝ }
-    ensures pairs { λ r. ⌜ (r .done ≡ n → Pairs (alone (rowsIn count (now (rows .entry))) role n (now (updates .entry))) tables (now (store .entry)) (now (answer .entry)) (now (answer .exit))) ⌝ }
-    ensures stopped { λ r. ⌜ StoppedEarly atomicity (rowsIn count (now (rows .entry))) role tables n (now (updates .entry)) (now (store .entry)) (now (store .exit)) (now (log .exit)) r ⌝ }
+    ensures left { λ r. ⌜ (r .done ≡ n
+        → StoreLeft (alone (rowsIn count (now (rows .entry))) role n (now (updates .entry)))
+        tables (now (store .entry)) (now (store .exit)) (writtenOf r)) ⌝ }
+    ensures pairs { λ r. ⌜ (r .done ≡ n
+        → Pairs (alone (rowsIn count (now (rows .entry))) role n (now (updates .entry)))
+        tables (now (store .entry)) (now (answer .entry)) (now (answer .exit))) ⌝ }
+    ensures stopped { λ r. ⌜ StoppedEarly atomicity (rowsIn count (now (rows .entry))) role tables n (now (updates .entry))
+        (now (store .entry)) (now (store .exit)) (now (log .exit)) r ⌝ }
     ensures beyond { λ _. ⌜ drop (2 * n) (now (answer .exit)) ≡ drop (2 * n) (now (answer .entry)) ⌝ }
 {
     let mut held = tables;
@@ -222,9 +230,12 @@ fn batch_in(
     log: &mut [u8],
     answer: &mut [u8],
 ) -> Written
-    requires { ⌜ (length (now rows) ≡ rowsSize) × Sized tables (now store) × (length (now updates) ≡ updateSize * n) × (2 * n ≤ length (now answer)) × NotesFit atomicity n (now log) ⌝ }
-    ensures left { λ r. ⌜ StoreLeft (ruled atomicity (rowsIn count (now (rows .entry))) role n (now (updates .entry))) tables (now (store .entry)) (now (store .exit)) r ⌝ }
-    ensures pairs { λ _. ⌜ Pairs (ruled atomicity (rowsIn count (now (rows .entry))) role n (now (updates .entry))) tables (now (store .entry)) (now (answer .entry)) (now (answer .exit)) ⌝ }
+    requires { ⌜ (length (now rows) ≡ rowsSize) × Sized tables (now store) × (length (now updates) ≡ updateSize * n)
+        × (2 * n ≤ length (now answer)) × NotesFit atomicity n (now log) ⌝ }
+    ensures left { λ r. ⌜ StoreLeft (ruled atomicity (rowsIn count (now (rows .entry))) role n (now (updates .entry))) tables
+        (now (store .entry)) (now (store .exit)) r ⌝ }
+    ensures pairs { λ _. ⌜ Pairs (ruled atomicity (rowsIn count (now (rows .entry))) role n (now (updates .entry))) tables
+        (now (store .entry)) (now (answer .entry)) (now (answer .exit)) ⌝ }
 {
     let came = take(
         rows,
@@ -261,9 +272,12 @@ pub fn batch(
     n: usize,
     answer: &mut [u8],
 ) -> Written
-    requires { ⌜ (length (now rows) ≡ rowsSize) × (tables .count ≤ 256) × (56320 ≤ length (now store)) × (length (now updates) ≡ updateSize * n) × (n ≤ 64) × (2 * n ≤ length (now answer)) ⌝ }
-    ensures left { λ r. ⌜ StoreLeft (ruled atomicity (rowsIn count (now (rows .entry))) role n (now (updates .entry))) tables (now (store .entry)) (now (store .exit)) r ⌝ }
-    ensures pairs { λ _. ⌜ Pairs (ruled atomicity (rowsIn count (now (rows .entry))) role n (now (updates .entry))) tables (now (store .entry)) (now (answer .entry)) (now (answer .exit)) ⌝ }
+    requires { ⌜ (length (now rows) ≡ rowsSize) × (tables .count ≤ 256) × (56320 ≤ length (now store))
+        × (length (now updates) ≡ updateSize * n) × (n ≤ 64) × (2 * n ≤ length (now answer)) ⌝ }
+    ensures left { λ r. ⌜ StoreLeft (ruled atomicity (rowsIn count (now (rows .entry))) role n (now (updates .entry))) tables
+        (now (store .entry)) (now (store .exit)) r ⌝ }
+    ensures pairs { λ _. ⌜ Pairs (ruled atomicity (rowsIn count (now (rows .entry))) role n (now (updates .entry))) tables
+        (now (store .entry)) (now (answer .entry)) (now (answer .exit)) ⌝ }
 {
     if atomicity != 1 {
         // nothing is noted

@@ -103,7 +103,8 @@ fn old_entry(note: &[u8], update: &[u8], out: &mut [u8])
 
 // Puts the entry that was deleted back at its place.
 fn put_back(note: &[u8], update: &[u8], store: &mut [u8], tables: Tables, i: usize) -> Tables
-    requires { ⌜ (i ≤ tables .count) × (tables .count < 256) × (56320 ≤ length (now store)) × (length (now note) ≡ 74) × (length (now update) ≡ updateSize) ⌝ }
+    requires { ⌜ (i ≤ tables .count) × (tables .count < 256) × (56320 ≤ length (now store)) × (length (now note) ≡ 74)
+        × (length (now update) ≡ updateSize) ⌝ }
     ensures { λ r. ⌜ PutBack i (now (note .entry)) (now (update .entry)) tables (now (store .entry)) (now (store .exit)) r ⌝ }
 {
     let mut old = [0; rules::ENTRY];

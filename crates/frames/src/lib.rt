@@ -79,7 +79,8 @@ fn flag_fits(flag: u8, id: ElectionId) -> bool
 
 // OPEN: length 2, stream 0 to 31.
 fn read_open(frame: &[u8]) -> Frame
-    ensures means { λ r. ⌜ frameRead r (now (frame .entry)) ≡ rules.formed (rules.streamFormed (now (frame .entry))) (rules.onStreams (rules.OPEN (byte 1 (now (frame .entry))))) ⌝ }
+    ensures means { λ r. ⌜ frameRead r (now (frame .entry)) ≡ rules.formed (rules.streamFormed (now (frame .entry)))
+        (rules.onStreams (rules.OPEN (byte 1 (now (frame .entry))))) ⌝ }
     ensures there { λ r. ⌜ FrameThere r (now (frame .entry)) ⌝ }
 {
     if frame.len() != 2 {
@@ -94,7 +95,8 @@ fn read_open(frame: &[u8]) -> Frame
 
 // CLOSE: likewise.
 fn read_close(frame: &[u8]) -> Frame
-    ensures means { λ r. ⌜ frameRead r (now (frame .entry)) ≡ rules.formed (rules.streamFormed (now (frame .entry))) (rules.onStreams (rules.CLOSE (byte 1 (now (frame .entry))))) ⌝ }
+    ensures means { λ r. ⌜ frameRead r (now (frame .entry)) ≡ rules.formed (rules.streamFormed (now (frame .entry)))
+        (rules.onStreams (rules.CLOSE (byte 1 (now (frame .entry))))) ⌝ }
     ensures there { λ r. ⌜ FrameThere r (now (frame .entry)) ⌝ }
 {
     if frame.len() != 2 {
@@ -109,7 +111,8 @@ fn read_close(frame: &[u8]) -> Frame
 
 // ARBITRATE: length 28, stream 0 to 31.
 fn read_arbitrate(frame: &[u8]) -> Frame
-    ensures means { λ r. ⌜ frameRead r (now (frame .entry)) ≡ rules.formed (rules.arbitrateFormed (now (frame .entry))) (rules.onStreams (rules.ARBITRATE (byte 1 (now (frame .entry))) (rules.headAt 2 (now (frame .entry))))) ⌝ }
+    ensures means { λ r. ⌜ frameRead r (now (frame .entry)) ≡ rules.formed (rules.arbitrateFormed (now (frame .entry)))
+        (rules.onStreams (rules.ARBITRATE (byte 1 (now (frame .entry))) (rules.headAt 2 (now (frame .entry))))) ⌝ }
     ensures there { λ r. ⌜ FrameThere r (now (frame .entry)) ⌝ }
 {
     if frame.len() != 28 {
@@ -128,7 +131,9 @@ fn read_arbitrate(frame: &[u8]) -> Frame
 
 // CONFIGURE: t 1 to 8, length 28 + 53t.
 fn read_configure(frame: &[u8]) -> Frame
-    ensures means { λ r. ⌜ frameRead r (now (frame .entry)) ≡ rules.formed (rules.configureFormed (byte 27 (now (frame .entry))) (now (frame .entry))) (rules.configureOf (byte 27 (now (frame .entry))) (now (frame .entry))) ⌝ }
+    ensures means { λ r. ⌜ frameRead r (now (frame .entry)) ≡ rules.formed
+        (rules.configureFormed (byte 27 (now (frame .entry))) (now (frame .entry)))
+        (rules.configureOf (byte 27 (now (frame .entry))) (now (frame .entry))) ⌝ }
     ensures there { λ r. ⌜ FrameThere r (now (frame .entry)) ⌝ }
 {
     if frame.len() < 28 {
@@ -153,7 +158,9 @@ fn read_configure(frame: &[u8]) -> Frame
 
 // WRITE: n 0 to 64, length 29 + 221n, atomicity 0 to 2.
 fn read_write(frame: &[u8]) -> Frame
-    ensures means { λ r. ⌜ frameRead r (now (frame .entry)) ≡ rules.formed (rules.writeFormed (byte 28 (now (frame .entry))) (now (frame .entry))) (rules.writeOf (byte 28 (now (frame .entry))) (now (frame .entry))) ⌝ }
+    ensures means { λ r. ⌜ frameRead r (now (frame .entry)) ≡ rules.formed
+        (rules.writeFormed (byte 28 (now (frame .entry))) (now (frame .entry)))
+        (rules.writeOf (byte 28 (now (frame .entry))) (now (frame .entry))) ⌝ }
     ensures there { λ r. ⌜ FrameThere r (now (frame .entry)) ⌝ }
 {
     if frame.len() < 29 {
@@ -179,7 +186,8 @@ fn read_write(frame: &[u8]) -> Frame
 
 // READ: length 159; only 0 with a key of zeros, or only 1 with a table other than 0.
 fn read_read(frame: &[u8]) -> Frame
-    ensures means { λ r. ⌜ frameRead r (now (frame .entry)) ≡ rules.formed (rules.readFormed (now (frame .entry))) (rules.onTables (rules.READ (rules.queryOf (now (frame .entry))))) ⌝ }
+    ensures means { λ r. ⌜ frameRead r (now (frame .entry)) ≡ rules.formed (rules.readFormed (now (frame .entry)))
+        (rules.onTables (rules.READ (rules.queryOf (now (frame .entry))))) ⌝ }
     ensures there { λ r. ⌜ FrameThere r (now (frame .entry)) ⌝ }
 {
     if frame.len() != 159 {

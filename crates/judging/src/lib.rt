@@ -60,7 +60,8 @@ fn locate(store: &[u8], tables: Tables, entry: &[u8]) -> Found
 // 20, 22 and 24 of an INSERT.
 fn judge_insert(row: &[u8], store: &[u8], tables: Tables, entry: &[u8]) -> Verdict
     requires { ⌜ (length (now row) ≡ rowSize) × InStore tables (now store) × (length (now entry) ≡ entrySize) ⌝ }
-    ensures reason { λ r. ⌜ reasonOf r ≡ first (placeOrder (rowOf (now (row .entry))) 1 (now (entry .entry)) (tablesIn tables (now (store .entry)))) ⌝ }
+    ensures reason { λ r. ⌜ reasonOf r ≡ first
+        (placeOrder (rowOf (now (row .entry))) 1 (now (entry .entry)) (tablesIn tables (now (store .entry)))) ⌝ }
     ensures justified { λ r. ⌜ Justified r 1 (now (entry .entry)) (entriesIn tables (now (store .entry))) ⌝ }
     ensures possible { λ r. ⌜ Possible r tables ⌝ }
 {
@@ -87,7 +88,8 @@ fn judge_insert(row: &[u8], store: &[u8], tables: Tables, entry: &[u8]) -> Verdi
 // 21 of a MODIFY or a DELETE.
 fn judge_change(kind: u8, store: &[u8], tables: Tables, entry: &[u8]) -> Verdict
     requires { ⌜ InStore tables (now store) × (length (now entry) ≡ entrySize) × (isInsert kind ≡ false) ⌝ }
-    ensures reason { λ r. ⌜ ((row : rules.Row) → reasonOf r ≡ first (placeOrder row kind (now (entry .entry)) (tablesIn tables (now (store .entry))))) ⌝ }
+    ensures reason { λ r. ⌜
+        ((row : rules.Row) → reasonOf r ≡ first (placeOrder row kind (now (entry .entry)) (tablesIn tables (now (store .entry))))) ⌝ }
     ensures justified { λ r. ⌜ Justified r kind (now (entry .entry)) (entriesIn tables (now (store .entry))) ⌝ }
     ensures possible { λ r. ⌜ Possible r tables ⌝ }
 {
@@ -132,7 +134,8 @@ fn judge_by(
     update: &[u8],
 ) -> Verdict
     requires { ⌜ (length (now row) ≡ rowSize) × InStore tables (now store) × (length (now update) ≡ updateSize) ⌝ }
-    ensures reason { λ r. ⌜ reasonOf r ≡ judgeBy known (rowOf (now (row .entry))) role (tablesIn tables (now (store .entry))) (updateOf (now (update .entry))) ⌝ }
+    ensures reason { λ r. ⌜ reasonOf r ≡ judgeBy known (rowOf (now (row .entry))) role (tablesIn tables (now (store .entry)))
+        (updateOf (now (update .entry))) ⌝ }
     ensures justified { λ r. ⌜ Justified r (byte 0 (now (update .entry))) (drop 1 (now (update .entry))) (entriesIn tables (now (store .entry))) ⌝ }
     ensures possible { λ r. ⌜ Possible r tables ⌝ }
 {

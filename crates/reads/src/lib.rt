@@ -70,7 +70,8 @@ fn read_all(
     answer: &mut [u8],
 ) -> usize
     requires { ⌜ (length (now rows) ≡ rowsSize) × InStore tables (now store) ⌝ }
-    ensures { λ r. ⌜ Reads (gathered role table (rowsIn count (now (rows .entry))) (tablesIn tables (now (store .entry)))) (now (answer .entry)) (now (answer .exit)) r ⌝ }
+    ensures { λ r. ⌜ Reads (gathered role table (rowsIn count (now (rows .entry))) (tablesIn tables (now (store .entry))))
+        (now (answer .entry)) (now (answer .exit)) r ⌝ }
 {
     let t = count as usize;
     let mut n: usize = 0;
@@ -141,7 +142,8 @@ pub fn read(
     answer: &mut [u8],
 ) -> usize
     requires { ⌜ (length (now rows) ≡ rowsSize) × (length (now query) ≡ 149) × InStore tables (now store) × (56320 ≤ length (now answer)) ⌝ }
-    ensures { λ r. ⌜ ReadsQuery (rowsIn count (now (rows .entry))) role table only (keyIn (now (query .entry))) tables (now (store .entry)) (now (answer .entry)) (now (answer .exit)) r ⌝ }
+    ensures { λ r. ⌜ ReadsQuery (rowsIn count (now (rows .entry))) role table only (keyIn (now (query .entry))) tables (now (store .entry))
+        (now (answer .entry)) (now (answer .exit)) r ⌝ }
 {
     if only == 1 {
         return read_key(query, store, tables, answer);

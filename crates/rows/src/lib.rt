@@ -95,7 +95,8 @@ pub fn may_write(row: &[u8], role: u8) -> bool
 pub fn find(rows: &[u8], count: u8, table: u64) -> Lookup
     requires { ⌜ length (now rows) ≡ rowsSize ⌝ }
     ensures known { λ r. ⌜ r .known ≡ rules.known table (rowsIn count (now (rows .entry))) ⌝ }
-    ensures row { λ r. ⌜ (r .known ≡ true → rowOf (part (r .at) rowSize (now (rows .entry))) ≡ rules.rowFor table (rowsIn count (now (rows .entry)))) ⌝ }
+    ensures row { λ r. ⌜
+        (r .known ≡ true → rowOf (part (r .at) rowSize (now (rows .entry))) ≡ rules.rowFor table (rowsIn count (now (rows .entry)))) ⌝ }
     ensures range { λ r. ⌜ r .at + rowSize ≤ rowsSize ⌝ }
 {
     let n = count as usize;

@@ -22,7 +22,8 @@ pub extern "C" fn savorylatch_call(
     store: &mut [u8],
     answer: &mut [u8],
 ) -> u8
-    ensures { λ r. ⌜ Contract Flat (memory (now (agent .entry)) (now (store .entry))) (input (now (frame .entry)) (now (answer .entry))) (result (now (agent .exit)) r (now (store .exit)) (now (answer .exit))) ⌝ }
+    ensures { λ r. ⌜ Contract Flat (memory (now (agent .entry)) (now (store .entry))) (input (now (frame .entry)) (now (answer .entry)))
+        (result (now (agent .exit)) r (now (store .exit)) (now (answer .exit))) ⌝ }
 {
     if answers::too_short(store.len(), answer.len()) {
         return 2;

@@ -147,7 +147,8 @@ pub fn put_back(store: &mut [u8], tables: Tables, i: usize, entry: &[u8]) -> Tab
 // Writes an action and its parameters, 72 bytes, over those of entry i.
 pub fn replace_action(store: &mut [u8], tables: Tables, i: usize, action: &[u8])
     requires { ⌜ (i < tables .count) × (tables .count ≤ 256) × (56320 ≤ length (now store)) × (length (now action) ≡ 72) ⌝ }
-    ensures { λ _. ⌜ Holds (now (store .entry)) (now (store .exit)) tables (changedAt i (now (action .entry)) (entriesIn tables (now (store .entry)))) ⌝ }
+    ensures { λ _. ⌜ Holds (now (store .entry)) (now (store .exit)) tables
+        (changedAt i (now (action .entry)) (entriesIn tables (now (store .entry)))) ⌝ }
 {
     let at = rules::ENTRY * i + rules::KEY;
     let end = at + 72;

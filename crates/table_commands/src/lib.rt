@@ -67,8 +67,11 @@ fn write(
     store: &mut [u8],
     answer: &mut [u8],
 ) -> TableOutcome
-    requires { ⌜ OperandsThere (TableCommand.Write head atomicity n) (now frame) × (agent .tables .count ≤ 256) × (56320 ≤ length (now store)) × (132 ≤ length (now answer)) ⌝ }
-    ensures { λ r. ⌜ Handles (memory agent (now (store .entry))) (onTables (tableRead (TableCommand.Write head atomicity n) (now (frame .entry)))) (now (answer .entry)) (result (withTables agent (r .tables)) (r .reason) (now (store .exit)) (now (answer .exit))) ⌝ }
+    requires { ⌜ OperandsThere (TableCommand.Write head atomicity n) (now frame) × (agent .tables .count ≤ 256)
+        × (56320 ≤ length (now store)) × (132 ≤ length (now answer)) ⌝ }
+    ensures { λ r. ⌜ Handles (memory agent (now (store .entry)))
+        (onTables (tableRead (TableCommand.Write head atomicity n) (now (frame .entry)))) (now (answer .entry))
+        (result (withTables agent (r .tables)) (r .reason) (now (store .exit)) (now (answer .exit))) ⌝ }
 {
     let streams = agent.streams;
     let tables = agent.tables;
@@ -122,8 +125,10 @@ fn read_reason(here: bool, role: u8, unconfigured: bool) -> u8
 
 // Writes the entries asked for from byte 4 on, and before them the head; the reason. The query is in the frame from byte 10 on.
 fn read(agent: Agent, query: Query, frame: &[u8], store: &[u8], answer: &mut [u8]) -> u8
-    requires { ⌜ OperandsThere (TableCommand.Read query) (now frame) × (agent .tables .count ≤ 256) × (56320 ≤ length (now store)) × (57344 ≤ length (now answer)) ⌝ }
-    ensures { λ r. ⌜ Handles (memory agent (now (store .entry))) (onTables (tableRead (TableCommand.Read query) (now (frame .entry)))) (now (answer .entry)) (result agent r (now (store .entry)) (now (answer .exit))) ⌝ }
+    requires { ⌜ OperandsThere (TableCommand.Read query) (now frame) × (agent .tables .count ≤ 256) × (56320 ≤ length (now store))
+        × (57344 ≤ length (now answer)) ⌝ }
+    ensures { λ r. ⌜ Handles (memory agent (now (store .entry))) (onTables (tableRead (TableCommand.Read query) (now (frame .entry))))
+        (now (answer .entry)) (result agent r (now (store .entry)) (now (answer .exit))) ⌝ }
 {
     let here = query.device == agent.device.id;
     let unconfigured = agent.configuration.rows.is_empty();
@@ -172,7 +177,8 @@ pub fn carry_out(
     answer: &mut [u8],
 ) -> TableOutcome
     requires { ⌜ OperandsThere command (now frame) × (56320 ≤ length (now store)) × (57344 ≤ length (now answer)) ⌝ }
-    ensures { λ r. ⌜ Handles (memory agent (now (store .entry))) (onTables (tableRead command (now (frame .entry)))) (now (answer .entry)) (result (withTables agent (r .tables)) (r .reason) (now (store .exit)) (now (answer .exit))) ⌝ }
+    ensures { λ r. ⌜ Handles (memory agent (now (store .entry))) (onTables (tableRead command (now (frame .entry)))) (now (answer .entry))
+        (result (withTables agent (r .tables)) (r .reason) (now (store .exit)) (now (answer .exit))) ⌝ }
 {
     let tables = agent.tables;
     if 256 < tables.count {
