@@ -13,7 +13,7 @@ use Rattle.frames.specs.declared.Frame.the-variants.{Asks}
 use Rattle.memory.specs.declared.Agent.{Agent}
 use Rattle.pipeline.specs.declared.Configured.{Configured}
 use Rattle.table_commands.specs.declared.TableOutcome.{TableOutcome}
-use Rattle.savorylatch.proofs.Places.{Field-of, Variant-of}
+use Rattle.savorylatch.proofs.Places.{Field-of, in-struct, Variant-of}
 use Rattle.savorylatch.proofs.Known.{Known, Stands, of-struct, of-enum, number}
 use Rattle.arbitration.proofs.Streams as S
 use Rattle.arbitration.proofs.Streams.Laws as S′
@@ -86,34 +86,34 @@ table-outcome-of = of-struct TO.the-type TO′.the-laws TO′.the-plain
 
 -- ---- where the parts lie: of each, that it is there. The offsets are nobody's business
 pub device-in-record : Field-of A′.mir 0 D′.mir
-device-in-record = record { ν = _; τs = _; d = _; struct = refl; lies = refl }
+device-in-record = in-struct A′.mir refl
 
 pub streams-in-record : Field-of A′.mir 1 S′.mir
-streams-in-record = record { ν = _; τs = _; d = _; struct = refl; lies = refl }
+streams-in-record = in-struct A′.mir refl
 
 pub configuration-in-record : Field-of A′.mir 2 N′.mir
-configuration-in-record = record { ν = _; τs = _; d = _; struct = refl; lies = refl }
+configuration-in-record = in-struct A′.mir refl
 
 pub tables-in-record : Field-of A′.mir 3 B′.mir
-tables-in-record = record { ν = _; τs = _; d = _; struct = refl; lies = refl }
+tables-in-record = in-struct A′.mir refl
 
 pub streams-in-outcome : Field-of O′.mir 0 S′.mir
-streams-in-outcome = record { ν = _; τs = _; d = _; struct = refl; lies = refl }
+streams-in-outcome = in-struct O′.mir refl
 
 pub reason-in-outcome : Field-of O′.mir 1 (tyInt w8)
-reason-in-outcome = record { ν = _; τs = _; d = _; struct = refl; lies = refl }
+reason-in-outcome = in-struct O′.mir refl
 
 pub configuration-in-configured : Field-of PO′.mir 0 N′.mir
-configuration-in-configured = record { ν = _; τs = _; d = _; struct = refl; lies = refl }
+configuration-in-configured = in-struct PO′.mir refl
 
 pub tables-in-configured : Field-of PO′.mir 1 B′.mir
-tables-in-configured = record { ν = _; τs = _; d = _; struct = refl; lies = refl }
+tables-in-configured = in-struct PO′.mir refl
 
 pub tables-in-table-outcome : Field-of TO′.mir 0 B′.mir
-tables-in-table-outcome = record { ν = _; τs = _; d = _; struct = refl; lies = refl }
+tables-in-table-outcome = in-struct TO′.mir refl
 
 pub reason-in-table-outcome : Field-of TO′.mir 1 (tyInt w8)
-reason-in-table-outcome = record { ν = _; τs = _; d = _; struct = refl; lies = refl }
+reason-in-table-outcome = in-struct TO′.mir refl
 
 pub command-in-frame : Variant-of F′.mir 0 C′.mir
 command-in-frame = record { ν = _; τss = _; τs = _; ω = _; d = _; enum = refl; has = refl; tag = refl; payload = refl; fields = refl; lies = refl }
