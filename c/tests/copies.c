@@ -231,7 +231,7 @@ static void events(void) {
     row("ARBITRATE, a backup's first", 0, arbitrate(2, 1, 0, 4), 11, 10888);
     row("CLOSE of a backup", 0, event(2, 2), 10, 11800);
     bind(2, 4);
-    row("CLOSE of a primary, one stream told", 0, event(2, 1), 12, 13592);
+    row("CLOSE of a primary, one stream notified", 0, event(2, 1), 12, 13592);
     call(event(2, 2));
 }
 
@@ -254,11 +254,11 @@ static void refused_events(void) {
     for (uint8_t s = 3; s <= 6; s++) {
         call(event(2, s));
     }
-    row("ARBITRATE of a primary, other device, one stream told", 7, arbitrate(1, 9, 0, 8), 13, 12680);
+    row("ARBITRATE of a primary, other device, one stream notified", 7, arbitrate(1, 9, 0, 8), 13, 12680);
     call(event(2, 2));
     bind(2, 6);
     bind(1, 8);
-    row("ARBITRATE of a primary, id in use, one stream told", 8, arbitrate(1, 1, 0, 6), 13, 12680);
+    row("ARBITRATE of a primary, id in use, one stream notified", 8, arbitrate(1, 1, 0, 6), 13, 12680);
     call(event(2, 2));
 }
 

@@ -53,7 +53,7 @@ const SIGHTS: [&str; 25] = [
     "status 5",
     "status 6",
     "status 5 without a mark",
-    "eight streams told",
+    "eight streams notified",
     "a closing primary that tells",
     "a closing backup that tells nobody",
     "7 with notifications",
@@ -179,7 +179,7 @@ impl Tally {
                     (7, 1..) => self.see("7 with notifications"),
                     (8, 1..) => self.see("8 with notifications"),
                     (8, 0) => self.see("8 without notifications"),
-                    (0, 8) => self.see("eight streams told"),
+                    (0, 8) => self.see("eight streams notified"),
                     _ => {}
                 }
                 self.notices(answer);

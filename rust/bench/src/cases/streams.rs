@@ -19,7 +19,7 @@ pub fn open_and_close() -> Vec<Case> {
             every(0..CROWD - 1, bytes::close),
             (0..CROWD - 1).flat_map(bind).collect(),
         ),
-        Case::new("CLOSE", "of a primary, 7 streams told", crowded(4))
+        Case::new("CLOSE", "of a primary, 7 streams notified", crowded(4))
             .step(every(primaries(), bytes::close), primaries_back())
             .records(7),
     ]
@@ -38,10 +38,10 @@ pub fn arbitrate() -> Vec<Case> {
         case("repeated id, 8 streams bound", crowded(1))
             .timed(vec![send(7, ID)])
             .records(1),
-        case("with change, 1 stream told", with_primary())
+        case("with change, 1 stream notified", with_primary())
             .timed(to_and_fro(STREAM))
             .records(1),
-        case("with change, 8 streams told", crowded(1))
+        case("with change, 8 streams notified", crowded(1))
             .timed(to_and_fro(7))
             .records(8),
         case("refused 8, unbound stream", unbound)
@@ -50,7 +50,7 @@ pub fn arbitrate() -> Vec<Case> {
                 every(2..32, bytes::open),
             )
             .refused(8),
-        case("refused 8, primary, 7 streams told", crowded(4))
+        case("refused 8, primary, 7 streams notified", crowded(4))
             .step(every(primaries(), held), primaries_back())
             .refused(8)
             .records(7),
