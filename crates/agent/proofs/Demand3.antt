@@ -17,7 +17,9 @@ flat-free m n t e u h =
     let bytes : take (m .agent .tables .count * 220) (m .store) ≡ take (n .agent .tables .count * 220) (n .store) = cc in
     let count : m .agent .tables .count ≡ n .agent .tables .count = ap (λ (a : Agent). a .tables .count) e in
     let same : parts (m .agent .tables .count) 220 (m .store) ≡ parts (n .agent .tables .count) 220 (n .store) =
-    sym (parts-lent (m .agent .tables .count) 220 (m .store)) ∙ ap₂ (λ (k : ℕ) (l : List ℕ). parts k 220 l) count bytes ∙ parts-lent (n .agent .tables .count) 220 (n .store) in
+    sym (parts-lent (m .agent .tables .count) 220 (m .store))
+    ∙ ap₂ (λ (k : ℕ) (l : List ℕ). parts k 220 l) count bytes
+    ∙ parts-lent (n .agent .tables .count) 220 (n .store) in
     ap (λ (es : List (List ℕ)). record { entries = es }) (sym same) ∙ h
 
 pub demand-3 : Demand3 Flat

@@ -15,7 +15,8 @@ use Rattle.rules.specs.Frame.{Command, tooShort, malformed, onStreams, onPipeli
 use Rattle.rules.specs.Streams.{event}
 use Rattle.rules.specs.Answer.{answerBytes, replyOf}
 use Rattle.rules.specs.Update.{Tables}
-use Rattle.rules.specs.Call.{Control, State, longEnough, commandOf, pipelineCommand, eventAnswer, plain, refusal, nextControl, nextTables, next, answer, reply}
+use Rattle.rules.specs.Call.{Control, State, longEnough, commandOf, pipelineCommand, eventAnswer, plain, refusal, nextControl, nextTables, next}
+use Rattle.rules.specs.Call.{answer, reply}
 use Rattle.rules.specs.Sound.{Sound}
 use Rattle.rules.proofs.Refused.{pipeline-refused}
 use Rattle.rules.proofs.Tests.{and-true}
@@ -82,7 +83,11 @@ module _ (a : Agent) (frame store d : List ℕ) where
     unfolding next nextControl nextTables answer
     event-met x out r e h o =
         met e (λ t k. store-stays a (onStreams x) store d out (λ z. let w : _≡_ {A = ℕ} 0 1 = cc in omega arith) t (eventAnswer (outcomeOf r))
-        (ap eventAnswer (sym h)) (record { control = ap (λ o. record { device = a .device .id; streams = o .after; rows = controlOf a .rows }) h; tables = k .holds }) refl o)
+        (ap eventAnswer (sym h))
+        (record {
+          control = ap (λ o. record { device = a .device .id; streams = o .after; rows = controlOf a .rows }) h;
+          tables = k .holds;
+        }) refl o)
 
     -- a pipeline command: refused, and accepted
     module _ (x : rules.PipelineCommand) (out : List ℕ) (reason : ℕ) (e : onPipeline x ≡ readFrame frame) (h : Refuses (controlOf a) x reason)

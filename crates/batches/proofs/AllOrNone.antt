@@ -1,4 +1,4 @@
--- A batch with atomicity 1: the notes of its log, one written behind the others or the last of them undone; the batch before its
+-- A batch with atomicity 1: the notes of its log, one written after the others or the last of them undone; the batch before its
 -- update i, all earlier ones having taken effect; and what a batch comes to. Assumes nothing.
 use Prim.Native.Nat.{ℕ, zero, suc, _+_, _*_, _≤_, _<_}
 use native.Mathlib.Omega.{arith}
@@ -30,7 +30,7 @@ use Rattle.batches.specs.declared.Progress.{Progress}
 
 -- ---- the notes
 
--- what is written behind the first k notes leaves them
+-- what is written after the first k notes leaves them
 undoes-behind : (k at : ℕ) (log us ys : List ℕ) (es goal : List (List ℕ)) → 74 * k ≤ at → at ≤ length log
     → Undoes k log us es goal → Undoes k (splice log at ys) us es goal
 unfolding Undoes
@@ -139,7 +139,8 @@ module _ (rows : List Row) (role : ℕ) where
               beyond = a .beyond ∙ b .left .beyond;
             };
             undoes = rw (d .bytes)
-                (undoes-next i log us (d .note) (entriesIn held store) (entriesIn m after) (entriesIn tables start) (d .size) h (b .undoes) (d .undoing));
+                (undoes-next i log us (d .note) (entriesIn held store) (entriesIn m after) (entriesIn tables start) (d .size) h (b .undoes)
+                (d .undoing));
           }
 
       -- one that fails
@@ -227,7 +228,7 @@ pairs-long : (rs : List ℕ) → length (concat (map pairOf rs)) ≡ 2 * length 
 pairs-long [] = refl
 pairs-long (r ∷ rs) = omega (arith, pairs-long rs)
 
--- n pairs, written over what changed no byte behind them
+-- n pairs, written over what changed no byte after them
 pub pairs-anew : (n : ℕ) (rs before mid : List ℕ) → length rs ≡ n → drop (2 * n) mid ≡ drop (2 * n) before
     → splice mid 0 (concat (map pairOf rs)) ≡ splice before 0 (concat (map pairOf rs))
 pairs-anew n rs before mid l e =

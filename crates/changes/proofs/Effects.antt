@@ -28,7 +28,7 @@ use Rattle.changes.specs.Effect.{effect}
 
 -- ---- what doing a verdict does
 
--- an entry that has the key of e, with the action of e behind it, is e
+-- an entry that has the key of e, with the action of e after it, is e
 changed-whole : (old e : List ℕ) → length e ≡ 220 → hasKey (shortKey e) old ≡ true
     → take 148 old ++ drop 148 (shortEntry e) ≡ shortEntry e
 changed-whole old e l h =

@@ -28,7 +28,7 @@ undo-added es e =
     let l : length (es ++ (e ∷ [])) ≡ length es + 1 = length-append es (e ∷ []) in
     take-at es (e ∷ []) (length (es ++ (e ∷ [])) - 1) (omega arith)
 
--- the key stays under a change, so that the old action behind it is the old entry
+-- the key stays under a change, so that the old action after it is the old entry
 undo-changed : (es : List (List ℕ)) (i : ℕ) (a : List ℕ) → i < length es → length (keyOf (getD es i [])) ≡ 148
     → undone (Changed i (drop 148 (getD es i []))) (changedAt i a es) ≡ es
 undo-changed es i a h l =

@@ -12,10 +12,13 @@ use borrow.Author.Tests.{eqb-true, le-leb}
 use Rattle.rules.specs.Bytes.{if_then_else_, every, byte, parts, number, allZero}
 use Rattle.rules.specs.Row.{Field, Row}
 use Rattle.rules.specs.Value.{isValue, fits, stripped, padded, short}
-use Rattle.rules.specs.Key.{omitted, exact, optional, kind, value1, value2, slotFormed, slotFits, slotRule, alongside, alongsideAll, keyFormed, keyFits, priorityRule, keyRules, shortSlot}
+use Rattle.rules.specs.Key.{omitted, exact, optional, kind, value1, value2, slotFormed, slotFits, slotRule}
+use Rattle.rules.specs.Key.{alongside, alongsideAll, keyFormed, keyFits, priorityRule, keyRules, shortSlot}
 use Rattle.rules.specs.Entry.{actionIn, parameters, hasAction, widthsOf, actionFormed, actionFits, passes, shortEntry}
 use Rattle.rules.proofs.Tests.{and-true, both-true, every-append, every-part}
-use Rattle.rules.proofs.Shortest.{first-length, others-fit, stripped-some, digits, digits-length, short-unused, value-of-short, value1-length, value2-length, kind-of-short, value1-of-short, value2-of-short, slots-fit, slots-of-entry, priority-of-short, parameters-fit, action-of-short, parameters-of-short}
+use Rattle.rules.proofs.Shortest.{first-length, others-fit, stripped-some, digits, digits-length, short-unused, value-of-short}
+use Rattle.rules.proofs.Shortest.{value1-length, value2-length, kind-of-short, value1-of-short, value2-of-short, slots-fit}
+use Rattle.rules.proofs.Shortest.{slots-of-entry, priority-of-short, parameters-fit, action-of-short, parameters-of-short}
 use Rattle.rules.proofs.Numbers.{short-value}
 
 -- ---- parts under a test, where each of n parts of w bytes is replaced
@@ -135,7 +138,8 @@ module _ (row : Row) (e : List ℕ) (l : length e ≡ 220) where
   unfolding keyRules
   key-rules =
       ap₂ _&&_
-      (ap (alongside slotRule (row .fields)) (slots-of-entry e l) ∙ alongside-same shortSlot 35 slotRule slot-rule (row .fields) 4 (drop 8 e) slots-there)
+      (ap (alongside slotRule (row .fields)) (slots-of-entry e l)
+      ∙ alongside-same shortSlot 35 slotRule slot-rule (row .fields) 4 (drop 8 e) slots-there)
       (ap (priorityRule (row .fields)) (priority-of-short e l))
 
   action-same : actionIn (shortEntry e) ≡ actionIn e

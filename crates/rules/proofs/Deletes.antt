@@ -11,10 +11,12 @@ use Rattle.rules.specs.Bytes.{if_then_else_, Pointwise}
 use Rattle.rules.specs.Frame.{Update, Command}
 use Rattle.rules.specs.Row.{Row}
 use Rattle.rules.specs.Key.{tableOf, keyFormed, keyFits, keyRules, shortKey, keyOf}
-use Rattle.rules.specs.Update.{Tables, entryFormed, entryFits, judge, judgeBy, perform, apply, Batch, eachAlone, oneFurther, failure, unlessFailed, allOrNone, batch}
+use Rattle.rules.specs.Update.{Tables, entryFormed, entryFits, judge, judgeBy, perform, apply, Batch}
+use Rattle.rules.specs.Update.{eachAlone, oneFurther, failure, unlessFailed, allOrNone, batch}
 use Rattle.rules.specs.Answer.{Reply, replyOf}
 use Rattle.rules.specs.Call.{State, writeReason, refusal, nextControl, nextTables, next, headReason, pairOf, plain, answer, reply}
-use Rattle.rules.specs.LookBack.{Effect, History, stateSeen, effectOf, reasonAt, succeeds, withUpdate, withUpdates, someFails, withBatch, effectsWith, withCall, pairsAlone, pairsRolledBack, pairsSeen, answerSeen, replySeen}
+use Rattle.rules.specs.LookBack.{Effect, History, stateSeen, effectOf, reasonAt, succeeds, withUpdate, withUpdates, someFails}
+use Rattle.rules.specs.LookBack.{withBatch, effectsWith, withCall, pairsAlone, pairsRolledBack, pairsSeen, answerSeen, replySeen}
 use Rattle.rules.specs.Deletes.{SameDelete, Alike, AlikeCommands, KeyAlone}
 use Rattle.rules.proofs.Shortest.{key-of-key, table-of-key, formed-of-key, fits-of-key, rules-of-key}
 
@@ -114,7 +116,8 @@ alike-batch atomicity rows role t us vs a =
     undone none b = refl
     undone (some f) b = rw (alike-length us vs a)
 
-    whole : unlessFailed (failure rows role t us) t us (eachAlone rows role t us) ≡ unlessFailed (failure rows role t vs) t vs (eachAlone rows role t vs)
+    whole : unlessFailed (failure rows role t us) t us (eachAlone rows role t us)
+        ≡ unlessFailed (failure rows role t vs) t vs (eachAlone rows role t vs)
     whole =
         undone (failure rows role t us) (eachAlone rows role t us)
         ∙ ap₂ (λ (o : Option (ℕ × ℕ)) (b : Batch). unlessFailed o t vs b) (one-failure rows role t us vs a) (each-alone rows role t us vs a)
@@ -125,7 +128,9 @@ module _ (s : State) where
   alike-answer : (c d : Command) → AlikeCommands c d → reply s c ≡ reply s d
   unfolding reply answer refusal
   alike-answer c d (inl q) = ap (λ (x : Command). replyOf (answer s x)) q
-  alike-answer c d (inr w) = rw (w .one, w .other) (ap written (alike-batch (w .atomicity) (s .control .rows) (w .head .role) (s .tables) (w .us) (w .vs) (w .updates)))
+  alike-answer c d (inr w) =
+      rw (w .one, w .other)
+      (ap written (alike-batch (w .atomicity) (s .control .rows) (w .head .role) (s .tables) (w .us) (w .vs) (w .updates)))
     where
       refused : ℕ
       refused = writeReason (s .control) (w .head) (w .atomicity)
@@ -136,7 +141,9 @@ module _ (s : State) where
   alike-next : (c d : Command) → AlikeCommands c d → next s c ≡ next s d
   unfolding next nextControl nextTables refusal
   alike-next c d (inl q) = ap (next s) q
-  alike-next c d (inr w) = rw (w .one, w .other) (ap left (alike-batch (w .atomicity) (s .control .rows) (w .head .role) (s .tables) (w .us) (w .vs) (w .updates)))
+  alike-next c d (inr w) =
+      rw (w .one, w .other)
+      (ap left (alike-batch (w .atomicity) (s .control .rows) (w .head .role) (s .tables) (w .us) (w .vs) (w .updates)))
     where
       left : Batch → State
       left b = record { control = s .control; tables = if eqb (writeReason (s .control) (w .head) (w .atomicity)) 0 then b .tables else s .tables }
@@ -188,7 +195,8 @@ module _ (role : ℕ) where
       by-updates (λ p us. pairsRolledBack p role us)
       (λ p u x us. let r = reasonAt p role u in if eqb r 0 then pairOf 25 ∷ x else pairOf r ∷ map (λ (v : Update). pairOf 25) us)
       (λ p u us. refl)
-      (λ p u v x us vs a b. ap₂ (λ (r : ℕ) (l : List (List ℕ)). if eqb r 0 then pairOf 25 ∷ x else pairOf r ∷ l) (same-reason-at p u v a) (others us vs b))
+      (λ p u v x us vs a b.
+      ap₂ (λ (r : ℕ) (l : List (List ℕ)). if eqb r 0 then pairOf 25 ∷ x else pairOf r ∷ l) (same-reason-at p u v a) (others us vs b))
     where
       others : (us vs : List Update) → Pointwise Alike us vs → map (λ (v : Update). pairOf 25) us ≡ map (λ (v : Update). pairOf 25) vs
       others [] [] b = refl

@@ -10,7 +10,9 @@ use lib.ListN.{length, drop, length-take, length-drop, length-append, length-map
 use lib.Seq.{take-at}
 use borrow.Author.Tests.{eqb-true, leb-true}
 use Rattle.rules.specs.Bytes.{if_then_else_, byte, part, parts, int, number, allZero}
-use Rattle.rules.specs.Frame.{Update, Command, tooShort, malformed, OPEN, CLOSE, ARBITRATE, CONFIGURE, WRITE, READ, headAt, updateOf, queryOf, headFits, streamFits, streamFormed, arbitrateFormed, configureFormed, writeFormed, readFormed, configureOf, writeOf, readFrame, onStreams, onPipeline, onTables}
+use Rattle.rules.specs.Frame.{Update, Command, tooShort, malformed, OPEN, CLOSE, ARBITRATE, CONFIGURE, WRITE, READ, headAt}
+use Rattle.rules.specs.Frame.{updateOf, queryOf, headFits, streamFits, streamFormed, arbitrateFormed, configureFormed}
+use Rattle.rules.specs.Frame.{writeFormed, readFormed, configureOf, writeOf, readFrame, onStreams, onPipeline, onTables}
 use Rattle.rules.specs.Key.{tableOf}
 use Rattle.rules.specs.Call.{Call, longEnough, commandOf}
 use Rattle.rules.proofs.Tests.{and-true}

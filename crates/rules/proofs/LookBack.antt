@@ -12,15 +12,20 @@ use lib.ListN.{length, replicate}
 use borrow.Author.Tests.{eqb-true, eq-eqb}
 use Rattle.rules.specs.Bytes.{if_then_else_, keep, every, concat, same}
 use Rattle.rules.specs.Reason.{first}
-use Rattle.rules.specs.Frame.{Head, Update, Query, Command, tooShort, malformed, OPEN, CLOSE, ARBITRATE, CONFIGURE, WRITE, READ, onStreams, onPipeline, onTables}
+use Rattle.rules.specs.Frame.{Head, Update, Query, Command, tooShort, malformed, OPEN, CLOSE}
+use Rattle.rules.specs.Frame.{ARBITRATE, CONFIGURE, WRITE, READ, onStreams, onPipeline, onTables}
 use Rattle.rules.specs.Streams.{Stream, closed, unbound, bound, orderOf, streamAt, openStream, closeStream, arbitrateReason, arbitrate}
 use Rattle.rules.specs.Row.{Row, mayWrite}
 use Rattle.rules.specs.Key.{keyOf, hasKey, shortKey, tableOf}
 use Rattle.rules.specs.Entry.{shortEntry}
-use Rattle.rules.specs.Update.{Tables, noEntries, inTable, perform, apply, eachAlone, oneFurther, failure, rolledBack, unlessFailed, allOrNone, batch}
+use Rattle.rules.specs.Update.{Tables, noEntries, inTable, perform, apply, eachAlone}
+use Rattle.rules.specs.Update.{oneFurther, failure, rolledBack, unlessFailed, allOrNone, batch}
 use Rattle.rules.specs.Answer.{Answer, replyOf}
-use Rattle.rules.specs.Call.{State, Call, fresh, configureReason, writeReason, readReason, refusal, accepted, nextControl, nextTables, next, plain, pairOf, headReason, batchOf, asked, gathered, shown, answer, commandOf, reply, run}
-use Rattle.rules.specs.LookBack.{Effect, inserted, modified, deleted, cleared, revise, present, History, nothing, stateSeen, effectOf, reasonAt, succeeds, withUpdate, withUpdates, someFails, tookEffect, withBatch, effectsWith, withCall, lookBack, pairsAlone, pairsRolledBack, pairsSeen, named, asksFor, readSeen, answerSeen, replySeen}
+use Rattle.rules.specs.Call.{State, Call, fresh, configureReason, writeReason, readReason, refusal, accepted, nextControl, nextTables}
+use Rattle.rules.specs.Call.{next, plain, pairOf, headReason, batchOf, asked, gathered, shown, answer, commandOf, reply, run}
+use Rattle.rules.specs.LookBack.{Effect, inserted, modified, deleted, cleared, revise, present, History, nothing, stateSeen, effectOf}
+use Rattle.rules.specs.LookBack.{reasonAt, succeeds, withUpdate, withUpdates, someFails, tookEffect, withBatch, effectsWith, withCall}
+use Rattle.rules.specs.LookBack.{lookBack, pairsAlone, pairsRolledBack, pairsSeen, named, asksFor, readSeen, answerSeen, replySeen}
 use Rattle.rules.specs.Agreement.{commandsOf, replyAfter, historyOf, pairAt, Agreement}
 use Rattle.rules.proofs.Tests.{same-sym}
 use Rattle.rules.proofs.Rollback.{eqb-sym, rollback}
@@ -200,7 +205,8 @@ keep-append p (x ∷ xs) ys = go (p x) (keep-append p xs ys)
     go false h = h
 
 -- the two ways to say which rows a READ asks for
-same-rows : (q : Query) (row : Row) → (named q && eqb (row .table) (q .table)) || (not (named q) && mayWrite (q .role) row) ≡ asked (q .role) (q .table) row
+same-rows : (q : Query) (row : Row)
+    → (named q && eqb (row .table) (q .table)) || (not (named q) && mayWrite (q .role) row) ≡ asked (q .role) (q .table) row
 same-rows q row = go (eqb (q .table) 0)
   where
     go : (b : Bool) → (not b && eqb (row .table) (q .table)) || (not (not b) && mayWrite (q .role) row)
@@ -252,7 +258,8 @@ rows-seen q (row ∷ rows) es = go (asked (q .role) (q .table) row) refl (rows-s
         ∙ row-seen (asked (q .role) (q .table) row) one (row .table) k es
 
     go : (b : Bool) → asked (q .role) (q .table) row ≡ b → narrowed one k (all q rows es) ≡ readSeen rows q es
-        → narrowed one k (concat (map (λ (r : Row). keep (inTable (r .table)) es) (if b then row ∷ keep (asked (q .role) (q .table)) rows else keep (asked (q .role) (q .table)) rows)))
+        → narrowed one k (concat (map (λ (r : Row). keep (inTable (r .table)) es)
+        (if b then row ∷ keep (asked (q .role) (q .table)) rows else keep (asked (q .role) (q .table)) rows)))
         ≡ keep (asksFor q row) es ++ readSeen rows q es
     go true h ih = narrowed-append one k mine (all q rows es) ∙ ap₂ _++_ (sym (seen ∙ ap (λ (b : Bool). if b then narrowed one k mine else []) h)) ih
     go false h ih = ih ∙ ap (λ l. l ++ readSeen rows q es) (sym (seen ∙ ap (λ (b : Bool). if b then narrowed one k mine else []) h))
@@ -290,7 +297,8 @@ unnoted : (b : Bool) (effects : List Effect) → present effects ≡ present (if
 unnoted true effects = refl
 unnoted false effects = refl
 
-tables-agree : (p : History) (c : Command) → nextTables (stateSeen p) c .entries ≡ present (if accepted (stateSeen p) c then effectsWith p c else p .effects)
+tables-agree : (p : History) (c : Command)
+    → nextTables (stateSeen p) c .entries ≡ present (if accepted (stateSeen p) c then effectsWith p c else p .effects)
 unfolding nextTables effectsWith stateSeen takeEffect refusal
 tables-agree p tooShort = unnoted (accepted (stateSeen p) tooShort) (p .effects)
 tables-agree p malformed = unnoted (accepted (stateSeen p) malformed) (p .effects)
@@ -364,7 +372,8 @@ returned-accepted s (onStreams (CLOSE n)) = its-reason s (onStreams (CLOSE n)) _
 returned-accepted s (onStreams (ARBITRATE n h)) = its-reason s (onStreams (ARBITRATE n h)) _ refl
 returned-accepted s (onPipeline (CONFIGURE h rows)) = its-reason s (onPipeline (CONFIGURE h rows)) _ refl
 returned-accepted s (onTables (WRITE h atomicity us)) =
-    one-of-two s (onTables (WRITE h atomicity us)) _ (head-reason (every (eqb 0) (batch atomicity (s .control .rows) (h .role) (s .tables) us .reasons)))
+    one-of-two s (onTables (WRITE h atomicity us)) _
+    (head-reason (every (eqb 0) (batch atomicity (s .control .rows) (h .role) (s .tables) us .reasons)))
     (accepted s (onTables (WRITE h atomicity us))) refl
   where
     head-reason : (b : Bool) → _≡_ {A = ℕ} (if b then 0 else 23) 0 ⊎ _≡_ {A = ℕ} (if b then 0 else 23) 23
@@ -397,7 +406,9 @@ pub agreement : (room device : ℕ) (before : List Call) (c : Call) → Agreemen
 unfolding replyAfter historyOf reply replySeen
 agreement room device before c = record {
   replies = replies;
-  acceptance = subst (λ s. ((reply s (commandOf room c) .returned ≡ 0) ⊎ (reply s (commandOf room c) .returned ≡ 23)) ↔ (accepted (stateSeen p) (commandOf room c) ≡ true))
+  acceptance = subst
+      (λ s. ((reply s (commandOf room c) .returned ≡ 0) ⊎ (reply s (commandOf room c) .returned ≡ 23))
+      ↔ (accepted (stateSeen p) (commandOf room c) ≡ true))
       (sym shown-past) (returned-accepted (stateSeen p) (commandOf room c));
   updates = updates;
   rolled-back = undone;

@@ -1,4 +1,4 @@
--- Lists: tests along them, their members, and the order they stand in. Two lists of the same members are equal where the relation
+-- Lists: tests along them, their members, and the order they are in. Two lists of the same members are equal where the relation
 -- that orders them cannot run both ways. Assumes nothing.
 use Prim.Native.Nat.{ℕ}
 use mathlib.Core.Path.{_≡_, refl, sym, _∙_, ap, ap₂, subst}
@@ -35,7 +35,7 @@ module _ {A : Type 0} (p : A → Bool) where
       let q = or-false (some-of p l) (p x || false) (sym (some-append p l (x ∷ [])) ∙ h) in
       (q .0, or-false (p x) false (q .1) .0)
 
--- What stands after one of two places in a list holds what stands after the other. So it cannot be that after one place some pass
+-- What comes after one of two places in a list holds what comes after the other. So it cannot be that after one place some pass
 -- q and none p, and after the other some pass p and none q.
 pub crossed : {A : Type 0} (p q : A → Bool) (s : List A) (x : A) (r u : List A) (y : A) (v : List A) → s ++ x ∷ r ≡ u ++ y ∷ v
     → some-of p r ≡ false → some-of q r ≡ true → some-of q v ≡ false → some-of p v ≡ true → ⊥
@@ -145,7 +145,7 @@ module _ (R : List ℕ → List ℕ → Type 0) where
       go true h = (λ y i. o .0 y (in-keep p l y i .0), h)
       go false h = h
 
--- Of two heads that differ each would stand later in the other's list.
+-- Of two heads that differ each would come later in the other's list.
 module _ (R : List ℕ → List ℕ → Type 0) (asym : (x y : List ℕ) → R x y → R y x → ⊥) where
   -- no member of the tail is the head
   tail-in : (x y : List ℕ) (l m : List (List ℕ)) → x ≡ y → ((z : List ℕ) → In z l → R x z)

@@ -75,7 +75,9 @@ one-row table (r ∷ rows) d k =
 pub one-key : (s : State) (q : Query) → Formed (onTables (READ q)) → Sound s → accepted s (onTables (READ q)) ≡ true → q .only ≡ 1
     → shown s q ≡ keep (hasKey (shortKey (q .key))) (s .tables .entries)
 unfolding shown refusal readReason
-one-key s q f ok a o = rw (o, rows, table, append-nil) (ap (λ (t : ℕ). keep (hasKey k) (keep (inTable t) (s .tables .entries))) (sym here) ∙ key-of-table k (s .tables .entries))
+one-key s q f ok a o =
+    rw (o, rows, table, append-nil)
+    (ap (λ (t : ℕ). keep (hasKey k) (keep (inTable t) (s .tables .entries))) (sym here) ∙ key-of-table k (s .tables .entries))
   where
     k : List ℕ
     k = shortKey (q .key)

@@ -33,7 +33,7 @@ first-clear (c ∷ cs) p e =
     go true q h pos ih = absurd (omega arith)
     go false q h pos ih = (q, ih h)
 
--- the reason r does not stand in the order
+-- the reason r is not in the order
 abbrev pub avoids : ℕ → List (Bool × ℕ) → Bool
 avoids r [] = true
 avoids r (c ∷ cs) = not (eqb (c .1) r) && avoids r cs

@@ -15,7 +15,8 @@ use Rattle.rules.specs.Reason.{codeOf, pairs}
 use Rattle.rules.specs.Frame.{Head, Update, Command, WRITE, onTables}
 use Rattle.rules.specs.Answer.{answerBytes, replyOf}
 use Rattle.rules.specs.Call.{accepted, pairOf}
-use Rattle.rules.specs.LookBack.{Effect, History, stateSeen, effectOf, reasonAt, succeeds, withUpdate, withUpdates, someFails, tookEffect, rollsBack, withBatch, effectsWith, withCall, pairsAlone, pairsRolledBack, pairsSeen, answerSeen, replySeen}
+use Rattle.rules.specs.LookBack.{Effect, History, stateSeen, effectOf, reasonAt, succeeds, withUpdate, withUpdates, someFails, tookEffect}
+use Rattle.rules.specs.LookBack.{rollsBack, withBatch, effectsWith, withCall, pairsAlone, pairsRolledBack, pairsSeen, answerSeen, replySeen}
 use Rattle.rules.specs.Agreement.{pairAt}
 use Rattle.rules.specs.Rollback.{effectsOf, Counted}
 use Rattle.rules.proofs.Tests.{or-false}
@@ -61,7 +62,10 @@ module _ (role : ℕ) where
     where
       go : (b : Bool) → eqb (reasonAt p role u) 0 ≡ b
           → (r : ℕ) × (r ≡ 0 → ⊥)
-          × PairAt (if b then pairOf 25 ∷ pairsRolledBack (withUpdate p role u) role later else pairOf (reasonAt p role u) ∷ map (λ (v : Update). pairOf 25) later) 0 r
+          × PairAt
+          (if b then pairOf 25 ∷ pairsRolledBack (withUpdate p role u) role later
+          else pairOf (reasonAt p role u) ∷ map (λ (v : Update). pairOf 25) later)
+          0 r
       go true e = (25, λ z. let w : _≡_ {A = ℕ} 25 0 = z in omega arith, pair-first _ _)
       go false e = (reasonAt p role u, eqb-false _ 0 e, pair-first _ _)
   undone-at p (v ∷ earlier) u later = go (eqb (reasonAt p role v) 0) (undone-at (withUpdate p role v) earlier u later)
@@ -71,7 +75,9 @@ module _ (role : ℕ) where
 
       go : (b : Bool) → (r : ℕ) × (r ≡ 0 → ⊥) × PairAt (pairsRolledBack (withUpdate p role v) role us) (length earlier) r
           → (r : ℕ) × (r ≡ 0 → ⊥)
-          × PairAt (if b then pairOf 25 ∷ pairsRolledBack (withUpdate p role v) role us else pairOf (reasonAt p role v) ∷ map (λ (w : Update). pairOf 25) us) (suc (length earlier)) r
+          × PairAt
+          (if b then pairOf 25 ∷ pairsRolledBack (withUpdate p role v) role us else pairOf (reasonAt p role v) ∷ map (λ (w : Update). pairOf 25) us)
+          (suc (length earlier)) r
       go true h = (h .0, h .1, pair-next _ _ _ _ (h .2))
       go false h = (25, λ z. let w : _≡_ {A = ℕ} 25 0 = z in omega arith, pair-next _ _ _ _ (all-at earlier u later))
 
@@ -120,7 +126,8 @@ module _ (role : ℕ) where
   undone-length p (u ∷ us) = go (succeeds p role u) (undone-length (withUpdate p role u) us)
     where
       go : (b : Bool) → length (concat (pairsRolledBack (withUpdate p role u) role us)) ≡ 2 * length us
-          → length (concat (if b then pairOf 25 ∷ pairsRolledBack (withUpdate p role u) role us else pairOf (reasonAt p role u) ∷ map (λ (v : Update). pairOf 25) us))
+          → length (concat
+          (if b then pairOf 25 ∷ pairsRolledBack (withUpdate p role u) role us else pairOf (reasonAt p role u) ∷ map (λ (v : Update). pairOf 25) us))
           ≡ 2 * suc (length us)
       go true h = omega (arith, h)
       go false h = omega (arith, all-length us)
@@ -133,12 +140,13 @@ module _ (role : ℕ) where
       go true = undone-length p us
       go false = kept-length p us
 
--- the pair behind a head of four bytes and n pairs
+-- the pair after a head of four bytes and n pairs
 pair-there : (a b c d n r : ℕ) (l : List (List ℕ)) → PairAt l n r → pairAt n (a ∷ b ∷ c ∷ d ∷ concat l) ≡ pairOf r
 unfolding pairAt
 pair-there a b c d n r l s =
     let e : length (concat (s .before)) ≡ 2 * n = s .long in
-    rw (s .place, concat-append (s .before) (pairOf r ∷ s .after), drop-at (a ∷ b ∷ c ∷ d ∷ concat (s .before)) (concat (pairOf r ∷ s .after)) (4 + 2 * n) (omega arith))
+    let first : List ℕ = a ∷ b ∷ c ∷ d ∷ concat (s .before) in
+    rw (s .place, concat-append (s .before) (pairOf r ∷ s .after), drop-at first (concat (pairOf r ∷ s .after)) (4 + 2 * n) (omega arith))
 
 pub pair-zero : (r : ℕ) → (pairOf r ≡ 0 ∷ 0 ∷ []) ↔ (r ≡ 0)
 unfolding codeOf pairs
@@ -200,7 +208,9 @@ module _ (p : History) (role : ℕ) where
         noted-one : (b : Bool) → succeeds (withUpdates p role earlier) role u ≡ b
             → withUpdate (withUpdates p role earlier) role u .effects ++ rest
             ≡ withUpdates p role earlier .effects ++ (if b then effectOf u ∷ rest else rest)
-        noted-one true e = ap (λ (l : List Effect). l ++ rest) (noted-passing (withUpdates p role earlier) role u e) ∙ append-assoc (withUpdates p role earlier .effects) (effectOf u ∷ []) rest
+        noted-one true e =
+            ap (λ (l : List Effect). l ++ rest) (noted-passing (withUpdates p role earlier) role u e)
+            ∙ append-assoc (withUpdates p role earlier .effects) (effectOf u ∷ []) rest
         noted-one false e = ap (λ (l : List Effect). l ++ rest) (noted-failing (withUpdates p role earlier) role u e)
 
     -- where none does
@@ -221,12 +231,15 @@ module _ (p : History) (role : ℕ) where
         took : (b c : Bool) → eqb atomicity 1 ≡ b → (before : List Update) (u : Update) (after : List Update)
             → someFails p role (before ++ u ∷ after) ≡ c
             → tookEffect p role atomicity before u after ≡ (if b then not c else succeeds (withUpdates p role before) role u)
-        took b c e before u after f = took-effect p role atomicity before u after ∙ ap₂ (λ (x y : Bool). if x then not y else succeeds (withUpdates p role before) role u) e f
+        took b c e before u after f =
+            took-effect p role atomicity before u after
+            ∙ ap₂ (λ (x y : Bool). if x then not y else succeeds (withUpdates p role before) role u) e f
 
         go : (b : Bool) → eqb atomicity 1 ≡ b → (c : Bool) → someFails p role us ≡ c
             → (if b && c then p else withUpdates p role us) .effects ≡ p .effects ++ effectsOf p role atomicity [] us
         go true e true f =
-            sym (ap (λ (l : List Effect). p .effects ++ l) (count-undone [] us (λ before u after q. took true true e before u after (ap (someFails p role) (sym q) ∙ f)))
+            sym (ap (λ (l : List Effect). p .effects ++ l)
+            (count-undone [] us (λ before u after q. took true true e before u after (ap (someFails p role) (sym q) ∙ f)))
             ∙ append-nil _)
         go true e false f =
             count-kept [] us (λ before u after q. let g = ap (someFails p role) (sym q) ∙ f in

@@ -10,19 +10,22 @@ use lib.Dec.{eqb}
 use lib.ListN.{length}
 use borrow.Author.Tests.{eqb-true, not-true}
 use Rattle.rules.specs.Bytes.{if_then_else_, some-of, same}
-use Rattle.rules.specs.Frame.{Update, Command, tooShort, malformed, OPEN, CLOSE, ARBITRATE, CONFIGURE, WRITE, READ, onStreams, onPipeline, onTables}
+use Rattle.rules.specs.Frame.{Update, Command, tooShort, malformed, OPEN, CLOSE, ARBITRATE}
+use Rattle.rules.specs.Frame.{CONFIGURE, WRITE, READ, onStreams, onPipeline, onTables}
 use Rattle.rules.specs.Key.{keyOf, hasKey, shortKey}
 use Rattle.rules.specs.Entry.{shortEntry}
 use Rattle.rules.specs.Update.{stored, judge, judgeBy}
 use Rattle.rules.specs.Call.{Call, accepted}
-use Rattle.rules.specs.LookBack.{Effect, inserted, modified, deleted, cleared, revise, present, History, nothing, stateSeen, effectOf, reasonAt, succeeds, withUpdate, withUpdates, rollsBack, withBatch, effectsWith, withCall, lookBack}
+use Rattle.rules.specs.LookBack.{Effect, inserted, modified, deleted, cleared, revise, present, History, nothing, stateSeen, effectOf}
+use Rattle.rules.specs.LookBack.{reasonAt, succeeds, withUpdate, withUpdates, rollsBack, withBatch, effectsWith, withCall, lookBack}
 use Rattle.rules.specs.Agreement.{commandsOf, historyOf}
 use Rattle.rules.specs.Presence.{insertsKey, setsKey, setsEntry, removesKey, Since, Present, Before, In, Ordered, Describes}
 use Rattle.rules.proofs.Tests.{clash, and-false, same-true, same-refl, same-sym, eq-same}
 use Rattle.rules.proofs.Orders.{first-clear}
 use Rattle.rules.proofs.Formed.{Whole, Formed, EveryFormed, calls-formed}
 use Rattle.rules.proofs.Shortest.{key-of-short}
-use Rattle.rules.proofs.Members.{or-first, some-back, some-front, none-more, none-less, crossed, in-none, in-snoc, snoc-in, in-map, map-in, in-keep, keep-in, ordered-imp, ordered-snoc, ordered-map, ordered-keep, ordered-equal}
+use Rattle.rules.proofs.Members.{or-first, some-back, some-front, none-more, none-less, crossed, in-none, in-snoc, snoc-in, in-map}
+use Rattle.rules.proofs.Members.{map-in, in-keep, keep-in, ordered-imp, ordered-snoc, ordered-map, ordered-keep, ordered-equal}
 use Rattle.rules.proofs.Effects.{takeEffect, present-snoc, key-revise}
 
 -- ---- places in the past

@@ -8,18 +8,21 @@ use native.Mathlib.Omega.{arith}
 use lib.Dec.{eqb}
 use borrow.Author.Tests.{eqb-true, not-false}
 use Rattle.rules.specs.Bytes.{if_then_else_}
-use Rattle.rules.specs.Frame.{Head, Query, Command, tooShort, malformed, OPEN, CLOSE, ARBITRATE, CONFIGURE, WRITE, READ, onStreams, onPipeline, onTables}
+use Rattle.rules.specs.Frame.{Head, Query, Command, tooShort, malformed, OPEN, CLOSE, ARBITRATE}
+use Rattle.rules.specs.Frame.{CONFIGURE, WRITE, READ, onStreams, onPipeline, onTables}
 use Rattle.rules.specs.Streams.{closed, bound, Streams, streamAt, markOf, byPrimary, openStream, closeStream, arbitrate}
 use Rattle.rules.specs.Row.{rowOf}
 use Rattle.rules.specs.Update.{noEntries}
-use Rattle.rules.specs.Call.{Control, State, Call, fresh, configureReason, writeReason, readReason, refusal, accepted, withRows, nextControl, batchOf, nextTables, next, shown, answer, commandOf, reply, run}
+use Rattle.rules.specs.Call.{Control, State, Call, fresh, configureReason, writeReason, readReason, refusal, accepted}
+use Rattle.rules.specs.Call.{withRows, nextControl, batchOf, nextTables, next, shown, answer, commandOf, reply, run}
 use Rattle.rules.specs.LookBack.{History, nothing, stateSeen, withCall, lookBack}
 use Rattle.rules.specs.Agreement.{commandsOf, historyOf}
 use Rattle.rules.specs.Authority.{eventsFrom, eventsOf, idFor, highest, leaves, holding, Held, Gives, Authority}
 use Rattle.rules.specs.Sound.{SoundStreams}
 use Rattle.rules.proofs.Orders.{first-clear}
 use Rattle.rules.proofs.Formed.{Formed, EveryFormed, calls-formed}
-use Rattle.rules.proofs.Streams.{open-sound, close-sound, arbitrate-sound, fresh-sound, none-open, no-mark, open-mark, close-mark, arbitrate-mark, open-stream, close-stream, arbitrate-stream, by-primary}
+use Rattle.rules.proofs.Streams.{open-sound, close-sound, arbitrate-sound, fresh-sound, none-open, no-mark, open-mark}
+use Rattle.rules.proofs.Streams.{close-mark, arbitrate-mark, open-stream, close-stream, arbitrate-stream, by-primary}
 use Rattle.rules.proofs.LookBack.{fresh-shows}
 
 -- ---- one call
@@ -146,7 +149,10 @@ next-alike s (onStreams x) n = record { device = refl; rows = refl; tables = ref
 next-alike s (onPipeline (CONFIGURE h rows)) n = go (accepted s (onPipeline (CONFIGURE h rows))) refl
   where
     go : (b : Bool) → accepted s (onPipeline (CONFIGURE h rows)) ≡ b
-        → Alike s (record { control = withRows (s .control) (if b then map rowOf rows else s .control .rows); tables = if b then noEntries else s .tables })
+        → Alike s (record {
+          control = withRows (s .control) (if b then map rowOf rows else s .control .rows);
+          tables = if b then noEntries else s .tables;
+        })
     go true q = absurd (n (h .role) (h .id) (refl, refl) q)
     go false q = record { device = refl; rows = refl; tables = refl }
 next-alike s (onTables (WRITE h atomicity us)) n = go (accepted s (onTables (WRITE h atomicity us))) refl
@@ -163,7 +169,9 @@ pub authority : (room device : ℕ) (before : List Call) (c : Call) → Authorit
 unfolding historyOf eventsOf stateSeen
 authority room device before c = record {
   given = given;
-  unchanged = λ n q. read-alike s (next s x) (next-alike s x (λ role id g a. n role id g (given role id g (subst (λ t. accepted t x ≡ true) (fresh-shows device cs) a)))) q;
+  unchanged = λ n q.
+      read-alike s (next s x)
+      (next-alike s x (λ role id g a. n role id g (given role id g (subst (λ t. accepted t x ≡ true) (fresh-shows device cs) a)))) q;
 }
   where
     cs : List Command
@@ -175,5 +183,6 @@ authority room device before c = record {
     s : State
     s = run (fresh device) cs
 
-    given : (role id : ℕ) → Gives role id x → accepted (stateSeen (lookBack (nothing device) cs)) x ≡ true → Held role id (eventsFrom (nothing device) cs)
+    given : (role id : ℕ) → Gives role id x → accepted (stateSeen (lookBack (nothing device) cs)) x ≡ true
+        → Held role id (eventsFrom (nothing device) cs)
     given role id g a = live-held device cs (calls-formed room before) role id (gave (stateSeen (lookBack (nothing device) cs)) x role id g a)

@@ -6,9 +6,11 @@ use mathlib.Core.Bool.{Bool, true, false}
 use lib.Dec.{eqb}
 use borrow.Author.Tests.{ne-eqb}
 use Rattle.rules.specs.Bytes.{if_then_else_, between}
-use Rattle.rules.specs.Frame.{OPEN, CLOSE, ARBITRATE, PipelineCommand, CONFIGURE, TableCommand, WRITE, READ, Command, tooShort, malformed, onStreams, onPipeline, onTables}
+use Rattle.rules.specs.Frame.{OPEN, CLOSE, ARBITRATE, PipelineCommand, CONFIGURE, TableCommand, WRITE}
+use Rattle.rules.specs.Frame.{READ, Command, tooShort, malformed, onStreams, onPipeline, onTables}
 use Rattle.rules.specs.Streams.{Streams, become, closed, openStream, closeStream, arbitrate}
-use Rattle.rules.specs.Call.{State, pipelineCommand, tableCommand, plain, refusal, accepted, withStreams, withRows, nextControl, nextTables, next, answer}
+use Rattle.rules.specs.Call.{State, pipelineCommand, tableCommand, plain, refusal, accepted}
+use Rattle.rules.specs.Call.{withStreams, withRows, nextControl, nextTables, next, answer}
 use Rattle.rules.specs.Refused.{streamsLeft, LeftAlone}
 
 marks-left : (e : Streams) (c : Command) (r : ℕ) → streamsLeft e c r .marks ≡ e .marks
@@ -42,13 +44,18 @@ pub refused : (s : State) (c : Command) → accepted s c ≡ false → LeftAlone
 unfolding nextControl nextTables refusal openStream closeStream arbitrate
 refused s tooShort q = left-alone s tooShort refl refl
 refused s malformed q = left-alone s malformed refl refl
-refused s (onStreams (OPEN n)) q = left-alone s (onStreams (OPEN n)) refl (ap (withStreams (s .control)) (not-taken (accepted s (onStreams (OPEN n))) _ _ q))
-refused s (onStreams (CLOSE n)) q = left-alone s (onStreams (CLOSE n)) refl (ap (withStreams (s .control)) (not-taken (accepted s (onStreams (CLOSE n))) _ _ q))
-refused s (onStreams (ARBITRATE n h)) q = left-alone s (onStreams (ARBITRATE n h)) refl (ap (withStreams (s .control)) (not-taken (accepted s (onStreams (ARBITRATE n h))) _ _ q))
+refused s (onStreams (OPEN n)) q =
+    left-alone s (onStreams (OPEN n)) refl (ap (withStreams (s .control)) (not-taken (accepted s (onStreams (OPEN n))) _ _ q))
+refused s (onStreams (CLOSE n)) q =
+    left-alone s (onStreams (CLOSE n)) refl (ap (withStreams (s .control)) (not-taken (accepted s (onStreams (CLOSE n))) _ _ q))
+refused s (onStreams (ARBITRATE n h)) q =
+    left-alone s (onStreams (ARBITRATE n h)) refl
+    (ap (withStreams (s .control)) (not-taken (accepted s (onStreams (ARBITRATE n h))) _ _ q))
 refused s (onPipeline (CONFIGURE h rows)) q =
     left-alone s (onPipeline (CONFIGURE h rows)) (not-taken (accepted s (onPipeline (CONFIGURE h rows))) _ _ q)
     (ap (withRows (s .control)) (not-taken (accepted s (onPipeline (CONFIGURE h rows))) _ _ q))
-refused s (onTables (WRITE h atomicity us)) q = left-alone s (onTables (WRITE h atomicity us)) (not-taken (accepted s (onTables (WRITE h atomicity us))) _ _ q) refl
+refused s (onTables (WRITE h atomicity us)) q =
+    left-alone s (onTables (WRITE h atomicity us)) (not-taken (accepted s (onTables (WRITE h atomicity us))) _ _ q) refl
 refused s (onTables (READ x)) q = left-alone s (onTables (READ x)) refl refl
 
 -- ---- a refused pipeline or table command leaves everything as it was, and answers with a head alone

@@ -43,13 +43,15 @@ answers-not-2 s malformed n e = omega arith
 answers-not-2 s (onStreams x) n e = not-2 s (onStreams x) n e
 answers-not-2 s (onPipeline x) n e = not-2 s (onPipeline x) n e
 answers-not-2 s (onTables (WRITE h atomicity us)) n e =
-    either-way s (onTables (WRITE h atomicity us)) _ n (head (every (eqb 0) (batchOf s h atomicity us .reasons))) (accepted s (onTables (WRITE h atomicity us))) e
+    either-way s (onTables (WRITE h atomicity us)) _ n (head (every (eqb 0) (batchOf s h atomicity us .reasons)))
+    (accepted s (onTables (WRITE h atomicity us))) e
   where
     head : (b : Bool) → _≡_ {A = ℕ} (if b then 0 else 23) 2 → ⊥
     head true q = omega arith
     head false q = omega arith
 answers-not-2 s (onTables (READ q)) n e =
-    either-way s (onTables (READ q)) (record { reason = 0; records = shown s q }) n (λ z. let w : _≡_ {A = ℕ} 0 2 = z in omega arith) (accepted s (onTables (READ q))) e
+    either-way s (onTables (READ q)) (record { reason = 0; records = shown s q }) n (λ z. let w : _≡_ {A = ℕ} 0 2 = z in omega arith)
+    (accepted s (onTables (READ q))) e
 
 pub written-whole : (s : State) (c : Command) → (c ≡ tooShort → ⊥) → reply s c .written ≡ answerBytes (answer s c)
 unfolding reply replyOf

@@ -22,7 +22,7 @@ eqb-sym a b = go (eqb b a) refl
     go true q = eq-eqb a b (sym (eqb-true b a q))
     go false q = ne-eqb a b (λ e. eqb-false b a q (sym e))
 
--- 25 for all but the update behind those before it
+-- 25 for each update but the one that comes after `earlier`
 stopped-at : (earlier : List Update) (u : Update) (later : List Update) (r : ℕ)
     → rolledBack (length (earlier ++ u ∷ later)) (length earlier, r) ≡ replicate (length earlier) 25 ++ r ∷ replicate (length later) 25
 stopped-at [] u later r = refl

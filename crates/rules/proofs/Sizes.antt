@@ -10,13 +10,17 @@ use native.Mathlib.Omega.{arith}
 use lib.Dec.{eqb}
 use lib.ListN.{length, replicate, length-append, length-map, length-set, length-replicate}
 use Rattle.rules.specs.Bytes.{if_then_else_, keep, concat, sum, between, numberFrom, int, bytesOf}
-use Rattle.rules.specs.Frame.{Head, Update, Query, Command, tooShort, malformed, OPEN, CLOSE, ARBITRATE, CONFIGURE, WRITE, READ, onStreams, onPipeline, onTables}
-use Rattle.rules.specs.Streams.{Stream, closed, unbound, bound, Streams, numbers, inRole, members, markOf, noticeOf, notification, notifyAll, is, primary, become, streamAt, recordsOnClose, closeReason, openStream, closeRecords, closeStream, arbitrateReason, binds, samePair, bindRecords, arbitrate}
+use Rattle.rules.specs.Frame.{Head, Update, Query, Command, tooShort, malformed, OPEN, CLOSE}
+use Rattle.rules.specs.Frame.{ARBITRATE, CONFIGURE, WRITE, READ, onStreams, onPipeline, onTables}
+use Rattle.rules.specs.Streams.{Stream, closed, unbound, bound, Streams, numbers, inRole, members, markOf, noticeOf}
+use Rattle.rules.specs.Streams.{notification, notifyAll, is, primary, become, streamAt, recordsOnClose, closeReason, openStream}
+use Rattle.rules.specs.Streams.{closeRecords, closeStream, arbitrateReason, binds, samePair, bindRecords, arbitrate}
 use Rattle.rules.specs.Row.{Row}
 use Rattle.rules.specs.Key.{hasKey, shortKey}
 use Rattle.rules.specs.Update.{Tables, inTable, held, judge, apply, eachAlone, failure, unlessFailed, allOrNone, batch}
 use Rattle.rules.specs.Answer.{Answer, answerBytes, replyOf}
-use Rattle.rules.specs.Call.{State, fresh, refusal, accepted, plain, pairOf, headReason, batchOf, asked, gathered, shown, answer, commandOf, reply, run}
+use Rattle.rules.specs.Call.{State, fresh, refusal, accepted, plain, pairOf, headReason}
+use Rattle.rules.specs.Call.{batchOf, asked, gathered, shown, answer, commandOf, reply, run}
 use Rattle.rules.specs.Agreement.{commandsOf, replyAfter}
 use Rattle.rules.specs.Sound.{EveryStored, Within, Sound}
 use Rattle.rules.specs.Sizes.{AnswerFits}
@@ -169,10 +173,14 @@ shown-sized s q ok = choose 220 (eqb (q .only) 1) _ _ (kept, fewer) (lengths, co
     all = gathered (q .role) (q .table) (s .control .rows) (s .tables)
 
     lengths : EveryLength 220 all
-    lengths = collected-lengths (asked (q .role) (q .table)) (s .control .rows) (s .tables .entries) (stored-lengths (s .tables .entries) (ok .tables .shortest))
+    lengths =
+        collected-lengths (asked (q .role) (q .table)) (s .control .rows) (s .tables .entries)
+        (stored-lengths (s .tables .entries) (ok .tables .shortest))
 
     count : length all ≤ 256
-    count = omega (arith, collected-few (asked (q .role) (q .table)) (s .control .rows) (s .tables) (ok .tables .within), sizes-fit (s .control .rows) (ok .rows))
+    count =
+        let few = collected-few (asked (q .role) (q .table)) (s .control .rows) (s .tables) (ok .tables .within) in
+        omega (arith, few, sizes-fit (s .control .rows) (ok .rows))
 
     kept : EveryLength 220 (keep (hasKey (shortKey (q .key))) all)
     kept = keep-lengths 220 (hasKey (shortKey (q .key))) all lengths
@@ -205,8 +213,11 @@ answer-sized s (onStreams (ARBITRATE n h)) f ok =
 answer-sized s (onPipeline x) f ok = none-sized 0
 answer-sized s (onTables (WRITE h atomicity us)) f ok = go (accepted s (onTables (WRITE h atomicity us)))
   where
-    go : (b : Bool) → Sized 2 ((if b then record { reason = headReason (batchOf s h atomicity us .reasons); records = map pairOf (batchOf s h atomicity us .reasons) } else
-        plain (refusal s (onTables (WRITE h atomicity us)))) .records)
+    rs : List ℕ
+    rs = batchOf s h atomicity us .reasons
+
+    go : (b : Bool) → Sized 2 ((if b then record { reason = headReason rs; records = map pairOf rs }
+        else plain (refusal s (onTables (WRITE h atomicity us)))) .records)
     go true = pairs-sized s h atomicity us (f .0)
     go false = none-sized 2
 answer-sized s (onTables (READ q)) f ok = go (accepted s (onTables (READ q)))
@@ -242,7 +253,8 @@ write-count s h atomicity us = go (accepted s (onTables (WRITE h atomicity us)))
     rs : List ℕ
     rs = batchOf s h atomicity us .reasons
 
-    go : (b : Bool) → length ((if b then record { reason = headReason rs; records = map pairOf rs } else plain (refusal s (onTables (WRITE h atomicity us)))) .records)
+    go : (b : Bool) → length ((if b then record { reason = headReason rs; records = map pairOf rs }
+        else plain (refusal s (onTables (WRITE h atomicity us)))) .records)
         ≡ (if b then length us else 0)
     go true = length-map rs pairOf ∙ reasons-count atomicity (s .control .rows) (h .role) (s .tables) us
     go false = refl

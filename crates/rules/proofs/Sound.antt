@@ -6,7 +6,8 @@ use mathlib.Core.List.{List, [], _∷_, map}
 use native.Mathlib.Omega.{arith}
 use borrow.Author.Tests.{eqb-true, leb-true, not-false}
 use Rattle.rules.specs.Bytes.{if_then_else_, every, sum, distinct}
-use Rattle.rules.specs.Frame.{Head, Update, Command, tooShort, malformed, OPEN, CLOSE, ARBITRATE, CONFIGURE, WRITE, READ, onStreams, onPipeline, onTables}
+use Rattle.rules.specs.Frame.{Head, Update, Command, tooShort, malformed, OPEN, CLOSE, ARBITRATE}
+use Rattle.rules.specs.Frame.{CONFIGURE, WRITE, READ, onStreams, onPipeline, onTables}
 use Rattle.rules.specs.Streams.{markOf}
 use Rattle.rules.specs.Row.{Row, rowOf, rowAllowed, rowsAllowed, configurationAllowed, unusedZero}
 use Rattle.rules.specs.Update.{noEntries}
@@ -74,7 +75,8 @@ next-sound s (onStreams x) f ok = record { streams = next-streams s (onStreams x
 next-sound s (onPipeline (CONFIGURE h rows)) f ok =
     let w = configure-sound s h rows ok in
     record { streams = ok .streams; rows = w .0; tables = w .1 }
-next-sound s (onTables (WRITE h atomicity us)) f ok = record { streams = ok .streams; rows = ok .rows; tables = write-sound s h atomicity us (f .1) ok }
+next-sound s (onTables (WRITE h atomicity us)) f ok =
+    record { streams = ok .streams; rows = ok .rows; tables = write-sound s h atomicity us (f .1) ok }
 next-sound s (onTables (READ q)) f ok = ok
 
 -- ---- lists of calls

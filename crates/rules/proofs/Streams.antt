@@ -15,7 +15,9 @@ use borrow.Author.Tests.{eqb-true, eqb-false, ltb-false, ne-eqb, eq-eqb, not-tru
 use Rattle.rules.specs.Bytes.{if_then_else_, between, some-of}
 use Rattle.rules.specs.Reason.{first}
 use Rattle.rules.specs.Frame.{Head}
-use Rattle.rules.specs.Streams.{Stream, closed, unbound, bound, Streams, noStreams, streamAt, markOf, holds, numbers, head, primary, isSome, byPrimary, become, openReason, openStream, closeReason, closeStream, heldElsewhere, orderOf, arbitrateReason, binds, arbitrate}
+use Rattle.rules.specs.Streams.{Stream, closed, unbound, bound, Streams, noStreams, streamAt, markOf, holds}
+use Rattle.rules.specs.Streams.{numbers, head, primary, isSome, byPrimary, become, openReason, openStream}
+use Rattle.rules.specs.Streams.{closeReason, closeStream, heldElsewhere, orderOf, arbitrateReason, binds, arbitrate}
 use Rattle.rules.specs.Sound.{SoundStreams}
 use Rattle.rules.proofs.Tests.{and-true, and-false, or-false}
 use Rattle.rules.proofs.Orders.{first-clear}
@@ -117,7 +119,8 @@ mark-binds e s h r eight low = go (eqb (h .role) r) refl
         let d = getD-set-other (e .marks) (h .role) r (max (markOf e (h .role)) (h .id)) 0 (λ z. eqb-false (h .role) r q (sym z)) in
         omega (arith, d)
 
-binds-sound : (e : Streams) (s : ℕ) (h : Head) → heldElsewhere e s (h .role) (h .id) ≡ false → h .role ≤ 7 → SoundStreams e → SoundStreams (binds e s h)
+binds-sound : (e : Streams) (s : ℕ) (h : Head) → heldElsewhere e s (h .role) (h .id) ≡ false → h .role ≤ 7 → SoundStreams e
+    → SoundStreams (binds e s h)
 unfolding binds
 binds-sound e s h free low ok = record {
   thirty-two = length-set (e .streams) s new ∙ ok .thirty-two;
@@ -158,7 +161,9 @@ binds-sound e s h free low ok = record {
         let m = mark-binds e s h r (ok .eight) low in
         ⊎-elim (λ w. newest r i (sym (w .1) ∙ p) m) (λ w. (let k = ok .below a r i (sym w ∙ p) in omega (arith, k, m))) (cases a)
       where
-        newest : (r i : ℕ) → bound (h .role) (h .id) ≡ bound r i → markOf (binds e s h) r ≡ max (markOf e r) (if eqb (h .role) r then h .id else 0) → i ≤ markOf (binds e s h) r
+        newest : (r i : ℕ) → bound (h .role) (h .id) ≡ bound r i
+            → markOf (binds e s h) r ≡ max (markOf e r) (if eqb (h .role) r then h .id else 0)
+            → i ≤ markOf (binds e s h) r
         newest r i q m =
             let x : h .role ≡ r = cc in
             let y : h .id ≡ i = cc in
@@ -296,7 +301,9 @@ arbitrate-stream device e s n h ok low = go (eqb reason 0) refl
     go : (b : Bool) → eqb reason 0 ≡ b
         → streamAt (if b then binds e n h else if between 5 9 reason then become e n closed else e) s
         ≡ (if b && eqb s n then bound (h .role) (h .id) else if between 5 9 reason && eqb s n then closed else streamAt e s)
-    go true q = at-place (e .streams) s n (bound (h .role) (h .id)) (ok .thirty-two) low ∙ ap (λ (x : Stream). if eqb s n then bound (h .role) (h .id) else x) (sym none-closed)
+    go true q =
+        at-place (e .streams) s n (bound (h .role) (h .id)) (ok .thirty-two) low
+        ∙ ap (λ (x : Stream). if eqb s n then bound (h .role) (h .id) else x) (sym none-closed)
       where
         none-closed : (if between 5 9 reason && eqb s n then closed else streamAt e s) ≡ streamAt e s
         none-closed = rw (eqb-true reason 0 q)

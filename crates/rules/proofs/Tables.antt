@@ -13,7 +13,8 @@ use Rattle.rules.specs.Frame.{Update}
 use Rattle.rules.specs.Row.{Row, known, rowFor}
 use Rattle.rules.specs.Key.{tableOf, keyFormed, keyFits, keyRules, keyOf, hasKey, shortKey}
 use Rattle.rules.specs.Entry.{actionFormed, actionFits, passes, shortEntry}
-use Rattle.rules.specs.Update.{Tables, noEntries, inTable, stored, held, isInsert, isModify, isDelete, entryFormed, entryFits, judge, judgeBy, perform, apply, eachAlone}
+use Rattle.rules.specs.Update.{Tables, noEntries, inTable, stored, held, isInsert, isModify, isDelete}
+use Rattle.rules.specs.Update.{entryFormed, entryFits, judge, judgeBy, perform, apply, eachAlone}
 use Rattle.rules.specs.Sound.{Stored, EveryStored, Distinct, Within, SoundTables}
 use Rattle.rules.proofs.Tests.{or-false, and-true, and-false, both-true, same-true, same-sym}
 use Rattle.rules.proofs.Orders.{first-clear}
@@ -182,7 +183,8 @@ module _ (p : List ℕ → Bool) where
   count-snoc (e ∷ es) x b q = go (p e) (count-snoc es x b q)
     where
       go : (t : Bool) → length (keep p (es ++ (x ∷ []))) ≡ length (keep p es) + (if b then 1 else 0)
-          → length (if t then e ∷ keep p (es ++ (x ∷ [])) else keep p (es ++ (x ∷ []))) ≡ length (if t then e ∷ keep p es else keep p es) + (if b then 1 else 0)
+          → length (if t then e ∷ keep p (es ++ (x ∷ [])) else keep p (es ++ (x ∷ [])))
+          ≡ length (if t then e ∷ keep p es else keep p es) + (if b then 1 else 0)
       go true h = omega arith
       go false h = h
 
@@ -219,7 +221,8 @@ within-less [] t u h w = tt
 within-less (r ∷ rows) t u h w = (omega (arith, h (r .table), w .0), within-less rows t u h (w .1))
 
 -- an INSERT into no table of the rows
-within-other : (rows : List Row) (es : List (List ℕ)) (x : List ℕ) → known (tableOf x) rows ≡ false → Within rows (of es) → Within rows (of (es ++ (x ∷ [])))
+within-other : (rows : List Row) (es : List (List ℕ)) (x : List ℕ) → known (tableOf x) rows ≡ false → Within rows (of es)
+    → Within rows (of (es ++ (x ∷ [])))
 unfolding held
 within-other [] es x n w = tt
 within-other (r ∷ rows) es x n w =
@@ -247,7 +250,8 @@ within-snoc (r ∷ rows) es x d k h w =
     rest : List ℕ
     rest = map (λ (r : Row). r .table) rows
 
-    alone : (b : Bool) → some-of (eqb (r .table)) rest ≡ b → (if b then false else distinct rest) ≡ true → (some-of (eqb (r .table)) rest ≡ false) × (distinct rest ≡ true)
+    alone : (b : Bool) → some-of (eqb (r .table)) rest ≡ b → (if b then false else distinct rest) ≡ true
+        → (some-of (eqb (r .table)) rest ≡ false) × (distinct rest ≡ true)
     alone true q e = absurd (false≢true e)
     alone false q e = (q, e)
 
@@ -312,7 +316,8 @@ module _ (rows : List Row) (apart : distinct (map (λ (r : Row). r .table) rows)
       let in-table : tableOf (shortEntry e) ≡ tableOf e = table-of-short e l in
       let has-row : known (tableOf e) rows ≡ true = not-false _ (c .1 .0) in
       let free : some-of (hasKey (shortKey e)) (t .entries) ≡ false = and-false _ _ (c .1 .1 .1 .1 .1 .1 .0) i in
-      let full : leb (rowFor (tableOf e) rows .size) (held (rowFor (tableOf e) rows .table) t) ≡ false = and-false _ _ (c .1 .1 .1 .1 .1 .1 .1 .1 .0) i in
+      let full : leb (rowFor (tableOf e) rows .size) (held (rowFor (tableOf e) rows .table) t) ≡ false =
+      and-false _ _ (c .1 .1 .1 .1 .1 .1 .1 .1 .0) i in
       let room : held (rowFor (tableOf e) rows .table) t < rowFor (tableOf e) rows .size = leb-false _ _ full in
       let more : leb 256 (length (t .entries)) ≡ false = and-false _ _ (c .1 .1 .1 .1 .1 .1 .1 .1 .1 .0) i in
       record {
@@ -333,7 +338,8 @@ module _ (rows : List Row) (apart : distinct (map (λ (r : Row). r .table) rows)
     shortest = stored-map e (t .entries) s (ok .shortest);
     distinct = distinct-map e (t .entries) (ok .distinct);
     known-tables = every-map _ (revised e) (λ x. ap (λ id. known id rows) (table-revised e x)) (t .entries) ∙ ok .known-tables;
-    within = within-less rows t _ (λ id. omega (arith, count-map (inTable id) (revised e) (λ x. ap (λ i. eqb i id) (table-revised e x)) (t .entries))) (ok .within);
+    within = within-less rows t _
+        (λ id. omega (arith, count-map (inTable id) (revised e) (λ x. ap (λ i. eqb i id) (table-revised e x)) (t .entries))) (ok .within);
     checked = every-revised _ e (t .entries) q (ok .checked);
   }
 
@@ -348,7 +354,8 @@ module _ (rows : List Row) (apart : distinct (map (λ (r : Row). r .table) rows)
     checked = every-keep _ p (t .entries) (ok .checked);
   }
 
-  pub apply-sound : (role : ℕ) (t : Tables) (u : Update) → length (u .entry) ≡ 220 → SoundTables rows t → SoundTables rows (apply (judge rows role t u) u t)
+  pub apply-sound : (role : ℕ) (t : Tables) (u : Update) → length (u .entry) ≡ 220 → SoundTables rows t
+      → SoundTables rows (apply (judge rows role t u) u t)
   unfolding apply perform
   apply-sound role t u l ok = go (eqb (judge rows role t u) 0) (isInsert (u .type)) (isModify (u .type)) refl refl refl
     where

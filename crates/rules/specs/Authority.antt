@@ -6,7 +6,8 @@ use mathlib.Core.List.{List, [], _∷_}
 use Prim.Native.Nat.{ℕ, _<_, max}
 use lib.Dec.{eqb}
 use Rattle.rules.specs.Bytes.{if_then_else_, between}
-use Rattle.rules.specs.Frame.{Query, StreamEvent, OPEN, CLOSE, ARBITRATE, CONFIGURE, WRITE, READ, Command, tooShort, malformed, onStreams, onPipeline, onTables}
+use Rattle.rules.specs.Frame.{Query, StreamEvent, OPEN, CLOSE, ARBITRATE, CONFIGURE, WRITE, READ}
+use Rattle.rules.specs.Frame.{Command, tooShort, malformed, onStreams, onPipeline, onTables}
 use Rattle.rules.specs.Streams.{Stream, closed, unbound, bound}
 use Rattle.rules.specs.Call.{Call, refusal, accepted, fresh, next, run, reply, commandOf}
 use Rattle.rules.specs.LookBack.{History, nothing, stateSeen, withCall}

@@ -7,7 +7,8 @@ use Prim.Native.Nat.{ℕ}
 use Rattle.rules.specs.Streams.{primary, markOf}
 use Rattle.rules.specs.Key.{exact, lpm, range}
 use Rattle.rules.specs.Answer.{Reply}
-use Rattle.rules.specs.Sample.{ones64, over64, by, byLong, open!, close!, arbitrate!, write!, readAll!, row, val1, val2, val3, val4, none17, key, entry, item, insert!, leading, two, configured, after, answerTo, bytes, noticeLong, notice, done, InTurn}
+use Rattle.rules.specs.Sample.{ones64, over64, by, byLong, open!, close!, arbitrate!, write!, readAll!, row, val1, val2, val3, val4, none17}
+use Rattle.rules.specs.Sample.{key, entry, item, insert!, leading, two, configured, after, answerTo, bytes, noticeLong, notice, done, InTurn}
 
 -- a lone primary with 5 has sent 4
 abbrev lowered : List (List ℕ)

@@ -7,7 +7,10 @@ use lib.ListN.{set, replicate}
 use Rattle.rules.specs.Key.{exact, range}
 use Rattle.rules.specs.Answer.{Reply}
 use Rattle.rules.specs.Call.{fresh, commandOf, reply}
-use Rattle.rules.specs.Sample.{table#, by, unset, headBy, open!, close!, arbitrate!, configure!, write!, read!, readFrom, readAll!, readOne, field, action, rowWith, row, sizeless, val1, val2, key, low, high, key19, key18, key17, entryWith, item, insert!, modify!, delete!, leading, two, configured, commandIn, holding, bytes, ok, refused, done, Each, InTurn, batch!, all}
+use Rattle.rules.specs.Sample.{table#, by, unset, headBy, open!, close!, arbitrate!, configure!, write!, read!, readFrom}
+use Rattle.rules.specs.Sample.{readAll!, readOne, field, action, rowWith, row, sizeless, val1, val2, key, low}
+use Rattle.rules.specs.Sample.{high, key19, key18, key17, entryWith, item, insert!, modify!, delete!, leading, two}
+use Rattle.rules.specs.Sample.{configured, commandIn, holding, bytes, ok, refused, done, Each, InTurn, batch!, all}
 use Rattle.rules.specs.StreamCases.{eight, Frames, Elections}
 use Rattle.rules.specs.EntryCases.{Entries, Configurations, Updates}
 use Rattle.rules.specs.RollbackCases.{Rollbacks}

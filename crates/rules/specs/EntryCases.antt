@@ -8,7 +8,10 @@ use Rattle.rules.specs.Bytes.{concat}
 use Rattle.rules.specs.Key.{omitted, exact, lpm, ternary, range, optional}
 use Rattle.rules.specs.Answer.{Reply}
 use Rattle.rules.specs.Call.{reply}
-use Rattle.rules.specs.Sample.{table#, ones64, over64, ones128, by, open!, close!, arbitrate!, configure!, write!, readFrom, readAll!, readOne, field, action, rowWith, row, sizeless, val, val1, val2, val3, none17, slot, keyWith, key, entryWith, entry, item, insert!, modify!, delete!, leading, configured, commandIn, holding, bytes, ok, refused, notice, done, Each, InTurn, batch!, all}
+use Rattle.rules.specs.Sample.{table#, ones64, over64, ones128, by, open!, close!, arbitrate!, configure!, write!, readFrom}
+use Rattle.rules.specs.Sample.{readAll!, readOne, field, action, rowWith, row, sizeless, val, val1, val2, val3, none17}
+use Rattle.rules.specs.Sample.{slot, keyWith, key, entryWith, entry, item, insert!, modify!, delete!, leading, configured}
+use Rattle.rules.specs.Sample.{commandIn, holding, bytes, ok, refused, notice, done, Each, InTurn, batch!, all}
 
 -- ---- configuration and entries
 

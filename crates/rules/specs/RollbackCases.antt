@@ -5,7 +5,8 @@ use mathlib.Core.List.{List, [], _∷_, _++_, map}
 use Prim.Native.Nat.{ℕ}
 use lib.ListN.{replicate}
 use Rattle.rules.specs.Answer.{Reply}
-use Rattle.rules.specs.Sample.{by, open!, close!, arbitrate!, write!, readAll!, item, insert!, modify!, delete!, configured, bytes, ok, refused, notice, done, rolledBack, Each, InTurn, batch!, atomic!, all}
+use Rattle.rules.specs.Sample.{by, open!, close!, arbitrate!, write!, readAll!, item, insert!, modify!, delete!, configured}
+use Rattle.rules.specs.Sample.{bytes, ok, refused, notice, done, rolledBack, Each, InTurn, batch!, atomic!, all}
 use Rattle.rules.specs.EntryCases.{tables, stocked, stock}
 
 -- an update that would be 17
@@ -58,7 +59,8 @@ pub record Rollbacks : Type 0 where
       ∷ [])
   -- and the same where none fails: the entry is the table's last
   pub one-key-kept : InTurn stocked
-      (atomic! (by 0 5) 0 0 5 (all done (delete! (item 2 1 1) ∷ insert! (item 2 1 2) ∷ delete! (item 2 1 1) ∷ insert! (item 2 1 1) ∷ modify! (item 2 1 2) ∷ []))
+      (atomic! (by 0 5) 0 0 5 (all done
+      (delete! (item 2 1 1) ∷ insert! (item 2 1 2) ∷ delete! (item 2 1 1) ∷ insert! (item 2 1 1) ∷ modify! (item 2 1 2) ∷ []))
       ∷ (readAll!, bytes 0 0 4 (item 2 2 1 ∷ item 2 1 2 ∷ item 1 1 1 ∷ item 1 2 1 ∷ []))
       ∷ [])
   -- what was rolled back is not there for the next batch, and takes no room

@@ -6,7 +6,9 @@ use lib.ListN.{length, take, set, replicate}
 use Rattle.rules.specs.Bytes.{concat}
 use Rattle.rules.specs.Key.{exact}
 use Rattle.rules.specs.Answer.{Reply}
-use Rattle.rules.specs.Sample.{table#, over64, ones128, by, unset, headBy, byLong, open!, close!, arbitrate!, configure!, write!, read!, readAll!, row, val1, none17, key, item, insert!, delete!, leading, two, configured, bytes, ok, refused, noticeLong, notice, done, Each, InTurn, all}
+use Rattle.rules.specs.Sample.{table#, over64, ones128, by, unset, headBy}
+use Rattle.rules.specs.Sample.{byLong, open!, close!, arbitrate!, configure!, write!, read!, readAll!, row, val1, none17, key, item}
+use Rattle.rules.specs.Sample.{insert!, delete!, leading, two, configured, bytes, ok, refused, noticeLong, notice, done, Each, InTurn, all}
 
 -- ---- frames, and 1
 

@@ -73,7 +73,7 @@ module _ (table : ℕ) (tables : Tables) (s : List ℕ) where
   unfolding heldIn
   held-left = omega arith
 
--- Before entry i, `after` is `before` with the n entries of the table that stand before it written to its start.
+-- Before entry i, `after` is `before` with the n entries of the table that come before it written to its start.
 pub record Gathered (table : ℕ) (tables : Tables) (s before after : List ℕ) (n i : ℕ) : Type 0 where
   pub few : n ≤ i
   pub room : 220 * n ≤ length before

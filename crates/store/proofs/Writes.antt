@@ -1,4 +1,4 @@
--- Entries are parts of one width: where one is, and what writing over a part, before one, behind the last, or over a gap leaves.
+-- Entries are parts of one width: where one is, and what writing over a part, before one, after the last, or over a gap leaves.
 -- Assumes nothing.
 use Prim.Native.Nat.{ℕ, zero, suc, _+_, _*_, _-_, _≤_, _<_}
 use native.Mathlib.Nat.{add-zero}
@@ -14,7 +14,7 @@ use Rattle.buffers.proofs.Splice.{take-splice, drop-splice, splice-front, splic
 use Rattle.store.specs.declared.Tables.{Tables}
 use Rattle.store.specs.Store.{entriesIn, without, insertedAt, changedAt, Holds}
 
--- ---- where a part stands
+-- ---- where a part is
 
 -- part i is the first of those from i on
 pub parts-at : (i n w : ℕ) (l : List ℕ) → i < n → getD (parts n w l) i [] ≡ part (w * i) w l
@@ -48,7 +48,7 @@ over-first n w l e s =
     let z : w * 0 ≡ 0 = omega arith in
     rw (z, splice-front l e, take-at e (drop (length e) l) w s, drop-at e (drop (length e) l) w s, s)
 
--- behind the first part
+-- after the first part
 behind-first : (i n w : ℕ) (l ys : List ℕ) (ps : List (List ℕ)) → w * suc i ≤ length l
     → parts n w (splice (drop w l) (w * i) ys) ≡ ps
     → parts (suc n) w (splice l (w * suc i) ys) ≡ take w l ∷ ps
@@ -57,7 +57,7 @@ behind-first i n w l ys ps h e =
     let m : w * suc i ≡ w + w * i = omega arith in
     rw (m, take-splice w l (w + w * i) ys (omega arith) (omega arith), drop-before w (w * i) l ys (omega arith), e)
 
--- a part behind the first n
+-- a part after the first n
 pub parts-append : (n w : ℕ) (l e : List ℕ) → w * n ≤ length l → length e ≡ w
     → parts (n + 1) w (splice l (w * n) e) ≡ parts n w l ++ (e ∷ [])
 unfolding parts
@@ -101,7 +101,7 @@ action-over i tables s new h few room l =
       beyond = drop-splice 56_320 s (220 * i + 148) new (omega arith) (omega arith);
     })
 
--- the parts behind part i moved down by one
+-- the parts after part i moved down by one
 pub parts-close : (i n w k : ℕ) (l : List ℕ) → i ≤ n → w * suc n ≤ length l → w * i + w + k ≡ w * suc n
     → parts n w (splice l (w * i) (take k (drop (w * i + w) l))) ≡ without i (parts (suc n) w l)
 unfolding parts
@@ -127,7 +127,8 @@ parts-open zero n w l e k h g m s =
     let z : w * 0 ≡ 0 = omega arith in
     let q : k ≡ w * n = omega arith in
     let ys : List ℕ = e ++ take (w * n) l in
-    rw (z, q, splice-front l ys, append-assoc, take-at e (take (w * n) l ++ drop (length ys) l) w s, drop-at e (take (w * n) l ++ drop (length ys) l) w s)
+    let rest : List ℕ = take (w * n) l ++ drop (length ys) l in
+    rw (z, q, splice-front l ys, append-assoc, take-at e rest w s, drop-at e rest w s)
     (ap {B = List (List ℕ)} (λ r. e ∷ r) (parts-front n w l _ g))
 parts-open (suc i) zero w l e k h g m s = absurd (omega arith)
 parts-open (suc i) (suc n) w l e k h g m s =

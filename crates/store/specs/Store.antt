@@ -55,7 +55,7 @@ without i es = take i es ++ drop (suc i) es
 abbrev pub insertedAt : ℕ → List ℕ → List (List ℕ) → List (List ℕ)
 insertedAt i e es = take i es ++ (e ∷ drop i es)
 
--- a list whose element i has another action, with its parameters, behind its key of 148 bytes
+-- a list whose element i has another action, with its parameters, after its key of 148 bytes
 abbrev pub changedAt : ℕ → List ℕ → List (List ℕ) → List (List ℕ)
 changedAt i action es = set es i (take keySize (getD es i []) ++ action)
 

@@ -36,7 +36,8 @@ use Rattle.memory.proofs.Handled.{flat, store-stays}
 -- the key, in the bytes from its table on
 pub key-there : (q : Query) (f : List ℕ) {b : List ℕ} → b ≡ part 10 149 f → keyIn b ≡ queryRead q f .key
 key-there q f e =
-    ap₂ (λ (x y : List ℕ). x ++ y) (ap (part 0 4) e ∙ part-part 10 149 0 4 f (omega arith)) (ap (part 5 144) e ∙ part-part 10 149 5 144 f (omega arith))
+    ap₂ (λ (x y : List ℕ). x ++ y) (ap (part 0 4) e ∙ part-part 10 149 0 4 f (omega arith))
+    (ap (part 5 144) e ∙ part-part 10 149 5 144 f (omega arith))
 
 -- what the reader has tested of it
 pub query-formed : (q : Query) (f : List ℕ) → OperandsThere (Read q) f → Formed (onTables (READ (queryRead q f)))

@@ -38,7 +38,7 @@ module _ (a : Agent) (h : Head) (atomicity : ℕ) where
     abbrev asks : Command
     asks = onTables (WRITE h atomicity us)
 
-    -- the reason in the head, told from whether an update failed
+    -- the reason in the head, found from whether an update failed
     head-told : {f : Bool} (every : Bool) → f ≡ not every → _≡_ {A = ℕ} (if f then 23 else 0) (if every then 0 else 23)
     head-told true p = rw p
     head-told false p = rw p

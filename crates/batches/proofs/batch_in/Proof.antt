@@ -65,11 +65,14 @@ returns c =
       λ t. ⊎-elim
           (λ y.
           let h = k .ensures .1 .1 .1 .1 .0 (y .0 .taken) in
-          rw (y .10, y .12) (rolled (rowsIn (g .count) (now (g .rows))) (g .role) (g .tables) n us s (g .atomicity) (k .result) (h .0) (h .1 t) (y .7 .ensures)))
+          rw (y .10, y .12)
+          (rolled (rowsIn (g .count) (now (g .rows))) (g .role) (g .tables) n us s (g .atomicity) (k .result) (h .0) (h .1 t) (y .7 .ensures)))
           (λ y.
           let z : k .result .done ≡ n = omega (arith, k .ensures .0 .1, y .0 .left) in
           let l = k .ensures .1 .1 .0 z t in
-          rw (y .1, y .3, ended (rowsIn (g .count) (now (g .rows))) (g .role) (g .tables) n us s (g .atomicity) (k .result) l (λ e. k .ensures .1 .0 e z)) l)
+          let done =
+          ended (rowsIn (g .count) (now (g .rows))) (g .role) (g .tables) n us s (g .atomicity) (k .result) l (λ e. k .ensures .1 .0 e z) in
+          rw (y .1, y .3, done) l)
           (j .if1 .came),
       λ t. ⊎-elim
           (λ y.

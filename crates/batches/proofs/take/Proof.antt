@@ -1,4 +1,4 @@
--- Right because each step does what the rules say to what the steps before it left, and with atomicity 1 is noted behind them or
+-- Right because each step does what the rules say to what the steps before it left, and with atomicity 1 is noted after them or
 -- stops the batch. Assumes nothing.
 use Prim.Native.Nat.{ℕ, _+_, _*_, _-_, _≤_, _<_}
 use native.Mathlib.Omega.{arith}
@@ -68,7 +68,8 @@ part-step-end c = search needs
 step-requires : tie.Need-step-requires Inv-loop μ-loop
 step-requires c κs =
     let l = c .before .before .before .before .before in
-    (search needs, (l .loop .inv .1, omega arith), search needs, λ e. omega (arith, l .before .before .before .before .before .before .pre .4 e), omega arith)
+    let p = l .before .before .before .before .before .before .pre in
+    (search needs, (l .loop .inv .1, omega arith), search needs, λ e. omega (arith, p .4 e), omega arith)
 
 same-length : tie.Need-same-length Inv-loop μ-loop
 same-length c = search needs
@@ -100,13 +101,14 @@ judged : (d : tie.After-step Inv-loop μ-loop)
     → let l = d .before .before .before .before .before .before in
     let a = l .before .before .before .before .before .before .args in
     d .step .result .reason
-    ≡ judge (rowsIn (a .count) (now (a .rows))) (a .role) (tablesIn (l .loop .held) (l .loop .store)) (updateOf (part (221 * l .loop .i) 221 (now (a .updates))))
+    ≡ judge (rowsIn (a .count) (now (a .rows))) (a .role) (tablesIn (l .loop .held) (l .loop .store))
+    (updateOf (part (221 * l .loop .i) 221 (now (a .updates))))
 judged d =
     let l = d .before .before .before .before .before .before in
     let a = l .before .before .before .before .before .before .args in
     rw (lent d) at (d .step .ensures .0)
 
--- its pair writes no byte behind the pairs
+-- its pair writes no byte after the pairs
 beyond : (d : tie.After-step Inv-loop μ-loop)
     → let l = d .before .before .before .before .before .before in
     let a = l .before .before .before .before .before .before .args in

@@ -62,7 +62,8 @@ loop-again c =
     let h : i < a .n = omega arith in
     let room : 2 * i + 2 ≤ length x = omega arith in
     let start : 2 * i ≤ length (now (a .answer)) = omega arith in
-    let written = part-copied x (w .last .1 .0) (pairOf (o .result)) (2 * i) (length x - 2 * i) (w .ensures) (omega (arith, room)) (omega (arith, room)) in (
+    let written =
+    part-copied x (w .last .1 .0) (pairOf (o .result)) (2 * i) (length x - 2 * i) (w .ensures) (omega (arith, room)) (omega (arith, room)) in (
       written-next (l .inv .0) (ap (map pairOf) (outcomes-from (a .n) (a .at) (a .own) i h)) refl start (rw (o .ensures) at written) refl,
       omega arith,
       same-len-mid (2 * i) (length x - 2 * i) x (w .last .1 .0) (w .kept .1 .0) ∙ l .inv .2,

@@ -1,4 +1,4 @@
--- Right because the entry is written behind the last one. Assumes nothing.
+-- Right because the entry is written after the last one. Assumes nothing.
 use Prim.Native.Nat.{ℕ, _*_}
 use native.Mathlib.Omega.{arith}
 use mathlib.Core.Path.{_≡_}

@@ -1,4 +1,4 @@
--- Right because the action is written behind the key of entry i, up to its end. Assumes nothing.
+-- Right because the action is written after the key of entry i, up to its end. Assumes nothing.
 use Prim.Native.Nat.{ℕ, _+_, _*_, _-_}
 use native.Mathlib.Omega.{arith}
 use mathlib.Core.Path.{_≡_, ap, _∙_}

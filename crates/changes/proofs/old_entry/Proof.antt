@@ -1,4 +1,4 @@
--- Right because the key of the update is written in shortest form, and behind it what was noted, up to the end. Assumes nothing.
+-- Right because the key of the update is written in shortest form, and after it what was noted, up to the end. Assumes nothing.
 use Prim.Native.Nat.{ℕ, _+_, _-_}
 use native.Mathlib.Omega.{arith}
 use mathlib.Core.Path.{_≡_, ap, _∙_}
@@ -16,7 +16,7 @@ use borrow.Author.Needs.{needs}
 use Rattle.changes.proofs.old_entry.Statement.{statement}
 use Rattle.changes.proofs.old_entry.Tie as tie
 
--- the two pieces, one behind the other: `keyed` has the key, and `piece` comes back as its last 72 bytes
+-- the two pieces, one after the other: `keyed` has the key, and `piece` comes back as its last 72 bytes
 made : (u note before keyed piece : List ℕ) → length u ≡ 221 → length note ≡ 74 → length before ≡ 220
     → keyed ≡ splice before 0 (shortKey (take (length u - 1) (drop 1 u)))
     → piece ≡ splice (take 72 (drop 148 keyed)) 0 (take 72 (drop 2 note))

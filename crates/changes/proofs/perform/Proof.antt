@@ -19,13 +19,16 @@ enum-known-verdict c = search needs
 
 modify-requires : tie.Need-modify-requires
 modify-requires c κs =
-    (rw (c .before .before .verdict .given .1) at (c .before .before .before .before .before .before .pre .0), search needs, search needs, search needs)
+    let p = c .before .before .before .before .before .before .pre in
+    (rw (c .before .before .verdict .given .1) at (p .0), search needs, search needs, search needs)
 
 enum-known-verdict-2 : tie.Need-enum-known-verdict-2
 enum-known-verdict-2 c = search needs
 
 remove-requires : tie.Need-remove-requires
-remove-requires c κs = (rw (c .before .before .verdict2 .given .1) at (c .before .before .before .before .before .before .pre .0), search needs, search needs)
+remove-requires c κs =
+    let p = c .before .before .before .before .before .before .pre in
+    (rw (c .before .before .verdict2 .given .1) at (p .0), search needs, search needs)
 
 returns : tie.Need-returns
 returns c = rw (c .enum-told .given .1) (record { holds = refl; few = omega arith; room = refl; beyond = refl })

@@ -7,7 +7,8 @@ use lib.ListN.{getD}
 use borrow.Author.Needs.{needs}
 use borrow.Author.Tests.{not-true, not-false}
 use Rattle.configuration.specs.Passing.{actionPasses, actionsPass}
-use Rattle.configuration.proofs.OneRow.{part-lent, count-none, count-over, count-fits, actions-refused, actions-asked, actionsLeft, action-refused, action-repeated, action-passed, actions-passed}
+use Rattle.configuration.proofs.OneRow.{part-lent, count-none, count-over, count-fits, actions-refused, actions-asked, actionsLeft}
+use Rattle.configuration.proofs.OneRow.{action-refused, action-repeated, action-passed, actions-passed}
 use Rattle.configuration.proofs.actions_allowed.Statement.{statement}
 use Rattle.configuration.proofs.actions_allowed.Tie as tie
 

@@ -8,7 +8,8 @@ use borrow.Author.Needs.{needs}
 use borrow.Author.Tests.{not-true, not-false}
 use Rattle.rules.specs.Row as rules
 use Rattle.configuration.specs.Passing.{fieldsPass}
-use Rattle.configuration.proofs.OneRow.{left-refused, left-passed, left-none, count-none, count-over, count-fits, fieldPasses, fieldsLeft, fields-refused, fields-asked}
+use Rattle.configuration.proofs.OneRow.{left-refused, left-passed, left-none, count-none, count-over, count-fits, fieldPasses, fieldsLeft}
+use Rattle.configuration.proofs.OneRow.{fields-refused, fields-asked}
 use Rattle.configuration.proofs.fields_allowed.Statement.{statement}
 use Rattle.configuration.proofs.fields_allowed.Tie as tie
 

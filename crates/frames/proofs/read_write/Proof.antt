@@ -40,7 +40,9 @@ shared-slice-read-atomicity : tie.Need-shared-slice-read-atomicity
 shared-slice-read-atomicity c = search needs
 
 returns-4 : tie.Need-returns-4
-returns-4 c = let f = c .before .before .before .before .before .before .before .args .frame .now in (write-atomicity f (byte 28 f) _ (c .if4 .taken), tt)
+returns-4 c =
+    let f = c .before .before .before .before .before .before .before .args .frame .now in
+    (write-atomicity f (byte 28 f) _ (c .if4 .taken), tt)
 
 head-at-requires : tie.Need-head-at-requires
 head-at-requires c κs = search needs
@@ -51,21 +53,25 @@ shared-slice-read-flag-fits c = search needs
 flag-fits-requires : tie.Need-flag-fits-requires
 flag-fits-requires c κs = search needs
 
+-- where a state came from: the call's start
+abbrev start : tie.After-flag-fits → tie.Start
+start c = c .before .before .before .before .before .before .before .before .before .before
+
 -- what was tested of the flag
-flag : (c : tie.After-flag-fits) → let f = c .before .before .before .before .before .before .before .before .before .before .args .frame .now in rules.headFits 1 f ≡ c .flag-fits .result
+flag : (c : tie.After-flag-fits) → let f = start c .args .frame .now in rules.headFits 1 f ≡ c .flag-fits .result
 flag c =
-    let f = c .before .before .before .before .before .before .before .before .before .before .args .frame .now in
+    let f = start c .args .frame .now in
     sym (c .flag-fits .ensures ∙ ap (λ (h : rules.Head). rules.flagFits (byte 10 f) (h .id)) (c .before .before .head-at .ensures))
 
 returns-5 : tie.Need-returns-5
 returns-5 c =
-    let f = c .before .before .before .before .before .before .before .before .before .before .before .args .frame .now in
+    let f = start (c .before) .args .frame .now in
     (write-flag f (byte 28 f) _ (flag (c .before) ∙ not-true _ (c .if5 .taken)), tt)
 
 returns-6 : tie.Need-returns-6
 unfolding rules.writeOf
 returns-6 c =
-    let f = c .before .before .before .before .before .before .before .before .before .before .before .args .frame .now in
+    let f = start (c .before) .args .frame .now in
     let h : length f ≡ 29 + 221 * byte 28 f = omega arith in
     let k : byte 28 f ≤ 64 = omega arith in
     let e : rules.headFits 1 f ≡ true = flag (c .before) ∙ not-false _ (c .if5 .left) in

@@ -37,10 +37,14 @@ allowed-requires : tie.Need-allowed-requires
 allowed-requires c κs = search needs
 
 returns-2 : tie.Need-returns-2
-returns-2 c = sym (order (c .before .before .before) ∙ (rw (eq-eqb _ 0 (c .before .before .if1 .left), sym (c .before .allowed .ensures) ∙ c .if2 .taken)))
+returns-2 c =
+    sym (order (c .before .before .before)
+    ∙ (rw (eq-eqb _ 0 (c .before .before .if1 .left), sym (c .before .allowed .ensures) ∙ c .if2 .taken)))
 
 returns-3 : tie.Need-returns-3
-returns-3 c = sym (order (c .before .before .before) ∙ (rw (eq-eqb _ 0 (c .before .before .if1 .left), sym (c .before .allowed .ensures) ∙ c .if2 .left)))
+returns-3 c =
+    sym (order (c .before .before .before)
+    ∙ (rw (eq-eqb _ 0 (c .before .before .if1 .left), sym (c .before .allowed .ensures) ∙ c .if2 .left)))
 
 pub configure-reason-spec : {M : Type 1} → statement M
 configure-reason-spec =

@@ -29,8 +29,9 @@ configure-reason-requires c κs = let s = c .before .before .pre in (s .0, simp 
 returns : tie.Need-returns
 returns c t =
     let a = c .before .before .before .args in
+    let control = controlIn (a .device) (a .streams) (a .configuration) in
     sym (c .configure-reason .ensures
-    ∙ ap (λ (l : List ℕ). configureReason (controlIn (a .device) (a .streams) (a .configuration)) (headOf (a .command .head)) (parts (a .command .count) 53 l))
+    ∙ ap (λ (l : List ℕ). configureReason control (headOf (a .command .head)) (parts (a .command .count) 53 l))
     (rest-all 28 (now (a .frame))))
 
 pub refusal-spec : {M : Type 1} → statement M

@@ -18,7 +18,8 @@ returns c =
     let a = c .before .before .before .args in
     let es = entriesIn (a .tables) (now (a .store)) in
     let few = keep-fewer (inTable (a .table)) es in
-    sym (lt-leb (a .size) (heldIn (a .table) (tablesIn (a .tables) (now (a .store)))) (omega (arith, few, parts-count (a .tables .count) 220 (now (a .store)))))
+    sym (lt-leb (a .size) (heldIn (a .table) (tablesIn (a .tables) (now (a .store))))
+    (omega (arith, few, parts-count (a .tables .count) 220 (now (a .store)))))
 
 held-requires : tie.Need-held-requires
 held-requires c κs = search needs

@@ -1,4 +1,4 @@
--- Right because the bytes behind the entry are moved down by its width. Assumes nothing.
+-- Right because the bytes after the entry are moved down by its width. Assumes nothing.
 use Prim.Native.Nat.{ℕ, suc, _+_, _*_, _-_}
 use native.Mathlib.Omega.{arith}
 use mathlib.Core.Path.{_≡_}

@@ -22,25 +22,37 @@ returns c t k =
 enum-known-command : tie.Need-enum-known-command
 enum-known-command c = search needs
 
--- what the command leaves in the frame is what its variant does
+-- where a state came from: the call's start
+abbrev start : tie.Else1 → tie.Start
+start e = e .before .before .before .before .before .before
+
+-- what the command leaves in the frame is what its variant leaves
 of : (s : tie.Start) {x : TableCommand} → s .args .command ≡ x → OperandsThere x (now (s .args .frame))
 of s e = subst (λ (x : TableCommand). OperandsThere x (now (s .args .frame))) e (s .pre .0)
 
--- and what its variant comes to the command does
+-- and what handles its variant handles the command
 by : (s : tie.Start) {x : TableCommand} {r : Result Agent} → s .args .command ≡ x
     → Handles (memory (s .args .agent) (now (s .args .store))) (onTables (tableRead x (now (s .args .frame)))) (now (s .args .answer)) r
-    → Handles (memory (s .args .agent) (now (s .args .store))) (onTables (tableRead (s .args .command) (now (s .args .frame)))) (now (s .args .answer)) r
+    → Handles (memory (s .args .agent) (now (s .args .store))) (onTables (tableRead (s .args .command) (now (s .args .frame))))
+    (now (s .args .answer)) r
 by s {x} {r} e h =
-    subst (λ (y : TableCommand). Handles (memory (s .args .agent) (now (s .args .store))) (onTables (tableRead y (now (s .args .frame)))) (now (s .args .answer)) r) (sym e) h
+    let a = s .args in
+    subst (λ (y : TableCommand). Handles (memory (a .agent) (now (a .store))) (onTables (tableRead y (now (a .frame)))) (now (a .answer)) r) (sym e) h
 
 write-requires : tie.Need-write-requires
-write-requires c κs = let s = c .before .before .before .before .before .before .before .before .before .before .before in (of s (c .before .before .before .command .given .1), c .before .before .before .before .before .if1 .left, s .pre .1, omega (arith, s .pre .2))
+write-requires c κs =
+    let e = c .before .before .before .before .before in
+    let s = start e in
+    (of s (c .before .before .before .command .given .1), e .if1 .left, s .pre .1, omega (arith, s .pre .2))
 
 enum-known-command-2 : tie.Need-enum-known-command-2
 enum-known-command-2 c = search needs
 
 read-requires : tie.Need-read-requires
-read-requires c κs = let s = c .before .before .before .before .before .before .before .before .before .before .before in (of s (c .before .before .before .command2 .given .1), c .before .before .before .before .before .if1 .left, s .pre .1, s .pre .2)
+read-requires c κs =
+    let e = c .before .before .before .before .before in
+    let s = start e in
+    (of s (c .before .before .before .command2 .given .1), e .if1 .left, s .pre .1, s .pre .2)
 
 same-length : tie.Need-same-length
 same-length c = search needs
@@ -50,8 +62,8 @@ same-length-2 c = search needs
 
 returns-2 : tie.Need-returns-2
 returns-2 c =
-    let s = c .before .before .before .before .before .before .before .before .before .before .before .before .before .before .before .before in
-    by s (c .before .before .before .before .before .before .before .before .command .given .1) (c .before .before .before .before .write .ensures)
+    let x = c .before .before .before .before .before .before .before .before in
+    by (start (x .before .before)) (x .command .given .1) (c .before .before .before .before .write .ensures)
 
 same-length-3 : tie.Need-same-length-3
 same-length-3 c = search needs
@@ -61,8 +73,8 @@ same-length-4 c = search needs
 
 returns-3 : tie.Need-returns-3
 returns-3 c =
-    let s = c .before .before .before .before .before .before .before .before .before .before .before .before .before .before in
-    by s (c .before .before .before .before .before .before .command2 .given .1) (c .before .before .read .ensures)
+    let x = c .before .before .before .before .before .before in
+    by (start (x .before .before)) (x .command2 .given .1) (c .before .before .read .ensures)
 
 pub carry-out-spec : {M : Type 1} → statement M
 carry-out-spec =

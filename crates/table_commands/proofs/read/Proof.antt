@@ -183,7 +183,8 @@ returns-3 c =
     subst (λ (x : List (List ℕ)). Reads x lent out (r .result)) (ap asked key ∙ taken (a .agent) q s formed k e) (r .ensures (k .tables .distinct)) in
     let n = reads-all es lent (omega (arith, z .1, p .3)) t in
     was-read (a .agent) q s d (h .last .1 .1 .0) e
-    (records-then-head 0 (r .result) es d out (h .last .1 .1 .0) (omega (arith, p .3)) (n .0) (r .kept .1 .1 .1 .1 .1 .1 .1 .1 .0) (n .1) (h .ensures)))
+    (records-then-head 0 (r .result) es d out (h .last .1 .1 .0) (omega (arith, p .3)) (n .0)
+    (r .kept .1 .1 .1 .1 .1 .1 .1 .1 .0) (n .1) (h .ensures)))
 
 pub read-spec : {M : Type 1} → statement M
 read-spec =

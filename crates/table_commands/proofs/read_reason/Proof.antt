@@ -21,15 +21,15 @@ returns-2 : tie.Need-returns-2
 unfolding first
 returns-2 c =
     let a = c .before .before .before .args in
-    first-passed (addressOrder (not (a .here)) (a .role)) ((a .unconfigured, 12) ∷ []) refl (c .before .before .address-reason .ensures) (c .before .if1 .left)
-    (rw (c .if2 .taken))
+    first-passed (addressOrder (not (a .here)) (a .role)) ((a .unconfigured, 12) ∷ []) refl (c .before .before .address-reason .ensures)
+    (c .before .if1 .left) (rw (c .if2 .taken))
 
 returns-3 : tie.Need-returns-3
 unfolding first
 returns-3 c =
     let a = c .before .before .before .args in
-    first-passed (addressOrder (not (a .here)) (a .role)) ((a .unconfigured, 12) ∷ []) refl (c .before .before .address-reason .ensures) (c .before .if1 .left)
-    (rw (c .if2 .left))
+    first-passed (addressOrder (not (a .here)) (a .role)) ((a .unconfigured, 12) ∷ []) refl (c .before .before .address-reason .ensures)
+    (c .before .if1 .left) (rw (c .if2 .left))
 
 pub read-reason-spec : {M : Type 1} → statement M
 read-reason-spec = tie.close (tie.spec address-reason-requires returns returns-2 returns-3)

@@ -55,8 +55,8 @@ order : (e : tie.After-write-reason) →
     writeReason (controlOf (a .agent)) (headOf (a .head)) (a .atomicity) ≡ e .write-reason .result
 order e =
     let a = start e .args in
-    write-order (a .agent) (headOf (a .head)) (a .atomicity) refl (e .before .before .before .before .by-primary .ensures) (e .before .is-empty .ensures)
-    (e .write-reason .ensures)
+    write-order (a .agent) (headOf (a .head)) (a .atomicity) refl (e .before .before .before .before .by-primary .ensures)
+    (e .before .is-empty .ensures) (e .write-reason .ensures)
 
 returns : tie.Need-returns
 returns c =
