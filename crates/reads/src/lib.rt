@@ -17,7 +17,7 @@ use store::Tables;
 // ---- why it is refused
 
 // Why a READ of a table is refused, by whether the table is known and its row: 15, 16 and, with only 1, 17 to 19 of its key.
-fn table_reason(known: bool, row: &[u8], role: u8, only: u8, query: &[u8]) -> u8
+fn named_reason(known: bool, row: &[u8], role: u8, only: u8, query: &[u8]) -> u8
     requires { ⌜ (length (now row) ≡ rowSize) × (length (now query) ≡ 149) ⌝ }
     ensures { λ r. ⌜ r ≡ first (tableQueryOrder known (rowOf (now (row .entry))) role only (keyIn (now (query .entry)))) ⌝ }
 {
@@ -43,7 +43,7 @@ pub fn query_reason(rows: &[u8], count: u8, role: u8, table: u64, only: u8, quer
     let found = rows::find(rows, count, table);
     let at = found.at;
     let end = at + rules::ROW;
-    table_reason(found.known, &rows[at..end], role, only, query)
+    named_reason(found.known, &rows[at..end], role, only, query)
 }
 
 // ---- what it shows

@@ -23,17 +23,17 @@ find-requires c κs = search needs
 add-end : tie.Need-add-end
 add-end c = search needs
 
-sub-table-reason : tie.Need-sub-table-reason
-sub-table-reason c = search needs
+sub-named-reason : tie.Need-sub-named-reason
+sub-named-reason c = search needs
 
-part-table-reason-start : tie.Need-part-table-reason-start
-part-table-reason-start c = search needs
+part-named-reason-start : tie.Need-part-named-reason-start
+part-named-reason-start c = search needs
 
-part-table-reason-end : tie.Need-part-table-reason-end
-part-table-reason-end c = search needs
+part-named-reason-end : tie.Need-part-named-reason-end
+part-named-reason-end c = search needs
 
-table-reason-requires : tie.Need-table-reason-requires
-table-reason-requires c κs = search needs
+named-reason-requires : tie.Need-named-reason-requires
+named-reason-requires c κs = search needs
 
 returns-2 : tie.Need-returns-2
 returns-2 c =
@@ -41,7 +41,7 @@ returns-2 c =
     let a = f .before .before .before .before .args in
     let at = f .find .result .at in
     let w : at + 53 - at ≡ 53 = omega arith in
-    rw w at (c .table-reason .ensures)
+    rw w at (c .named-reason .ensures)
     ∙ one-named (rowsIn (a .count) (now (a .rows))) (a .role) (a .table) (a .only) (keyIn (now (a .query))) (f .before .if1 .left)
     (f .find .ensures .0) (f .find .ensures .1 .0)
 
@@ -52,8 +52,8 @@ query-reason-spec =
     returns
     find-requires
     add-end
-    sub-table-reason
-    part-table-reason-start
-    part-table-reason-end
-    table-reason-requires
+    sub-named-reason
+    part-named-reason-start
+    part-named-reason-end
+    named-reason-requires
     returns-2)

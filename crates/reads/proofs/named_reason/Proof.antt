@@ -6,8 +6,8 @@ use Rattle.rows.specs.Meaning.{rowOf}
 use Rattle.reads.specs.Read.{keyIn}
 use Rattle.reads.proofs.QueryOrder.{key-behind, by-table, by-nothing, by-key}
 use borrow.Author.Needs.{needs}
-use Rattle.reads.proofs.table_reason.Statement.{statement}
-use Rattle.reads.proofs.table_reason.Tie as tie
+use Rattle.reads.proofs.named_reason.Statement.{statement}
+use Rattle.reads.proofs.named_reason.Tie as tie
 
 table-reason-requires : tie.Need-table-reason-requires
 table-reason-requires c κs = search needs
@@ -46,8 +46,8 @@ returns-3 c =
     by-key (a .known) (rowOf (now (a .row))) (a .role) (a .only) (keyIn b) (f .table-reason .ensures) (g .before .if1 .left)
     (g .if2 .left) (c .key-reason .ensures (keyIn b) (key-behind b (search needs)))
 
-pub table-reason-spec : {M : Type 1} → statement M
-table-reason-spec =
+pub named-reason-spec : {M : Type 1} → statement M
+named-reason-spec =
     tie.close
     (tie.spec
     table-reason-requires
