@@ -10,7 +10,7 @@ use borrow.Author.Tests.{eqb-true, eqb-false, ltb-true, ltb-false}
 use Rattle.rules.specs.Bytes.{if_then_else_}
 use Rattle.rules.specs.Streams as rules
 use Rattle.rules.specs.Streams.{closed, unbound, bound, isOpen, streamAt, become, openStream, closeStream, closeRecords, arbitrateReason, arbitrate}
-use Rattle.rules.proofs.Tests.{clash}
+use Rattle.rules.proofs.Tests.{contradiction}
 use Rattle.leadership.proofs.ArbitrateReason.{within, reason-within}
 use Rattle.election.specs.Meaning.{idOf, headOf, streamOf}
 use Rattle.arbitration.specs.Meaning.{recordsOf, leftAs, streamsOf}
@@ -81,7 +81,7 @@ module _ (self : Streams) (size : length (self .streams) ≡ 32) (s : ℕ) where
             → record { after = streamsOf put; reason = r; records = recordsOf n (streamsOf put) } ≡ closeStream (streamsOf self) s
         go true t er ex =
             let e : streamOf x ≡ closed = rw er at ex in
-            let h = within (streamsOf self) s (sized self size) (λ q. clash t (ap isOpen (eb ∙ sym q))) in
+            let h = within (streamsOf self) s (sized self size) (λ q. contradiction t (ap isOpen (eb ∙ sym q))) in
             rw er (closes (streamsOf self) s n 0 (put-in h e) en ∙ close-open (streamsOf self) s eb t)
         go false t er ex =
             let e : streamOf x ≡ there = rw er at ex in

@@ -11,7 +11,7 @@ use Rattle.rules.specs.Reason.{first}
 use Rattle.rules.specs.Frame.{Head}
 use Rattle.rules.specs.Streams.{Stream, closed, unbound, bound, Streams, streamAt, isOpen, notifyAll, become, openStream, closeStream}
 use Rattle.rules.specs.Streams.{recordsOnClose, closeRecords, arbitrateReason, binds, bindRecords, arbitrate, Outcome}
-use Rattle.rules.proofs.Tests.{clash}
+use Rattle.rules.proofs.Tests.{contradiction}
 use Rattle.election.specs.Meaning.{roleOr}
 use Rattle.leadership.specs.Scanning.{leads}
 use Rattle.leadership.proofs.ArbitrateReason.{reason-closes}
@@ -20,8 +20,8 @@ use Rattle.arbitration.specs.declared.Notify.{Notify}
 
 not-open : (x : Stream) → isOpen x ≡ false → x ≡ closed
 not-open closed o = refl
-not-open unbound o = clash refl o
-not-open (bound r i) o = clash refl o
+not-open unbound o = contradiction refl o
+not-open (bound r i) o = contradiction refl o
 
 -- the role of a bound stream is no other
 pub own-role : (x : Stream) (r : ℕ) → roleOr (roleOr r x) x ≡ roleOr r x
@@ -64,8 +64,8 @@ module _ (e : Streams) (s : ℕ) where
     primary-closes r q t = rw (← h) (go x q t)
       where
         go : (x : Stream) → roleOr r x ≡ r → leads e s x ≡ true → notifyAll (become e s closed) r ≡ recordsOnClose e s x
-        go closed q t = clash t refl
-        go unbound q t = clash t refl
+        go closed q t = contradiction t refl
+        go unbound q t = contradiction t refl
         go (bound p i) q t = rw (t, q)
 
     pub other-closes : leads e s x ≡ false → [] ≡ closeRecords e s

@@ -18,7 +18,7 @@ use Rattle.rules.specs.Row.{Row}
 use Rattle.rules.specs.Update.{Tables, Batch, judge, apply, eachAlone, failure, rolledBack, unlessFailed, allOrNone, batch}
 use Rattle.rules.proofs.Formed.{parts-count}
 use Rattle.rules.proofs.Rollback.{Told, told, failure-at, alone-snoc}
-use Rattle.rules.proofs.Tests.{clash, every-append}
+use Rattle.rules.proofs.Tests.{contradiction, every-append}
 use Rattle.buffers.specs.Splice.{splice}
 use Rattle.buffers.proofs.Splice.{part-before, splice-front, window-splice}
 use Rattle.store.specs.Store.{entriesIn, tablesIn, Holds}
@@ -84,7 +84,7 @@ module _ (rows : List Row) (role : ℕ) where
     where
       go : (o : Option (ℕ × ℕ)) → Told rows role o t us → o ≡ none
       go none h = refl
-      go (some f) h = clash e (h .0)
+      go (some f) h = contradiction e (h .0)
 
   -- The updates before update i have taken effect and are noted; `later` are those left.
   pub record PassedSoFar (tables : Held) (n : ℕ) (us start : List ℕ) (later : List Update) (store log : List ℕ) (held : Held) (i : ℕ)

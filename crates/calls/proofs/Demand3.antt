@@ -21,7 +21,7 @@ use Rattle.rules.proofs.Formed.{call-formed}
 use Rattle.rules.proofs.Sound.{fresh-agent, next-sound, sound}
 use Rattle.rules.proofs.Sizes.{answer-sized, count-read, write-count}
 use Rattle.rules.proofs.Replies.{written-whole}
-use Rattle.rules.proofs.Pairs.{pairs-length}
+use Rattle.rules.proofs.PairsAndEffects.{pairs-length}
 use Rattle.rules.proofs.LookBack.{fresh-shows, agreement}
 use Rattle.rules.proofs.Deletes.{key-alone}
 use Rattle.rules.proofs.Primary.{authority}

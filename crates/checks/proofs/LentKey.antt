@@ -8,50 +8,50 @@ use mathlib.Core.List.{List, [], _∷_}
 use lib.ListN.{drop}
 use Rattle.rules.specs.Bytes.{part, parts, int, number, allZero}
 use Rattle.rules.specs.Row.{Field, Row}
-use Rattle.rules.specs.Key.{slots, slotFormed, slotFits, slotRule, alongside, alongsideAll, keyFormed, keyFits, keyRules}
+use Rattle.rules.specs.Key.{slots, slotFormed, slotFits, slotRule, pairwise, pairwiseThenZeros, keyFormed, keyFits, keyRules}
 use Rattle.rules.specs.Value.{isValue, fits}
 use Rattle.rules.specs.Entry.{actionIn, parameters, hasAction, widthsOf, actionFormed, actionFits}
 use Rattle.rules.proofs.Lists.{parts-lent, part-part}
 use Rattle.checks.specs.declared.Test.the-variants.{Formed, Fits, Rule}
-use Rattle.checks.specs.Tests.{slotPasses, parameterPasses, unusedPasses, along, slotsPass, parametersPass, wholePasses, ruled}
+use Rattle.checks.specs.Tests.{slotPasses, parameterPasses, unusedPasses, pairwiseThen, slotsPass, parametersPass, wholePasses, ruled}
 use Rattle.checks.proofs.Walk.{every-true}
 
 -- ---- the test of parts is each of the rules'
 
 module _ {A : Type 0} (p : A → List ℕ → Bool) where
   -- zeros after the used parts
-  along-all : (xs : List A) (bs : List (List ℕ)) → along p allZero xs bs ≡ alongsideAll p xs bs
-  along-all [] bs = refl
-  along-all (x ∷ xs) [] = refl
-  along-all (x ∷ xs) (b ∷ bs) = rw (along-all xs bs)
+  pairwise-then-zeros : (xs : List A) (bs : List (List ℕ)) → pairwiseThen p allZero xs bs ≡ pairwiseThenZeros p xs bs
+  pairwise-then-zeros [] bs = refl
+  pairwise-then-zeros (x ∷ xs) [] = refl
+  pairwise-then-zeros (x ∷ xs) (b ∷ bs) = rw (pairwise-then-zeros xs bs)
 
   -- whatever is after them
-  along-used : (xs : List A) (bs : List (List ℕ)) → along p (λ (b : List ℕ). true) xs bs ≡ alongside p xs bs
-  along-used [] bs = every-true bs
-  along-used (x ∷ xs) [] = refl
-  along-used (x ∷ xs) (b ∷ bs) = rw (along-used xs bs)
+  pairwise-used : (xs : List A) (bs : List (List ℕ)) → pairwiseThen p (λ (b : List ℕ). true) xs bs ≡ pairwise p xs bs
+  pairwise-used [] bs = every-true bs
+  pairwise-used (x ∷ xs) [] = refl
+  pairwise-used (x ∷ xs) (b ∷ bs) = rw (pairwise-used xs bs)
 
 module _ (fields : List Field) (bs : List (List ℕ)) where
-  slots-formed : slotsPass Formed fields bs ≡ alongsideAll slotFormed fields bs
+  slots-formed : slotsPass Formed fields bs ≡ pairwiseThenZeros slotFormed fields bs
   unfolding slotPasses unusedPasses
-  slots-formed = along-all slotFormed fields bs
+  slots-formed = pairwise-then-zeros slotFormed fields bs
 
-  slots-fit : slotsPass Fits fields bs ≡ alongside slotFits fields bs
+  slots-fit : slotsPass Fits fields bs ≡ pairwise slotFits fields bs
   unfolding slotPasses unusedPasses
-  slots-fit = along-used slotFits fields bs
+  slots-fit = pairwise-used slotFits fields bs
 
-  pub slots-rule : slotsPass Rule fields bs ≡ alongside slotRule fields bs
+  pub slots-rule : slotsPass Rule fields bs ≡ pairwise slotRule fields bs
   unfolding slotPasses unusedPasses
-  slots-rule = along-used slotRule fields bs
+  slots-rule = pairwise-used slotRule fields bs
 
 module _ (widths : List ℕ) (bs : List (List ℕ)) where
-  parameters-formed : parametersPass Formed widths bs ≡ alongsideAll (λ (width : ℕ). isValue) widths bs
+  parameters-formed : parametersPass Formed widths bs ≡ pairwiseThenZeros (λ (width : ℕ). isValue) widths bs
   unfolding parameterPasses unusedPasses
-  parameters-formed = along-all (λ (width : ℕ). isValue) widths bs
+  parameters-formed = pairwise-then-zeros (λ (width : ℕ). isValue) widths bs
 
-  parameters-fit : parametersPass Fits widths bs ≡ alongside fits widths bs
+  parameters-fit : parametersPass Fits widths bs ≡ pairwise fits widths bs
   unfolding parameterPasses unusedPasses
-  parameters-fit = along-used fits widths bs
+  parameters-fit = pairwise-used fits widths bs
 
 -- ---- a key, of which the slots are bytes 8 to 148
 

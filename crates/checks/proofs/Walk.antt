@@ -16,7 +16,7 @@ use Rattle.rules.proofs.Lists.{drop-map, parts-from, part-part, byte-part}
 use Rattle.rows.specs.Meaning.{actionOf, rowOf}
 use Rattle.checks.specs.declared.Test.{Test}
 use Rattle.checks.specs.declared.Test.the-variants.{Formed, Fits, Rule}
-use Rattle.checks.specs.Tests.{unusedPasses, along}
+use Rattle.checks.specs.Tests.{unusedPasses, pairwiseThen}
 
 -- ---- what is left of a list within its count: the element at the index first, or nothing
 
@@ -139,7 +139,7 @@ every-true (b ∷ bs) = every-true bs
 -- The test t of the next part, which came out as b, decides it or leaves less.
 module _ {A : Type 0} (p : A → List ℕ → Bool) (u : List ℕ → Bool) (xs : List A) (w : ℕ) (l : List ℕ) where
   abbrev pub left : ℕ → Bool
-  left i = along p u (drop i xs) (drop i (parts 4 w l))
+  left i = pairwiseThen p u (drop i xs) (drop i (parts 4 w l))
 
   pub left-next : (i : ℕ) {x : A} {t b : Bool} → i < 4 → drop i xs ≡ x ∷ drop (i + 1) xs
       → t ≡ p x (take (w * i + w - w * i) (drop (w * i) l)) → t ≡ b → left i ≡ b && left (i + 1)

@@ -6,7 +6,7 @@ use Prim.Native.Nat.{ℕ}
 use Rattle.rules.specs.Bytes.{every, part, allZero}
 use Rattle.rules.specs.Row.{Field, Row}
 use Rattle.rules.specs.Value.{isValue, fits}
-use Rattle.rules.specs.Key.{slots, slotFormed, slotFits, slotRule, alongside, priorityRule}
+use Rattle.rules.specs.Key.{slots, slotFormed, slotFits, slotRule, pairwise, priorityRule}
 use Rattle.rules.specs.Entry.{parameters}
 use Rattle.rows.specs.Meaning.{actionOf}
 use Rattle.checks.specs.declared.Test.{Test}
@@ -31,16 +31,16 @@ unusedPasses Fits b = true
 unusedPasses Rule b = true
 
 -- each used part passes the test by its field or width, and the unused parts after them pass theirs
-abbrev pub along : {A : Type 0} → (A → List ℕ → Bool) → (List ℕ → Bool) → List A → List (List ℕ) → Bool
-along p u [] bs = every u bs
-along p u (x ∷ xs) [] = false
-along p u (x ∷ xs) (b ∷ bs) = p x b && along p u xs bs
+abbrev pub pairwiseThen : {A : Type 0} → (A → List ℕ → Bool) → (List ℕ → Bool) → List A → List (List ℕ) → Bool
+pairwiseThen p u [] bs = every u bs
+pairwiseThen p u (x ∷ xs) [] = false
+pairwiseThen p u (x ∷ xs) (b ∷ bs) = p x b && pairwiseThen p u xs bs
 
 abbrev pub slotsPass : Test → List Field → List (List ℕ) → Bool
-slotsPass test fields bs = along (slotPasses test) (unusedPasses test) fields bs
+slotsPass test fields bs = pairwiseThen (slotPasses test) (unusedPasses test) fields bs
 
 abbrev pub parametersPass : Test → List ℕ → List (List ℕ) → Bool
-parametersPass test widths bs = along (parameterPasses test) (unusedPasses test) widths bs
+parametersPass test widths bs = pairwiseThen (parameterPasses test) (unusedPasses test) widths bs
 
 -- of an entry both, by the widths of its action
 abbrev pub wholePasses : Test → Row → List ℕ → List ℕ → Bool
@@ -48,7 +48,7 @@ wholePasses test row widths e = slotsPass test (row .fields) (slots e) && parame
 
 -- 19 of a key, by its slots and its priority
 abbrev pub ruled : List Field → List (List ℕ) → ℕ → Bool
-ruled fields bs priority = alongside slotRule fields bs && priorityRule fields priority
+ruled fields bs priority = pairwise slotRule fields bs && priorityRule fields priority
 
 -- the widths of the action at a place of a row
 abbrev pub widthsAt : ℕ → List ℕ → List ℕ

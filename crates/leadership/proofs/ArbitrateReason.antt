@@ -12,7 +12,7 @@ use Rattle.rules.specs.Bytes.{if_then_else_, between, every}
 use Rattle.rules.specs.Reason.{first}
 use Rattle.rules.specs.Frame.{Head}
 use Rattle.rules.specs.Streams.{Stream, closed, unbound, bound, Streams, streamAt, members, heldElsewhere, addressOrder, orderOf, arbitrateReason}
-use Rattle.rules.proofs.Tests.{clash, or-false}
+use Rattle.rules.proofs.Tests.{contradiction, or-false}
 use Rattle.rules.proofs.Orders.{first-clear, first-passes, first-more}
 use Rattle.election.specs.Meaning.{roleOr}
 
@@ -90,7 +90,7 @@ module _ (e : Streams) (s device : ℕ) (h : Head) where
     accepted-alone = go (streamAt e s) refl (order-is refl ∙ sym p)
       where
         go : (x : Stream) → x ≡ streamAt e s → first (orderOf device e s h x) ≡ 0 → heldElsewhere e s (h .role) (h .id) ≡ false
-        go closed q z = clash refl (first-clear (orderOf device e s h closed) refl z .0)
+        go closed q z = contradiction refl (first-clear (orderOf device e s h closed) refl z .0)
         go unbound q z = first-clear (orderOf device e s h unbound) refl z .1 .1 .0
         go (bound r i) q z =
             let c = first-clear (orderOf device e s h (bound r i)) refl z in

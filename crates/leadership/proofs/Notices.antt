@@ -7,15 +7,15 @@ use mathlib.Core.Option.{Option, none, some}
 use lib.Dec.{eqb}
 use borrow.Author.Tests.{eqb-true}
 use Rattle.rules.specs.Streams.{Streams, members, markOf, primary, notification, notifyAll, sameOption, samePair}
-use Rattle.rules.proofs.Tests.{and-true, clash}
+use Rattle.rules.proofs.Tests.{and-true, contradiction}
 use Rattle.leadership.specs.Meaning.{noticeBy}
 use Rattle.leadership.specs.Scanning.{LeadershipIn}
 use Rattle.leadership.specs.declared.Leadership.{Leadership}
 
 same-option : (o q : Option ℕ) → sameOption o q ≡ true → o ≡ q
 same-option none none t = refl
-same-option none (some q) t = clash t refl
-same-option (some p) none t = clash t refl
+same-option none (some q) t = contradiction t refl
+same-option (some p) none t = contradiction t refl
 same-option (some p) (some q) t = ap some (eqb-true p q t)
 
 pub notification-kept : (e e′ : Streams) (r s : ℕ) → samePair e e′ r ≡ true → notification e r s ≡ notification e′ r s

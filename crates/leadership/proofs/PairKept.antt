@@ -13,7 +13,7 @@ use Rattle.rules.specs.Bytes.{if_then_else_, some-of}
 use Rattle.rules.specs.Frame.{Head}
 use Rattle.rules.specs.Streams.{bound, Streams, streamAt, holds, numbers, head, is, markOf, primary, heldElsewhere}
 use Rattle.rules.specs.Streams.{binds, sameOption, samePair}
-use Rattle.rules.proofs.Tests.{clash, and-true, and-false, both-true}
+use Rattle.rules.proofs.Tests.{contradiction, and-true, and-false, both-true}
 use Rattle.leadership.proofs.FirstPassing.{other, not-passing, passes-no-more, passes-alone}
 
 -- ---- the primary, by the mark
@@ -52,7 +52,7 @@ not-primary e s {r} {i} h = go (eqb i 0) (eqb-true i 0) (eqb i (markOf e r)) ref
     go : (b : Bool) → (b ≡ true → i ≡ 0) → (c : Bool) → eqb i (markOf e r) ≡ c → not b && c ≡ false → false ≡ is s (primary e r)
     go b p false q t = other-id e s h q
     go true p true q t = ap (is s) (unset-primary e r (sym (eqb-true i (markOf e r) q) ∙ p refl))
-    go false p true q t = clash refl t
+    go false p true q t = contradiction refl t
 
 -- ---- the pair
 

@@ -13,7 +13,7 @@ use Rattle.rules.specs.Bytes.{if_then_else_, every, byte, parts, number,
 use Rattle.rules.specs.Row.{Field, Row}
 use Rattle.rules.specs.Value.{isValue, fits, stripped, padded, short}
 use Rattle.rules.specs.Key.{omitted, exact, optional, kind, value1, value2, slotFormed, slotFits, slotRule}
-use Rattle.rules.specs.Key.{alongside, alongsideAll, keyFormed, keyFits, priorityRule, keyRules, shortSlot}
+use Rattle.rules.specs.Key.{pairwise, pairwiseThenZeros, keyFormed, keyFits, priorityRule, keyRules, shortSlot}
 use Rattle.rules.specs.Entry.{actionIn, parameters, hasAction, widthsOf, actionFormed, actionFits, passes, shortEntry}
 use Rattle.rules.proofs.Tests.{and-true, both-true, every-append, every-part}
 use Rattle.rules.proofs.Shortest.{first-length, others-fit, stripped-some, digits, digits-length, short-unused, value-of-short}
@@ -24,26 +24,26 @@ use Rattle.rules.proofs.Numbers.{short-value}
 -- ---- parts under a test, where each of n parts of w bytes is replaced
 
 module _ {A : Type 0} (f : List ℕ → List ℕ) (w : ℕ) (p : A → List ℕ → Bool) where
-  pub alongside-same : ((x : A) (s : List ℕ) → length s ≡ w → p x (f s) ≡ p x s) → (xs : List A) (n : ℕ) (l : List ℕ)
-      → n * w ≤ length l → alongside p xs (map f (parts n w l)) ≡ alongside p xs (parts n w l)
+  pub pairwise-same : ((x : A) (s : List ℕ) → length s ≡ w → p x (f s) ≡ p x s) → (xs : List A) (n : ℕ) (l : List ℕ)
+      → n * w ≤ length l → pairwise p xs (map f (parts n w l)) ≡ pairwise p xs (parts n w l)
   unfolding parts
-  alongside-same h [] n l fit = refl
-  alongside-same h (x ∷ xs) zero l fit = refl
-  alongside-same h (x ∷ xs) (suc n) l fit =
-      rw (h x (take w l) (first-length n w l fit), alongside-same h xs n (drop w l) (others-fit n w l fit))
+  pairwise-same h [] n l fit = refl
+  pairwise-same h (x ∷ xs) zero l fit = refl
+  pairwise-same h (x ∷ xs) (suc n) l fit =
+      rw (h x (take w l) (first-length n w l fit), pairwise-same h xs n (drop w l) (others-fit n w l fit))
 
-  pub alongside-kept : ((s : List ℕ) → allZero s ≡ true → allZero (f s) ≡ true)
+  pub pairwise-kept : ((s : List ℕ) → allZero s ≡ true → allZero (f s) ≡ true)
       → ((x : A) (s : List ℕ) → length s ≡ w → p x s ≡ true → p x (f s) ≡ true) → (xs : List A) (n : ℕ) (l : List ℕ)
-      → n * w ≤ length l → alongsideAll p xs (parts n w l) ≡ true → alongsideAll p xs (map f (parts n w l)) ≡ true
+      → n * w ≤ length l → pairwiseThenZeros p xs (parts n w l) ≡ true → pairwiseThenZeros p xs (map f (parts n w l)) ≡ true
   unfolding parts
-  alongside-kept z h [] zero l fit a = refl
-  alongside-kept z h [] (suc n) l fit a =
+  pairwise-kept z h [] zero l fit a = refl
+  pairwise-kept z h [] (suc n) l fit a =
       let b = and-true (allZero (take w l)) (every allZero (parts n w (drop w l))) a in
-      both-true (z (take w l) (b .0)) (alongside-kept z h [] n (drop w l) (others-fit n w l fit) (b .1))
-  alongside-kept z h (x ∷ xs) zero l fit a = a
-  alongside-kept z h (x ∷ xs) (suc n) l fit a =
-      let b = and-true (p x (take w l)) (alongsideAll p xs (parts n w (drop w l))) a in
-      both-true (h x (take w l) (first-length n w l fit) (b .0)) (alongside-kept z h xs n (drop w l) (others-fit n w l fit) (b .1))
+      both-true (z (take w l) (b .0)) (pairwise-kept z h [] n (drop w l) (others-fit n w l fit) (b .1))
+  pairwise-kept z h (x ∷ xs) zero l fit a = a
+  pairwise-kept z h (x ∷ xs) (suc n) l fit a =
+      let b = and-true (p x (take w l)) (pairwiseThenZeros p xs (parts n w (drop w l))) a in
+      both-true (h x (take w l) (first-length n w l fit) (b .0)) (pairwise-kept z h xs n (drop w l) (others-fit n w l fit) (b .1))
 
 -- ---- values
 
@@ -128,18 +128,18 @@ module _ (row : Row) (e : List ℕ) (l : length e ≡ 220) where
   key-formed : keyFormed row e ≡ true → keyFormed row (shortEntry e) ≡ true
   unfolding keyFormed
   key-formed a =
-      rw (slots-of-entry e l) (alongside-kept shortSlot 35 slotFormed zero-slot formed-kept (row .fields) 4 (drop 8 e) slots-there a)
+      rw (slots-of-entry e l) (pairwise-kept shortSlot 35 slotFormed zero-slot formed-kept (row .fields) 4 (drop 8 e) slots-there a)
 
   key-fits : keyFits row (shortEntry e) ≡ keyFits row e
   unfolding keyFits
-  key-fits = rw (slots-of-entry e l) (alongside-same shortSlot 35 slotFits slot-fits (row .fields) 4 (drop 8 e) slots-there)
+  key-fits = rw (slots-of-entry e l) (pairwise-same shortSlot 35 slotFits slot-fits (row .fields) 4 (drop 8 e) slots-there)
 
   key-rules : keyRules row (shortEntry e) ≡ keyRules row e
   unfolding keyRules
   key-rules =
       ap₂ _&&_
-      (ap (alongside slotRule (row .fields)) (slots-of-entry e l)
-      ∙ alongside-same shortSlot 35 slotRule slot-rule (row .fields) 4 (drop 8 e) slots-there)
+      (ap (pairwise slotRule (row .fields)) (slots-of-entry e l)
+      ∙ pairwise-same shortSlot 35 slotRule slot-rule (row .fields) 4 (drop 8 e) slots-there)
       (ap (priorityRule (row .fields)) (priority-of-short e l))
 
   action-same : actionIn (shortEntry e) ≡ actionIn e
@@ -149,16 +149,16 @@ module _ (row : Row) (e : List ℕ) (l : length e ≡ 220) where
   unfolding actionFormed
   action-formed a =
       let ws : List ℕ = widthsOf (actionIn e) (row .actions) in
-      let g = and-true (hasAction (actionIn e) (row .actions)) (alongsideAll (λ (width : ℕ). isValue) ws (parameters e)) a in
+      let g = and-true (hasAction (actionIn e) (row .actions)) (pairwiseThenZeros (λ (width : ℕ). isValue) ws (parameters e)) a in
       rw (action-same, parameters-of-short e l)
       (both-true (g .0)
-      (alongside-kept short 17 (λ (width : ℕ). isValue) zeros-kept (λ width. value-kept) ws 4 (drop 152 e) (parameters-fit e l) (g .1)))
+      (pairwise-kept short 17 (λ (width : ℕ). isValue) zeros-kept (λ width. value-kept) ws 4 (drop 152 e) (parameters-fit e l) (g .1)))
 
   action-fits : actionFits row (shortEntry e) ≡ actionFits row e
   unfolding actionFits
   action-fits =
       rw (action-same, parameters-of-short e l)
-      (alongside-same short 17 fits (λ width v h. fits-same width v) (widthsOf (actionIn e) (row .actions)) 4 (drop 152 e) (parameters-fit e l))
+      (pairwise-same short 17 fits (λ width v h. fits-same width v) (widthsOf (actionIn e) (row .actions)) 4 (drop 152 e) (parameters-fit e l))
 
   pub short-passes : passes row e ≡ true → passes row (shortEntry e) ≡ true
   unfolding passes

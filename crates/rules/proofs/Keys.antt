@@ -22,7 +22,7 @@ use Rattle.rules.specs.Agreement.{commandsOf, historyOf}
 use Rattle.rules.specs.Presence.{In, Ordered}
 use Rattle.rules.specs.Sound.{Stored, EveryStored, Distinct, SoundTables, Sound}
 use Rattle.rules.specs.Keys.{SameKey, Compared, KeysAsNumbers}
-use Rattle.rules.proofs.Tests.{clash, fails, and-true, and-false, same-true, eq-same, every-split, every-take}
+use Rattle.rules.proofs.Tests.{contradiction, fails, and-true, and-false, same-true, eq-same, every-split, every-take}
 use Rattle.rules.proofs.Orders.{first-clear, first-avoids, first-passes, first-more}
 use Rattle.rules.proofs.Formed.{Whole, Formed, call-formed}
 use Rattle.rules.proofs.Shortest.{key-of-key, slots-of-key, priority-of-key, formed-of-key, table-of-key, table-of-short-key, key-of-short}
@@ -124,7 +124,7 @@ module _ (rows : List Row) (t : Tables) (ok : SoundTables rows t) (bytes : AllSt
       apart y j n =
           let b : allBytes x ≡ true = in-every allBytes (t .entries) x i bytes in
           let h = each-key x (omega (arith, whole x i .size)) b (formed x i) y (inside y (inr j)) .1 (sym n) in
-          clash (in-some (hasKey (keyOf x)) es y j (rw (stored-key x (whole x i)) h)) (d .0)
+          contradiction (in-some (hasKey (keyOf x)) es y j (rw (stored-key x (whole x i)) h)) (d .0)
 
 -- ---- 20 and 21
 
@@ -186,7 +186,7 @@ decided rows role t u n = go (eqb (first early) 0) refl
         (and-true (keyFormed row e) (isDelete (u .type) || actionFormed row e) f .0, parted ∙ (rw q))
     go false q =
         let w : first (early ++ rest) ≡ first early = parted ∙ (rw q) in
-        clash (ap (between 15 19) w ∙ first-passes (between 15 19) early refl q) n
+        contradiction (ap (between 15 19) w ∙ first-passes (between 15 19) early refl q) n
 
 -- ---- an update of 220 bytes
 
@@ -229,7 +229,7 @@ compared p role u l b ok bytes = record {
     twenty-one n =
         let d = decided rows role t u n in
         let r = late-21 (isInsert (u .type)) (stored (shortKey e) t) _ _ in (
-          λ q. let h = r .0 (sym (d .1) ∙ q) in (eqb-false (u .type) 1 (h .0), λ k. clash (some (d .0) .1 k) (h .1)),
+          λ q. let h = r .0 (sym (d .1) ∙ q) in (eqb-false (u .type) 1 (h .0), λ k. contradiction (some (d .0) .1 k) (h .1)),
           λ h. d .1 ∙ r .1 (ne-eqb (u .type) 1 (h .0), fails (stored (shortKey e) t) (λ k. h .1 (some (d .0) .0 k))),
         )
 

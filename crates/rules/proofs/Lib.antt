@@ -7,7 +7,7 @@ pub mod RollbackCases
 pub mod DeleteCases
 pub mod Cases
 pub mod Table
-pub mod Listed
+pub mod UnlistedReasons
 pub mod Tests
 pub mod Lists
 pub mod Orders
@@ -22,7 +22,7 @@ pub mod Sound
 pub mod Refused
 pub mod Sizes
 pub mod Effects
-pub mod Pairs
+pub mod PairsAndEffects
 pub mod LookBack
 pub mod Deletes
 pub mod Replies

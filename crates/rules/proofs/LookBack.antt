@@ -31,7 +31,7 @@ use Rattle.rules.proofs.Tests.{same-sym}
 use Rattle.rules.proofs.Rollback.{eqb-sym, rollback}
 use Rattle.rules.proofs.Orders.{first-avoids}
 use Rattle.rules.proofs.Effects.{takeEffect, present-snoc}
-use Rattle.rules.proofs.Pairs.{seen-at, pair-zero, update-pair}
+use Rattle.rules.proofs.PairsAndEffects.{seen-at, pair-zero, update-pair}
 
 -- ---- updates
 

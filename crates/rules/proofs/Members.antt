@@ -7,7 +7,7 @@ use mathlib.Core.Logic.{_⊎_, inl, inr, ⊎-elim, _↔_}
 use mathlib.Core.List.{List, [], _∷_, _++_, map}
 use Rattle.rules.specs.Bytes.{if_then_else_, keep, every, some-of}
 use Rattle.rules.specs.Presence.{In, Ordered}
-use Rattle.rules.proofs.Tests.{clash, or-false, and-true, some-append}
+use Rattle.rules.proofs.Tests.{contradiction, or-false, and-true, some-append}
 
 -- ---- tests along a list
 
@@ -18,7 +18,7 @@ or-true false b h = h
 -- where the second of two fails, the first holds
 pub or-first : (a b : Bool) → a || b ≡ true → b ≡ false → a ≡ true
 or-first true b h n = refl
-or-first false b h n = clash h n
+or-first false b h n = contradiction h n
 
 module _ {A : Type 0} (p : A → Bool) where
   pub some-back : (s r : List A) → some-of p r ≡ true → some-of p (s ++ r) ≡ true
@@ -39,13 +39,13 @@ module _ {A : Type 0} (p : A → Bool) where
 -- q and none p, and after the other some pass p and none q.
 pub crossed : {A : Type 0} (p q : A → Bool) (s : List A) (x : A) (r u : List A) (y : A) (v : List A) → s ++ x ∷ r ≡ u ++ y ∷ v
     → some-of p r ≡ false → some-of q r ≡ true → some-of q v ≡ false → some-of p v ≡ true → ⊥
-crossed p q [] x r [] y v e a b c d = let h : r ≡ v = cc in clash d (rw (← h) a)
+crossed p q [] x r [] y v e a b c d = let h : r ≡ v = cc in contradiction d (rw (← h) a)
 crossed p q [] x r (z ∷ u) y v e a b c d =
     let h : r ≡ u ++ y ∷ v = cc in
-    clash (some-back p u (y ∷ v) (or-true (p y) _ d)) (rw (← h) a)
+    contradiction (some-back p u (y ∷ v) (or-true (p y) _ d)) (rw (← h) a)
 crossed p q (z ∷ s) x r [] y v e a b c d =
     let h : s ++ x ∷ r ≡ v = cc in
-    clash (some-back q s (x ∷ r) (or-true (q x) _ b)) (rw h c)
+    contradiction (some-back q s (x ∷ r) (or-true (q x) _ b)) (rw h c)
 crossed p q (z ∷ s) x r (w ∷ u) y v e a b c d = crossed p q s x r u y v (cc) a b c d
 
 -- ---- members

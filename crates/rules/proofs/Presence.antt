@@ -20,7 +20,7 @@ use Rattle.rules.specs.LookBack.{Effect, inserted, modified, deleted, cl
 use Rattle.rules.specs.LookBack.{reasonAt, succeeds, withUpdate, withUpdates, rollsBack, withBatch, effectsWith, withCall, lookBack}
 use Rattle.rules.specs.Agreement.{commandsOf, historyOf}
 use Rattle.rules.specs.Presence.{insertsKey, setsKey, setsEntry, removesKey, Since, Present, Before, In, Ordered, Describes}
-use Rattle.rules.proofs.Tests.{clash, and-false, same-true, same-refl, same-sym, eq-same}
+use Rattle.rules.proofs.Tests.{contradiction, and-false, same-true, same-refl, same-sym, eq-same}
 use Rattle.rules.proofs.Orders.{first-clear}
 use Rattle.rules.proofs.Formed.{Whole, Formed, EveryFormed, calls-formed}
 use Rattle.rules.proofs.Shortest.{key-of-short}
@@ -172,7 +172,7 @@ present-less E f e p = go (since-snoc E f (p .setting)) (since-snoc E f (p .inse
         → (insertsKey (keyOf e) f ≡ true) ⊎ ((removesKey (keyOf e) f ≡ false) × Stays E (keyOf e)) → GivesOrLeaves E f e
     go (inl s) (inl i) = inl (s, inl i)
     go (inl s) (inr i) = inl (s, inr (i .1))
-    go (inr s) (inl i) = clash (inserts-sets (keyOf e) f i) (s .0)
+    go (inr s) (inl i) = contradiction (inserts-sets (keyOf e) f i) (s .0)
     go (inr s) (inr i) = inr (s .0, i .0, record { inserting = i .1; setting = s .1 })
 
 -- ---- one effect more keeps the description

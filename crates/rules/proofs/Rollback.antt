@@ -13,7 +13,7 @@ use Rattle.rules.specs.Frame.{Update}
 use Rattle.rules.specs.Row.{Row}
 use Rattle.rules.specs.Update.{Tables, judge, apply, Batch, eachAlone, oneFurther, failure, rolledBack, unlessFailed, allOrNone, batch}
 use Rattle.rules.specs.Rollback.{Rollback}
-use Rattle.rules.proofs.Tests.{clash, and-true}
+use Rattle.rules.proofs.Tests.{contradiction, and-true}
 
 pub eqb-sym : (a b : ℕ) → eqb a b ≡ eqb b a
 eqb-sym a b = go (eqb b a) refl
@@ -68,7 +68,7 @@ module _ (rows : List Row) (role : ℕ) where
       where
         go : (o : Option (ℕ × ℕ)) → Told o t us → unlessFailed o t us (eachAlone rows role t us) ≡ eachAlone rows role t us
         go none h = refl
-        go (some f) h = clash e (h .0)
+        go (some f) h = contradiction e (h .0)
 
     heads : (us : List Update) → every (eqb 0) (allOrNone rows role t us .reasons) ≡ every (eqb 0) (eachAlone rows role t us .reasons)
     unfolding allOrNone
@@ -85,7 +85,7 @@ module _ (rows : List Row) (role : ℕ) where
       where
         go : (o : Option (ℕ × ℕ)) → Told o t us → every (eqb 0) (unlessFailed o t us (eachAlone rows role t us) .reasons) ≡ false
             → unlessFailed o t us (eachAlone rows role t us) .tables ≡ t
-        go none h e = clash h e
+        go none h e = contradiction h e
         go (some f) h e = refl
 
 -- one update more at the end, for a loop over the updates

@@ -136,7 +136,7 @@ pub record Elections : Type 0 where
       ∷ [])
   -- a closing backup notifies nobody
   pub backup-closes : Each two ((close! 2, ok) ∷ [])
-  -- Roles are apart: in another role the same id is no clash, and nobody there is notified that the primary of role 0 closed.
+  -- Roles are apart: in another role the same id is not in use, and nobody there is notified that the primary of role 0 closed.
   pub roles : InTurn (two ++ (open! 3 ∷ []))
       ((arbitrate! 3 (by 1 5), bytes 0 0 1 (notice 3 1 0 5 ∷ [])) ∷ (close! 1, bytes 0 0 1 (notice 2 0 5 5 ∷ [])) ∷ [])
   -- A refused ARBITRATE closes the stream. 5 and 6: another ARBITRATE of it is 4, and it may be opened again.

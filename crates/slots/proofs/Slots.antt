@@ -12,7 +12,7 @@ use Rattle.rules.specs.Bytes.{allZero}
 use Rattle.rules.specs.Row.{Field}
 use Rattle.rules.specs.Value.{value, isValue, fits}
 use Rattle.rules.specs.Key.{kind, value1, value2, slotFormed, slotFits, slotRule, prefixOnly, bitsWithin, lpmRule, ternaryRule, rangeRule}
-use Rattle.rules.proofs.Tests.{clash}
+use Rattle.rules.proofs.Tests.{contradiction}
 
 -- ---- the rules of the kinds, over numbers
 
@@ -54,7 +54,7 @@ not-zeros (b ∷ bs) n = rw (ne-eqb 0 b (λ e. n (sym e)))
 pub zeros-kind : (s : List ℕ) → allZero s ≡ true → kind s ≡ 0
 zeros-kind s z = elim (ℕ-discrete (kind s) 0) [
   | yes o ↦ o
-  | no n ↦ clash z (not-zeros s n)
+  | no n ↦ contradiction z (not-zeros s n)
 ]
 
 module _ (f : Field) (s : List ℕ) where

@@ -4,7 +4,7 @@ use mathlib.Core.Bool.{Bool}
 use denote.Ref.{now}
 use borrow.Author.Needs.{needs}
 use Rattle.rules.specs.Bytes.{parts}
-use Rattle.rules.specs.Key.{slotRule, alongside}
+use Rattle.rules.specs.Key.{slotRule, pairwise}
 use Rattle.rows.specs.Meaning.{rowOf}
 use Rattle.checks.proofs.LentKey.{slots-rule}
 use Rattle.checks.proofs.key_rules.Statement.{statement}
@@ -19,7 +19,7 @@ priority-rule-requires c κs = search needs
 -- what the rule of the slots came out as
 ruled : (c : tie.After-slots-pass) {b : Bool} → c .slots-pass .result ≡ b →
     let a = c .before .before .before .args in
-    alongside slotRule (rowOf (now (a .row)) .fields) (parts 4 35 (now (a .slots))) ≡ b
+    pairwise slotRule (rowOf (now (a .row)) .fields) (parts 4 35 (now (a .slots))) ≡ b
 ruled c e =
     let a = c .before .before .before .args in
     sym (c .slots-pass .ensures ∙ slots-rule (rowOf (now (a .row)) .fields) (parts 4 35 (now (a .slots)))) ∙ e

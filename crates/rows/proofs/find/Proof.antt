@@ -9,7 +9,7 @@ use borrow.Author.Needs.{needs}
 use borrow.Author.Tests.{eq-eqb, ne-eqb}
 use Rattle.rules.specs.Bytes.{if_then_else_, int}
 use Rattle.rules.specs.Row as rules
-use Rattle.rules.proofs.Tests.{clash}
+use Rattle.rules.proofs.Tests.{contradiction}
 use Rattle.rows.specs.Meaning.{rowsIn}
 use Rattle.rows.proofs.RowsWalk.{rows-none, known-next, row-next}
 use Rattle.rows.proofs.find.Statement.{statement}
@@ -42,7 +42,7 @@ loop-holds : tie.Need-loop-holds Inv-loop μ-loop
 loop-holds c = (refl, refl)
 
 returns : tie.Need-returns Inv-loop μ-loop
-returns c = (ended (c .before .before) (omega arith), (λ e. clash e refl, omega arith))
+returns c = (ended (c .before .before) (omega arith), (λ e. contradiction e refl, omega arith))
 
 mul-at : tie.Need-mul-at Inv-loop μ-loop
 mul-at c = search needs
@@ -81,7 +81,7 @@ loop-again c =
     (rw miss at known, rw miss at row)
 
 returns-3 : tie.Need-returns-3 Inv-loop μ-loop
-returns-3 c = (ended (c .before) (omega arith), (λ e. clash e refl, omega arith))
+returns-3 c = (ended (c .before) (omega arith), (λ e. contradiction e refl, omega arith))
 
 pub find-spec : {M : Type 1} → statement M
 find-spec =

@@ -7,7 +7,7 @@ use lib.Dec.{eqb}
 use borrow.Author.Needs.{needs}
 use Rattle.rules.specs.Bytes.{if_then_else_}
 use Rattle.rules.specs.Streams.{isOpen, is, primary}
-use Rattle.rules.proofs.Tests.{clash}
+use Rattle.rules.proofs.Tests.{contradiction}
 use Rattle.election.specs.declared.Binding.{Binding}
 use Rattle.election.specs.Meaning.{idOf, bindingOf, roleOr}
 use Rattle.leadership.specs.Meaning.{numbered}
@@ -53,7 +53,7 @@ returns-3 c = λ e r i w.
     let a = b .before .before .before .args in
     let p = b .enum-told3 .given .1 in
     let x = ap bindingOf (sym p) ∙ w .own in
-    let h = within e (a .stream) (w .streams) (λ q. clash (ap isOpen (sym x)) (ap isOpen (sym q))) in
+    let h = within e (a .stream) (w .streams) (λ q. contradiction (ap isOpen (sym x)) (ap isOpen (sym q))) in
     let q = w .role ∙ ap (λ (y : Binding). roleOr r (bindingOf y)) p in
     rw (p, ← q, ← w .holder, ← w .mark)
     (c .and .ensures ∙ ap (λ (t : Bool). t && eqb (a .self .holder) (a .stream)) (n .is-set .ensures)
