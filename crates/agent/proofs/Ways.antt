@@ -38,6 +38,43 @@ lengths room space e =
     let s = and-true (leb 57_344 space) (leb 56_320 room) e in
     (leb-true 57_344 space (s .0), leb-true 56_320 room (s .1))
 
+-- ---- what the commands of a group leave, over any store
+
+module _ (a : Agent) (store d out : List ℕ) where
+  -- a stream event
+  pub event-handled : (x : rules.StreamEvent) (r : Outcome) → outcomeOf r ≡ event (a .device .id) (streamsOf (a .streams)) x
+      → out ≡ splice d 0 (answerBytes (eventAnswer (outcomeOf r)))
+      → Handles (memory a store) (onStreams x) d (result (withStreams a (r .streams)) (r .reason) store out)
+  unfolding next nextControl nextTables answer
+  event-handled x r h o t k =
+      store-stays a (onStreams x) store d out (λ z. let w : _≡_ {A = ℕ} 0 1 = cc in omega arith) t (eventAnswer (outcomeOf r))
+      (ap eventAnswer (sym h))
+      (record {
+        control = ap (λ o. record { device = a .device .id; streams = o .after; rows = controlOf a .rows }) h;
+        tables = k .holds;
+      }) refl o
+
+  -- a pipeline command: refused, and accepted
+  module _ (x : rules.PipelineCommand) (reason : ℕ) (h : Refuses (controlOf a) x reason) (o : out ≡ splice d 0 (answerBytes (plain reason))) where
+    pub pipeline-refused-handled : (reason ≡ 0 → ⊥) → Handles (memory a store) (onPipeline x) d (result a reason store out)
+    pipeline-refused-handled n =
+        refused a (onPipeline x) store d out (λ z. let w : _≡_ {A = ℕ} 0 1 = cc in omega arith) reason
+        (λ t. pipeline-refused (atTables a t) x (h t) n) o
+
+    pub pipeline-handled : reason ≡ 0 → (r : Configured) → CarriesOut x r
+        → Handles (memory a store) (onPipeline x) d (result (withConfiguration a (r .configuration) (r .tables)) 0 store out)
+    unfolding next nextControl nextTables answer
+    pipeline-handled z r g t k =
+        let s : State = atTables a t in
+        let q : pipelineCommand s x .reason ≡ 0 = h t ∙ z in
+        store-stays a (onPipeline x) store d out (λ z. let w : _≡_ {A = ℕ} 0 1 = cc in omega arith) t (plain 0) (ap plain q)
+        (record {
+          control = ap (λ rows. record { device = a .device .id; streams = streamsOf (a .streams); rows = rows }) (g .rows s q);
+          tables = g .tables s q store;
+        }) refl (o ∙ ap (λ (n : ℕ). splice d 0 (answerBytes (plain n))) z)
+
+-- ---- what a call leaves
+
 module _ (a : Agent) (frame store d : List ℕ) where
   abbrev asks : Command
   asks = commandOf (length store) (record { frame = frame; buffer = length d })
@@ -75,37 +112,3 @@ module _ (a : Agent) (frame store d : List ℕ) where
         → Contract Flat (memory a store) (input frame d) (result a 1 store out)
     unfolding next nextControl nextTables answer
     malformed-met out e o = met e (refused a malformed store d out (λ z. let w : _≡_ {A = ℕ} 0 1 = cc in omega arith) 1 (λ t. (refl, refl)) o)
-
-    -- a stream event
-    pub event-met : (x : rules.StreamEvent) (out : List ℕ) (r : Outcome) → onStreams x ≡ readFrame frame
-        → outcomeOf r ≡ event (a .device .id) (streamsOf (a .streams)) x → out ≡ splice d 0 (answerBytes (eventAnswer (outcomeOf r)))
-        → Contract Flat (memory a store) (input frame d) (result (withStreams a (r .streams)) (r .reason) store out)
-    unfolding next nextControl nextTables answer
-    event-met x out r e h o =
-        met e (λ t k. store-stays a (onStreams x) store d out (λ z. let w : _≡_ {A = ℕ} 0 1 = cc in omega arith) t (eventAnswer (outcomeOf r))
-        (ap eventAnswer (sym h))
-        (record {
-          control = ap (λ o. record { device = a .device .id; streams = o .after; rows = controlOf a .rows }) h;
-          tables = k .holds;
-        }) refl o)
-
-    -- a pipeline command: refused, and accepted
-    module _ (x : rules.PipelineCommand) (out : List ℕ) (reason : ℕ) (e : onPipeline x ≡ readFrame frame) (h : Refuses (controlOf a) x reason)
-        (o : out ≡ splice d 0 (answerBytes (plain reason))) where
-      pub pipeline-refused-met : (reason ≡ 0 → ⊥) → Contract Flat (memory a store) (input frame d) (result a reason store out)
-      pipeline-refused-met n =
-          met e (refused a (onPipeline x) store d out (λ z. let w : _≡_ {A = ℕ} 0 1 = cc in omega arith) reason
-          (λ t. pipeline-refused (atTables a t) x (h t) n) o)
-
-      pub pipeline-met : reason ≡ 0 → (r : Configured) → CarriesOut x r
-          → Contract Flat (memory a store) (input frame d) (result (withConfiguration a (r .configuration) (r .tables)) 0 store out)
-      unfolding next nextControl nextTables answer
-      pipeline-met z r g =
-          met e (λ t k.
-          let s : State = atTables a t in
-          let q : pipelineCommand s x .reason ≡ 0 = h t ∙ z in
-          store-stays a (onPipeline x) store d out (λ z. let w : _≡_ {A = ℕ} 0 1 = cc in omega arith) t (plain 0) (ap plain q)
-          (record {
-            control = ap (λ rows. record { device = a .device .id; streams = streamsOf (a .streams); rows = rows }) (g .rows s q);
-            tables = g .tables s q store;
-          }) refl (o ∙ ap (λ (n : ℕ). splice d 0 (answerBytes (plain n))) z))

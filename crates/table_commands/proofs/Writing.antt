@@ -1,27 +1,33 @@
 -- A WRITE: its order, what its batch leaves, and its answer. Assumes nothing.
-use Prim.Native.Nat.{ℕ}
+use Prim.Native.Nat.{ℕ, _-_, _≤_}
 use native.Mathlib.Omega.{arith}
-use mathlib.Core.Path.{_≡_, refl, sym, ap, _∙_}
+use mathlib.Core.Path.{_≡_, refl, sym, ap, _∙_, subst}
 use mathlib.Core.Bool.{Bool, true, false, not, true≢false}
 use mathlib.Core.List.{List, [], _∷_, _++_, map}
 use lib.Dec.{eqb, ltb}
+use lib.ListN.{length, take, drop, length-map}
+use borrow.Rule.Slice.PartMut.{putMid}
 use borrow.Author.Tests.{eq-eqb}
-use Rattle.rules.specs.Bytes.{if_then_else_, every}
-use Rattle.rules.specs.Reason.{first}
-use Rattle.rules.specs.Frame.{Head, Update, WRITE, Command, onTables}
+use Rattle.rules.specs.Bytes.{if_then_else_, every, bytesOf, parts, concat}
+use Rattle.rules.specs.Reason.{first, codeOf}
+use Rattle.rules.specs.Frame.{Head, Update, WRITE, Command, onTables, updateSize, updateOf}
 use Rattle.rules.specs.Streams as streams
 use Rattle.rules.specs.Answer.{Answer, answerBytes}
 use Rattle.rules.specs.Call.{unconfigured, writeReason, refusal, nextControl, nextTables, next, batchOf, pairOf, headReason, answer}
 use Rattle.rules.specs.Update.{Batch}
+use Rattle.rules.proofs.Formed.{parts-count}
+use Rattle.rules.proofs.Lists.{rest-all}
+use Rattle.rules.proofs.Sizes.{reasons-count}
 use Rattle.buffers.specs.Splice.{splice}
 use Rattle.batches.specs.declared.Written.{Written}
-use Rattle.batches.specs.Batch.{BatchApplied}
-use Rattle.answers.proofs.AnswerBytes.{replies, fills}
+use Rattle.store.specs.Store.{tablesIn}
+use Rattle.batches.specs.Batch.{updatesIn, ruled, BatchApplied, StoreLeft, Pairs}
+use Rattle.answers.proofs.AnswerBytes.{replies, fills, records-then-head}
 use Rattle.calls.specs.Contract.{Correct}
 use Rattle.memory.specs.declared.Agent.{Agent}
 use Rattle.memory.specs.Layout.{controlOf, Flat, memory, result}
-use Rattle.memory.specs.Handles.{withTables}
-use Rattle.memory.proofs.Handled.{flat}
+use Rattle.memory.specs.Handles.{Handles, withTables}
+use Rattle.memory.proofs.Handled.{flat, flat-handles}
 
 module _ (a : Agent) (h : Head) (atomicity : ℕ) where
   pub write-order : {here primary empty : Bool} {r : ℕ} → here ≡ eqb (h .device) (a .device .id)
@@ -61,3 +67,31 @@ module _ (a : Agent) (h : Head) (atomicity : ℕ) where
           beyond = b .left .beyond;
           untouched = λ z. absurd (true≢false (sym (eq-eqb (writeReason (controlOf a) h atomicity) 0 e) ∙ z));
         }
+
+  -- one pair for each update
+  pairs-count : (n : ℕ) (l store : List ℕ) → n ≡ length (map pairOf (batched (updatesIn n l) store .reasons))
+  pairs-count n l store =
+      sym (length-map (batched (updatesIn n l) store .reasons) pairOf
+      ∙ reasons-count atomicity (controlOf a .rows) (h .role) (tablesIn (a .tables) store) (updatesIn n l)
+      ∙ length-map (parts n updateSize l) updateOf ∙ parts-count n updateSize l)
+
+  -- a batch was taken, its pairs from byte 4 on, and then the head was written
+  pub batch-written : (n : ℕ) (f store store′ d p out : List ℕ) (reason : ℕ) (w : Written) → 4 ≤ length d
+      → writeReason (controlOf a) h atomicity ≡ 0
+      → StoreLeft (ruled atomicity (controlOf a .rows) (h .role) n (take (length f - 29) (drop 29 f))) (a .tables) store store′ w
+      → Pairs (ruled atomicity (controlOf a .rows) (h .role) n (take (length f - 29) (drop 29 f))) (a .tables) store
+      (take (length d - 4) (drop 4 d)) p
+      → length p ≡ length (take (length d - 4) (drop 4 d)) → reason ≡ (if w .failed then 23 else 0)
+      → out ≡ splice (putMid 4 (length d - 4) d p) 0 (reason ∷ codeOf reason ∷ bytesOf 2 n)
+      → Handles (memory a store) (onTables (WRITE h atomicity (updatesIn n (drop 29 f)))) d (result (withTables a (w .tables)) reason store′ out)
+  batch-written n f store store′ d p out reason w room e left pairs same told o =
+      flat-handles a (onTables (WRITE h atomicity (updatesIn n (drop 29 f)))) store d (λ k.
+      let lent : take (length f - 29) (drop 29 f) ≡ drop 29 f = rest-all 29 f in
+      was-written (updatesIn n (drop 29 f)) store store′ d out reason w e
+      (subst (λ (l : List ℕ). BatchApplied (batched (updatesIn n l) store) store store′ w) lent (left (k .tables .distinct)))
+      told
+      (records-then-head reason n (map pairOf (batched (updatesIn n (drop 29 f)) store .reasons)) d p out room
+      (pairs-count n (drop 29 f) store) same
+      (pairs (k .tables .distinct)
+      ∙ ap (λ (l : List ℕ). splice (take (length d - 4) (drop 4 d)) 0 (concat (map pairOf (batched (updatesIn n l) store .reasons)))) lent)
+      o))

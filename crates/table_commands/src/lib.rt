@@ -73,9 +73,8 @@ fn write(
         (onTables (tableRead (TableCommand.Write head atomicity n) (now (frame .entry)))) (now (answer .entry))
         (result (withTables agent (r .tables)) (r .reason) (now (store .exit)) (now (answer .exit))) ⌝ }
 {
-    let streams = agent.streams;
     let tables = agent.tables;
-    let primary = streams.by_primary(head.role, head.id);
+    let primary = agent.streams.by_primary(head.role, head.id);
     let here = head.device == agent.device.id;
     let unconfigured = agent.configuration.rows.is_empty();
     let refused = write_reason(here, head.role, primary, unconfigured, atomicity);

@@ -10,9 +10,9 @@ use Rattle.rules.specs.Frame.{readFrame}
 use Rattle.rules.specs.Call.{longEnough}
 use Rattle.frames.specs.declared.Command.{Command}
 use Rattle.frames.specs.declared.Frame.{Frame}
-use Rattle.frames.specs.Meaning.{eventRead, pipelineRead, commandRead, frameRead, CommandThere, FrameThere}
+use Rattle.frames.specs.Meaning.{commandRead, frameRead, CommandThere, FrameThere}
 use Rattle.answers.proofs.AnswerBytes.{head-alone}
-use Rattle.agent.proofs.Ways.{lengths, short-met, met, malformed-met, event-met, pipeline-refused-met, pipeline-met}
+use Rattle.agent.proofs.Ways.{lengths, short-met, met, malformed-met}
 use borrow.Author.Needs.{needs}
 use Rattle.agent.proofs.call.Statement.{statement}
 use Rattle.agent.proofs.call.Tie as tie
@@ -67,11 +67,8 @@ returns-2 c =
 enum-known-command-2 : tie.Need-enum-known-command-2
 enum-known-command-2 c = search needs
 
-carry-out-requires : tie.Need-carry-out-requires
-carry-out-requires c κs = search needs
-
-respond-requires : tie.Need-respond-requires
-respond-requires c κs = omega (arith, sizes (tested (c .before .before .before .before .before .before)) .0)
+on-streams-requires : tie.Need-on-streams-requires
+on-streams-requires c κs = omega (arith, sizes (tested (c .before .before .before .before .before)) .0)
 
 enum-known-command-3 : tie.Need-enum-known-command-3
 enum-known-command-3 c = search needs
@@ -94,83 +91,60 @@ of m e = sym (ap (λ (x : Command). commandRead x (now (start (tested m) .args .
 there-of : (m : tie.After-command) {x : Command} → m .command .given .0 .0 ≡ x → CommandThere x (now (start (tested m) .args .frame))
 there-of m e = subst (λ (x : Command). CommandThere x (now (start (tested m) .args .frame))) e (there m)
 
-refusal-requires : tie.Need-refusal-requires
-refusal-requires c κs = there-of (c .before .before .before .before) (c .before .command3 .given .1)
-
-write-head-requires-2 : tie.Need-write-head-requires-2
-write-head-requires-2 c κs = omega (arith, sizes (tested (c .before .before .before .before .before .before)) .0)
-
-same-length-2 : tie.Need-same-length-2
-same-length-2 c = search needs
-
-returns-3 : tie.Need-returns-3
-returns-3 c =
-    let w = c .before .before .before in
-    let r = w .before .before in
-    let x = r .before .before in
+on-pipeline-requires : tie.Need-on-pipeline-requires
+on-pipeline-requires c κs =
+    let x = c .before .before in
     let m = x .before .before .before in
-    let a = start (tested m) .args in
-    pipeline-refused-met (a .agent) (now (a .frame)) (now (a .store)) (now (a .answer)) (long (tested m))
-    (pipelineRead (x .command3 .given .0 .0) (now (a .frame))) (w .write-head2 .last .1 .1 .0) (r .refusal .result) (of m (x .command3 .given .1))
-    (r .refusal .ensures) (head-alone _ (now (a .answer)) _ (w .write-head2 .ensures)) (c .if2 .taken)
-
-carry-out-requires-2 : tie.Need-carry-out-requires-2
-carry-out-requires-2 c κs =
-    let x = c .before .before .before .before .before .before .before in
-    there-of (x .before .before .before) (x .command3 .given .1)
+    (there-of m (x .command3 .given .1), omega (arith, sizes (tested m) .0))
 
 enum-known-command-4 : tie.Need-enum-known-command-4
 enum-known-command-4 c = search needs
 
-carry-out-requires-3 : tie.Need-carry-out-requires-3
-carry-out-requires-3 c κs =
+on-tables-requires : tie.Need-on-tables-requires
+on-tables-requires c κs =
     let x = c .before .before .before in
     let m = x .before .before .before in
     let z = sizes (tested m) in
     (there-of m (x .command4 .given .1), z .1, z .0)
+
+same-length-2 : tie.Need-same-length-2
+same-length-2 c = search needs
+
+-- what a group leaves is what the call leaves
+returns-3 : tie.Need-returns-3
+returns-3 c =
+    let o = c .before .before in
+    let x = o .before .before .before in
+    let m = x .before .before .before in
+    let a = start (tested m) .args in
+    met (a .agent) (now (a .frame)) (now (a .store)) (now (a .answer)) (long (tested m)) (of m (x .command2 .given .1))
+    (o .on-streams .ensures (now (a .store)))
 
 same-length-3 : tie.Need-same-length-3
 same-length-3 c = search needs
 
 returns-4 : tie.Need-returns-4
 returns-4 c =
-    let r = c .before .before .before .respond in
-    let o = c .before .before .before .before .before in
-    let x = o .before .before in
+    let o = c .before .before in
+    let x = o .before .before .before in
     let m = x .before .before .before in
     let a = start (tested m) .args in
-    event-met (a .agent) (now (a .frame)) (now (a .store)) (now (a .answer)) (long (tested m)) (eventRead (x .command2 .given .0 .0)) (r .last .1 .0)
-    (o .carry-out .result) (of m (x .command2 .given .1)) (o .carry-out .ensures) (r .ensures)
+    met (a .agent) (now (a .frame)) (now (a .store)) (now (a .answer)) (long (tested m)) (of m (x .command3 .given .1))
+    (o .on-pipeline .ensures (now (a .store)))
 
 same-length-4 : tie.Need-same-length-4
 same-length-4 c = search needs
 
-returns-5 : tie.Need-returns-5
-returns-5 c =
-    let o = c .before .before .carry-out2 in
-    let e = c .before .before .before in
-    let w = e .before .before .before in
-    let r = w .before .before in
-    let x = r .before .before in
-    let m = x .before .before .before in
-    let a = start (tested m) .args in
-    pipeline-met (a .agent) (now (a .frame)) (now (a .store)) (now (a .answer)) (long (tested m))
-    (pipelineRead (x .command3 .given .0 .0) (now (a .frame))) (w .write-head2 .last .1 .1 .0) (r .refusal .result) (of m (x .command3 .given .1))
-    (r .refusal .ensures) (head-alone _ (now (a .answer)) _ (w .write-head2 .ensures)) (e .if2 .left) (o .result) (o .ensures)
-
 same-length-5 : tie.Need-same-length-5
 same-length-5 c = search needs
 
-same-length-6 : tie.Need-same-length-6
-same-length-6 c = search needs
-
-returns-6 : tie.Need-returns-6
-returns-6 c =
-    let o = c .before .before .before .before .before in
+returns-5 : tie.Need-returns-5
+returns-5 c =
+    let o = c .before .before .before .before in
     let x = o .before .before .before .before in
     let m = x .before .before .before in
     let a = start (tested m) .args in
-    met (a .agent) (now (a .frame)) (now (a .store)) (now (a .answer)) (long (tested m)) (of m (x .command4 .given .1)) (o .carry-out3 .ensures)
+    met (a .agent) (now (a .frame)) (now (a .store)) (now (a .answer)) (long (tested m)) (of m (x .command4 .given .1)) (o .on-tables .ensures)
 
 pub call-spec : {M : Type 1} → statement M
 call-spec =
@@ -185,20 +159,15 @@ call-spec =
     same-length
     returns-2
     enum-known-command-2
-    carry-out-requires
-    respond-requires
+    on-streams-requires
     enum-known-command-3
-    refusal-requires
-    write-head-requires-2
+    on-pipeline-requires
+    enum-known-command-4
+    on-tables-requires
     same-length-2
     returns-3
-    carry-out-requires-2
-    enum-known-command-4
-    carry-out-requires-3
     same-length-3
     returns-4
     same-length-4
-    returns-5
     same-length-5
-    same-length-6
-    returns-6)
+    returns-5)

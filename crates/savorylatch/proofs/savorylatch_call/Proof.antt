@@ -72,7 +72,7 @@ use Rattle.memory.proofs.Agent.Laws as T′
 use Rattle.pipeline.specs.Pipeline.{Refuses, CarriesOut}
 use Rattle.pipeline.specs.declared.Configured.{Configured}
 use Rattle.table_commands.specs.declared.TableOutcome.{TableOutcome}
-use Rattle.agent.proofs.Ways.{lengths, short-met, met, malformed-met, event-met, pipeline-refused-met, pipeline-met}
+use Rattle.agent.proofs.Ways.{lengths, event-handled, pipeline-refused-handled, pipeline-handled, short-met, met, malformed-met}
 use Rattle.answers.proofs.too_short as ts
 use Rattle.answers.proofs.too_short.Symbol as ts-def
 use Rattle.answers.proofs.too_short.Met as ts-thm
@@ -509,7 +509,7 @@ module _ {M : Type 1} (𝓤 : URA M) (H : Heap 𝓤) (A : Atoms 𝓤) (W : Given
               exec t C Λ E end-body q $ store-kept t $
               ends t _ (withStreams h (r .streams)) (r .reason) (xs .now) ws end refl
               (record {
-                meets = event-met h (xf .now) (xs .now) (xa .now) long (eventRead x) ws r means e out;
+                meets = met h (xf .now) (xs .now) (xa .now) long means (event-handled h (xs .now) (xa .now) ws (eventRead x) r e out);
                 stood = record { device = p .device; streams = outcome-parts r left .0; configuration = p .configuration; tables = p .tables };
                 reason = outcome-parts r left .1;
                 store-long = refl;
@@ -535,8 +535,9 @@ module _ {M : Type 1} (𝓤 : URA M) (H : Heap 𝓤) (A : Atoms 𝓤) (W : Given
               finish t _ h n (xs .now) ws end refl
               (record {
                 meets =
-                    pipeline-refused-met h (xf .now) (xs .now) (xa .now) long (pipelineRead x (xf .now)) ws n means refused out
-                    (eqb-false n 0 (not-true (eqb n 0) (is-true _ other)));
+                    met h (xf .now) (xs .now) (xa .now) long means
+                    (pipeline-refused-handled h (xs .now) (xa .now) ws (pipelineRead x (xf .now)) n refused out
+                    (eqb-false n 0 (not-true (eqb n 0) (is-true _ other))));
                 stood = p;
                 reason = number-n;
                 store-long = refl;
@@ -553,8 +554,9 @@ module _ {M : Type 1} (𝓤 : URA M) (H : Heap 𝓤) (A : Atoms 𝓤) (W : Given
               ends t _ (withConfiguration h (r .configuration) (r .tables)) 0 (xs .now) ws end refl
               (record {
                 meets =
-                    pipeline-met h (xf .now) (xs .now) (xa .now) long (pipelineRead x (xf .now)) ws n means refused out
-                    (eqb-true n 0 (not-false (eqb n 0) (is-false _ zero))) r done;
+                    met h (xf .now) (xs .now) (xa .now) long means
+                    (pipeline-handled h (xs .now) (xa .now) ws (pipelineRead x (xf .now)) n refused out
+                    (eqb-true n 0 (not-false (eqb n 0) (is-false _ zero))) r done);
                 stood = record { device = p .device; streams = p .streams; configuration = configured-parts r left .0; tables = configured-parts r left .1 };
                 reason = zero-reason;
                 store-long = refl;

@@ -22,7 +22,7 @@ use Rattle.memory.specs.Layout.{controlOf}
 use Rattle.memory.specs.Handles.{atTables}
 use Rattle.memory.proofs.Handled.{flat, flat-handles, refused}
 use Rattle.answers.proofs.AnswerBytes.{records-then-head, head-alone}
-use Rattle.table_commands.proofs.Reading.{key-there, query-formed, read-order, was-read, taken, reads-all}
+use Rattle.table_commands.proofs.Reading.{query-key, read-order, rest-order, entries-read}
 use borrow.Author.Needs.{needs}
 use Rattle.table_commands.proofs.read.Statement.{statement}
 use Rattle.table_commands.proofs.read.Tie as tie
@@ -88,29 +88,20 @@ write-head-requires-2 c κs = search needs
 same-length-2 : tie.Need-same-length-2
 same-length-2 c = search needs
 
--- the query's bytes are those of the frame from 10 on
-whole : (f : List ℕ) → length f ≡ 159 → take (length f - 10) (drop 10 f) ≡ part 10 149 f
-whole f n = let e : length f - 10 ≡ 149 = omega arith in ap (λ (m : ℕ). take m (drop 10 f)) e
-
--- and then its query's
-by-query : (e : tie.After-query-reason) →
-    let a = start (before-query e) .args in
-    let q = queryRead (a .query) (now (a .frame)) in
-    e .query-reason .result ≡ first (queryOrder (controlOf (a .agent) .rows) (q .role) (q .table) (q .only) (q .key))
-by-query e =
-    let s = start (before-query e) in
-    let a = s .args in
-    let f = now (a .frame) in
-    let q = queryRead (a .query) f in
-    e .query-reason .ensures
-    ∙ ap (λ (k : List ℕ). first (queryOrder (controlOf (a .agent) .rows) (q .role) (q .table) (q .only) k))
-    (key-there (a .query) f (whole f (s .pre .0 .0)))
-
--- so the reason that the query has, if any, is the READ's
+-- and then its query's: the reason that it has, if any, is the READ's
 by-both : (e : tie.After-query-reason) →
     let a = start (before-query e) .args in
     readReason (controlOf (a .agent)) (queryRead (a .query) (now (a .frame))) ≡ e .query-reason .result
-by-both e = order (before-query e) ∙ (rw (eq-eqb _ 0 (e .before .before .before .before .before .before .if1 .left))) ∙ sym (by-query e)
+by-both e =
+    let s = start (before-query e) in
+    let a = s .args in
+    rest-order (a .agent) (queryRead (a .query) (now (a .frame))) (order (before-query e))
+    (e .before .before .before .before .before .before .if1 .left) (query-key (a .query) (now (a .frame)) (s .pre .0 .0)) (e .query-reason .ensures)
+
+accepted : (g : tie.Else2) →
+    let a = start (before-query (g .before)) .args in
+    readReason (controlOf (a .agent)) (queryRead (a .query) (now (a .frame))) ≡ 0
+accepted g = by-both (g .before) ∙ g .if2 .left
 
 returns-2 : tie.Need-returns-2
 returns-2 c =
@@ -161,30 +152,10 @@ returns-3 c =
     let r = c .before .before .before .before .before .before .read in
     let h = c .before .before .write-head3 in
     let g = c .before .before .before .before .before .before .before .before .before .before .before .before .before in
-    let st = start (before-query (g .before)) in
-    let a = st .args in
-    let p = st .pre in
-    let f = now (a .frame) in
-    let q = queryRead (a .query) f in
-    let s = now (a .store) in
-    let d = now (a .answer) in
-    let lent = take (length d - 4) (drop 4 d) in
-    let out = r .last .1 .1 .1 .1 .1 .1 .1 .1 .0 in
-    let formed : Formed (onTables (READ q)) = query-formed (a .query) f (p .0) in
-    let e : readReason (controlOf (a .agent)) q ≡ 0 = by-both (g .before) ∙ g .if2 .left in
-    let es = shown (flat (a .agent) s) q in
-    let key = key-there (a .query) f (whole f (p .0 .0)) in
-    let asked : List ℕ → List (List ℕ) =
-    λ k. readIn (controlOf (a .agent) .rows) (q .role) (q .table) (q .only) k (tablesIn (a .agent .tables) s) in
-    flat-handles (a .agent) _ s d (λ k.
-    let z = shown-sized (flat (a .agent) s) q k in
-    let w : length lent ≡ length d - 4 = length-window 4 (length d - 4) d (omega (arith, p .3)) in
-    let t : Reads es lent out (r .result) =
-    subst (λ (x : List (List ℕ)). Reads x lent out (r .result)) (ap asked key ∙ taken (a .agent) q s formed k e) (r .ensures (k .tables .distinct)) in
-    let n = reads-all es lent (omega (arith, z .1, p .3)) t in
-    was-read (a .agent) q s d (h .last .1 .1 .0) e
-    (records-then-head 0 (r .result) es d out (h .last .1 .1 .0) (omega (arith, p .3)) (n .0)
-    (r .kept .1 .1 .1 .1 .1 .1 .1 .1 .0) (n .1) (h .ensures)))
+    let s = start (before-query (g .before)) in
+    let a = s .args in
+    entries-read (a .agent) (a .query) (now (a .frame)) (now (a .store)) (now (a .answer)) (r .last .1 .1 .1 .1 .1 .1 .1 .1 .0) (h .last .1 .1 .0)
+    (r .result) (s .pre .0) (s .pre .3) (accepted g) (r .ensures) (r .kept .1 .1 .1 .1 .1 .1 .1 .1 .0) (h .ensures)
 
 pub read-spec : {M : Type 1} → statement M
 read-spec =

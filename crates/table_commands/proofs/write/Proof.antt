@@ -23,7 +23,7 @@ use Rattle.memory.specs.Layout.{controlOf}
 use Rattle.memory.specs.Handles.{atTables}
 use Rattle.memory.proofs.Handled.{flat, flat-handles, refused}
 use Rattle.answers.proofs.AnswerBytes.{records-then-head, head-alone}
-use Rattle.table_commands.proofs.Writing.{write-order, was-written}
+use Rattle.table_commands.proofs.Writing.{write-order, batch-written}
 use borrow.Author.Needs.{needs}
 use Rattle.table_commands.proofs.write.Statement.{statement}
 use Rattle.table_commands.proofs.write.Tie as tie
@@ -45,7 +45,7 @@ same-length c = search needs
 
 -- where a state came from: the call's start, the reason that was found, the batch's answer
 abbrev start : tie.After-write-reason → tie.Start
-start e = e .before .before .before .before .before .before .before .before .before .before
+start e = e .before .before .before .before .before .before .before .before .before
 
 abbrev judged : tie.After-batch → tie.After-write-reason
 judged e = e .before .before .before .before .before .before .before .before .before
@@ -57,6 +57,11 @@ order e =
     let a = start e .args in
     write-order (a .agent) (headOf (a .head)) (a .atomicity) refl (e .before .before .before .before .by-primary .ensures)
     (e .before .is-empty .ensures) (e .write-reason .ensures)
+
+accepted : (g : tie.Else1) →
+    let a = start (g .before) .args in
+    writeReason (controlOf (a .agent)) (headOf (a .head)) (a .atomicity) ≡ 0
+accepted g = order (g .before) ∙ g .if1 .left
 
 returns : tie.Need-returns
 returns c =
@@ -125,27 +130,10 @@ returns-2 c =
     let b = e .batch in
     let g = c .before .before .before .before .before .head-reason in
     let h = c .before .before .before .write-head2 in
-    let store = now (a .store) in
-    let d = now (a .answer) in
-    let f = now (a .frame) in
-    let batched : List ℕ → Batch =
-    λ l. batchOf (flat (a .agent) store) (headOf (a .head)) (a .atomicity) (updatesIn (a .n) l) in
-    let us = updatesIn (a .n) (drop 29 f) in
-    let rs = batched (drop 29 f) .reasons in
-    let lent = rest-all 29 f in
-    let count = reasons-count (a .atomicity) (rowsOf (a .agent .configuration .rows)) (a .head .role) (tablesIn (a .agent .tables) store) us in
-    let n : a .n ≡ length (map pairOf rs) =
-    sym (length-map rs pairOf ∙ count ∙ length-map (parts (a .n) 221 (drop 29 f)) updateOf ∙ parts-count (a .n) 221 (drop 29 f)) in
-    flat-handles (a .agent) _ store d (λ k.
-    let t = k .tables .distinct in
-    let done = subst (λ (l : List ℕ). BatchApplied (batched l) store (b .last .1 .1 .1 .1 .0) (b .result)) lent (b .ensures .0 t) in
-    let pairs =
-    b .ensures .1 t
-    ∙ ap (λ (l : List ℕ). splice (take (length d - 4) (drop 4 d)) 0 (concat (map pairOf (batched l .reasons)))) lent in
-    was-written (a .agent) (headOf (a .head)) (a .atomicity) us store (b .last .1 .1 .1 .1 .0) d (h .last .1 .1 .0) (g .result) (b .result)
-    (order (judged e) ∙ e .before .before .before .before .before .before .before .before .if1 .left) done (g .ensures)
-    (records-then-head (g .result) (a .n) (map pairOf rs) d (b .last .1 .1 .1 .1 .1 .1 .1 .1 .0) (h .last .1 .1 .0) (omega (arith, s .pre .3)) n
-    (b .kept .1 .1 .1 .1 .1 .1 .1 .1 .0) pairs (h .ensures)))
+    batch-written (a .agent) (headOf (a .head)) (a .atomicity) (a .n) (now (a .frame)) (now (a .store)) (b .last .1 .1 .1 .1 .0) (now (a .answer))
+    (b .last .1 .1 .1 .1 .1 .1 .1 .1 .0) (h .last .1 .1 .0) (g .result) (b .result) (omega (arith, s .pre .3))
+    (accepted (e .before .before .before .before .before .before .before .before))
+    (b .ensures .0) (b .ensures .1) (b .kept .1 .1 .1 .1 .1 .1 .1 .1 .0) (g .ensures) (h .ensures)
 
 pub write-spec : {M : Type 1} → statement M
 write-spec =
