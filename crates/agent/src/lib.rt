@@ -79,8 +79,8 @@ fn on_tables(
         (result (r .agent) (r .reason) (now (store .exit)) (now (answer .exit))) ⌝ }
 {
     let left = table_commands::carry_out(agent, command, frame, store, answer);
-    let tables = left.tables;
-    agent.tables = tables;
+    let held = left.tables;
+    agent.tables = held;
     Called {
         agent,
         reason: left.reason,
