@@ -12,7 +12,7 @@ use Rattle.rules.specs.Sample.{commandIn, after, answerTo, answers, Each
 -- ---- calls
 
 -- what is made of a call's answer and of the agent that it leaves
-abbrev taking : {A : Type 0} → State → Command → (Reply → State → A) → A
+abbrev pub taking : {A : Type 0} → State → Command → (Reply → State → A) → A
 taking s tooShort k = k (replyOf (plain 2)) s
 taking s malformed k = k (replyOf (plain 1)) s
 taking s (onStreams x) k =
@@ -34,7 +34,7 @@ taking-is s (onPipeline x) k = refl
 taking-is s (onTables x) k = refl
 
 -- the answers to calls, and the agent after them
-abbrev replies : State → List Command → List Reply
+abbrev pub replies : State → List Command → List Reply
 replies s [] = []
 replies s (c ∷ cs) = taking s c (λ (r : Reply) (s′ : State). r ∷ replies s′ cs)
 
@@ -42,7 +42,7 @@ abbrev left : State → List Command → State
 left s [] = s
 left s (c ∷ cs) = taking s c (λ (r : Reply) (s′ : State). left s′ cs)
 
-replies-are : (s : State) (fs : List (List ℕ)) → replies s (map commandIn fs) ≡ answers s fs
+pub replies-are : (s : State) (fs : List (List ℕ)) → replies s (map commandIn fs) ≡ answers s fs
 replies-are s [] = refl
 replies-are s (f ∷ fs) =
     taking-is s (commandIn f) (λ (r : Reply) (s′ : State). r ∷ replies s′ (map commandIn fs))
@@ -58,10 +58,10 @@ left-is s (c ∷ cs) = taking-is s c (λ (r : Reply) (s′ : State). left s′ c
 abbrev pub Cases : Type 0
 Cases = List (List ℕ × Reply)
 
-abbrev frames : Cases → List (List ℕ)
+abbrev pub frames : Cases → List (List ℕ)
 frames cases = map (λ (c : List ℕ × Reply). c .0) cases
 
-abbrev due : Cases → List Reply
+abbrev pub due : Cases → List Reply
 due cases = map (λ (c : List ℕ × Reply). c .1) cases
 
 abbrev start : List (List ℕ) → State
@@ -74,7 +74,7 @@ inTurn fs runs = let s = start fs in map (λ (r : Cases). replies s (map command
 abbrev singly : List (List ℕ) → List Cases → List (List Reply)
 singly fs runs = let s = start fs in map (λ (r : Cases). map (λ (c : List ℕ × Reply). reply s (commandIn (c .0))) r) runs
 
--- It is what is due. A proof that says `in-turn` or `singly` of the very lists that its signature names is computed once.
+-- It is what is due. A proof by `computed-in-turn` or `computed-singly` of the very lists that its signature names is computed once.
 abbrev pub InTurns : List (List ℕ) → List Cases → Type 0
 InTurns fs runs = inTurn fs runs ≡ map due runs
 
