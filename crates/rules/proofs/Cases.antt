@@ -1,11 +1,17 @@
 -- The worked cases of the orders of refusals hold because the definitions compute to them. Assumes nothing.
 use mathlib.Core.Path.{refl}
-use Rattle.rules.specs.Cases.{Orders, Witnesses}
+use mathlib.Core.List.{[], _∷_}
+use Rattle.rules.specs.Cases.{owned, judged, Orders, Witnesses}
 use Rattle.rules.proofs.StreamCases.{frames, elections}
 use Rattle.rules.proofs.EntryCases.{entries, configurations, updates}
 use Rattle.rules.proofs.RollbackCases.{rollbacks}
 use Rattle.rules.proofs.DeleteCases.{deletions}
 use Rattle.rules.proofs.Computing.{computing}
+use Rattle.rules.proofs.Runs.{Singly, computed-singly, each}
+
+on-owned : Singly owned (judged ∷ [])
+unfolding computing
+on-owned = computed-singly owned (judged ∷ [])
 
 pub orders : Orders
 unfolding computing
@@ -20,7 +26,7 @@ orders = record {
   write = refl;
   write-atomic = refl;
   read = refl;
-  update = refl;
+  update = each owned (judged ∷ []) on-owned 0;
   store-full = (refl, refl, refl);
 }
 

@@ -1,5 +1,6 @@
 -- What is proved of the rules: the worked cases first, so that a wrong definition meets a false case.
 pub mod Computing
+pub mod Runs
 pub mod Bench
 pub mod StreamCases
 pub mod EntryCases

@@ -1,13 +1,20 @@
 -- The worked cases of frames, streams and primaries hold because the definitions compute to them. Assumes nothing.
 use mathlib.Core.Path.{refl}
-use Rattle.rules.specs.StreamCases.{Frames, Elections}
+use mathlib.Core.List.{[], _∷_}
+use Rattle.rules.specs.Sample.{leading}
+use Rattle.rules.specs.StreamCases.{largest, Frames, Elections}
 use Rattle.rules.proofs.Computing.{computing}
+use Rattle.rules.proofs.Runs.{InTurns, computed-in-turn, in-turn}
+
+on-leading : InTurns leading (largest ∷ [])
+unfolding computing
+on-leading = computed-in-turn leading (largest ∷ [])
 
 pub frames : Frames
 unfolding computing
 frames = record {
   formed = refl;
-  largest = refl;
+  largest = in-turn leading (largest ∷ []) on-leading 0;
   command = refl;
   lengths = refl;
   stream = refl;

@@ -28,7 +28,7 @@ abbrev wide : List ℕ
 wide = val2 1 0
 
 -- tables 1 and 2 of owners 0 and 1; role 1 has a primary with 5, and has filled table 2
-abbrev owned : List (List ℕ)
+abbrev pub owned : List (List ℕ)
 owned =
     configured (ranges 1 0 ∷ ranges 2 1 ∷ [])
     ++ (open! 2 ∷ arbitrate! 2 (by 1 5) ∷ write! (by 1 5) 0 (insert! (entry1 2 low 1 (val1 7)) ∷ []) ∷ [])
@@ -68,6 +68,15 @@ fromTwenty =
     ∷ (modify! (entry1 2 low 1 (val1 8)), done)
     ∷ (delete! (entry1 2 low 9 wide), done)
     ∷ (insert! (entry1 2 high 1 (val1 7)), done)
+    ∷ []
+
+-- An update: 17 for its type, 15, 16, 17, 18, 19, 20 or 21, 22. 19 does not meet 20: a stored key passed it, so 18 of a parameter
+-- meets 20. 21 does not meet 20 or 22, which are about INSERT.
+abbrev pub judged : List (List ℕ × Reply)
+judged =
+    batch! (by 1 5) 23 2 31
+    (all (17 ∷ 3 ∷ []) ((0 ∷ entry1 9 key17 9 wide) ∷ (4 ∷ entry1 9 key17 9 wide) ∷ [])
+    ++ toNineteen 1 ++ toNineteen 2 ++ deletes ++ fromTwenty)
     ∷ []
 
 -- an update of an unknown table
@@ -179,13 +188,7 @@ pub record Orders : Type 0 where
       ∷ (readOne low, ok)
       ∷ (readFrom 0 (table# 1), ok)
       ∷ [])
-  -- An update: 17 for its type, 15, 16, 17, 18, 19, 20 or 21, 22. 19 does not meet 20: a stored key passed it, so 18 of a parameter
-  -- meets 20. 21 does not meet 20 or 22, which are about INSERT.
-  pub update : Each owned
-      (batch! (by 1 5) 23 2 31
-      (all (17 ∷ 3 ∷ []) ((0 ∷ entry1 9 key17 9 wide) ∷ (4 ∷ entry1 9 key17 9 wide) ∷ [])
-      ++ toNineteen 1 ++ toNineteen 2 ++ deletes ++ fromTwenty)
-      ∷ [])
+  pub update : Each owned judged
   -- No list of calls comes to 24: the sizes add to 256 at most, so 22 comes before it. Of tables that no list leaves: 22 (the table
   -- holds its size, and the store 256), 24 (the store alone); with 255 in the store the entry is stored.
   pub store-full : (crowded 1 255 ≡ bytes 23 2 1 ((22 ∷ 8 ∷ []) ∷ [])) × (crowded 2 255 ≡ bytes 23 2 1 ((24 ∷ 8 ∷ []) ∷ []))

@@ -50,7 +50,7 @@ abbrev of : List ℕ → List ℕ → List ℕ
 of k a = table# 1 ++ k ++ a
 
 -- the table holds the keys `low` and `high`; role 1 has a primary too
-abbrev stocked : List (List ℕ)
+abbrev pub stocked : List (List ℕ)
 stocked =
     configured rows
     ++ (write! (by 0 5) 0 (insert! (of low good) ∷ insert! (of high good) ∷ []) ∷ open! 2 ∷ arbitrate! 2 (by 1 5) ∷ [])
@@ -72,37 +72,57 @@ byBadKeys a =
     ∷ (delete! (of absent a), 21 ∷ 5 ∷ [])
     ∷ []
 
+-- ---- the frames of the cases, with their answers
+
+-- The entry of the key is deleted, and no other, whatever the 72 bytes are: after each DELETE the key is free for an INSERT.
+abbrev pub keyAlone : List (List ℕ × Reply)
+keyAlone =
+    batch! (by 0 5) 0 0 20 (all done (concat (map (λ (a : List ℕ). delete! (of low a) ∷ insert! (of low good) ∷ []) any)))
+    ∷ (readAll!, bytes 0 0 2 (of high good ∷ of low good ∷ []))
+    ∷ []
+
+-- also by a key that is not in shortest form
+abbrev pub padded : List (List ℕ × Reply)
+padded =
+    batch! (by 0 5) 0 0 1 ((delete! (of (key 1 range (val2 0 1) (val2 0 2)) (replicate 72 0)), done) ∷ [])
+    ∷ (readAll!, bytes 0 0 1 (of high good ∷ []))
+    ∷ []
+
+-- in a MODIFY and an INSERT they are looked at as before
+abbrev pub otherTypes : List (List ℕ × Reply)
+otherTypes =
+    batch! (by 0 5) 23 2 18
+    (all (17 ∷ 3 ∷ []) (map (λ (a : List ℕ). modify! (of low a)) ill ++ map (λ (a : List ℕ). insert! (of absent a)) ill)
+    ++ all (18 ∷ 11 ∷ []) (modify! (of low wide) ∷ insert! (of absent wide) ∷ []))
+    ∷ []
+
+-- The key is checked as before: 15, 17, 18, 19 and 21, and 16 for role 1.
+abbrev pub keyChecked : List (List ℕ × Reply)
+keyChecked =
+    batch! (by 0 5) 23 2 50 (concat (map byBadKeys any))
+    ∷ batch! (by 1 5) 23 2 10 (all (16 ∷ 7 ∷ []) (map (λ (a : List ℕ). delete! (of low a)) any))
+    ∷ []
+
+-- With atomicity 1: both keys are deleted. Where a key is not there the others are back, each in its place.
+abbrev pub together : List (List ℕ × Reply)
+together =
+    atomic! (by 0 5) 0 0 2 (all done (delete! (of high (replicate 72 0)) ∷ delete! (of low (replicate 72 0xFF)) ∷ [])) ∷ (readAll!, ok) ∷ []
+
+abbrev pub oneGone : List (List ℕ × Reply)
+oneGone =
+    atomic! (by 0 5) 23 2 4
+    ((delete! (of low (replicate 72 0)), rolledBack)
+    ∷ (delete! (of high (replicate 72 0xFF)), rolledBack)
+    ∷ (delete! (of low wide), 21 ∷ 5 ∷ [])
+    ∷ (delete! (of high wide), rolledBack)
+    ∷ [])
+    ∷ (readAll!, stock)
+    ∷ []
+
 pub record Deletions : Type 0 where
-  -- The entry of the key is deleted, and no other, whatever the 72 bytes are: after each DELETE the key is free for an INSERT.
-  pub key-alone : InTurn stocked
-      (batch! (by 0 5) 0 0 20 (all done (concat (map (λ (a : List ℕ). delete! (of low a) ∷ insert! (of low good) ∷ []) any)))
-      ∷ (readAll!, bytes 0 0 2 (of high good ∷ of low good ∷ []))
-      ∷ [])
-  -- also by a key that is not in shortest form
-  pub padded : InTurn stocked
-      (batch! (by 0 5) 0 0 1 ((delete! (of (key 1 range (val2 0 1) (val2 0 2)) (replicate 72 0)), done) ∷ [])
-      ∷ (readAll!, bytes 0 0 1 (of high good ∷ []))
-      ∷ [])
-  -- in a MODIFY and an INSERT they are looked at as before
-  pub other-types : Each stocked
-      (batch! (by 0 5) 23 2 18
-      (all (17 ∷ 3 ∷ []) (map (λ (a : List ℕ). modify! (of low a)) ill ++ map (λ (a : List ℕ). insert! (of absent a)) ill)
-      ++ all (18 ∷ 11 ∷ []) (modify! (of low wide) ∷ insert! (of absent wide) ∷ []))
-      ∷ [])
-  -- The key is checked as before: 15, 17, 18, 19 and 21, and 16 for role 1.
-  pub key-checked : Each stocked
-      (batch! (by 0 5) 23 2 50 (concat (map byBadKeys any))
-      ∷ batch! (by 1 5) 23 2 10 (all (16 ∷ 7 ∷ []) (map (λ (a : List ℕ). delete! (of low a)) any))
-      ∷ [])
-  -- With atomicity 1: both keys are deleted. Where a key is not there the others are back, each in its place.
-  pub together : InTurn stocked
-      (atomic! (by 0 5) 0 0 2 (all done (delete! (of high (replicate 72 0)) ∷ delete! (of low (replicate 72 0xFF)) ∷ [])) ∷ (readAll!, ok) ∷ [])
-  pub one-gone : InTurn stocked
-      (atomic! (by 0 5) 23 2 4
-      ((delete! (of low (replicate 72 0)), rolledBack)
-      ∷ (delete! (of high (replicate 72 0xFF)), rolledBack)
-      ∷ (delete! (of low wide), 21 ∷ 5 ∷ [])
-      ∷ (delete! (of high wide), rolledBack)
-      ∷ [])
-      ∷ (readAll!, stock)
-      ∷ [])
+  pub key-alone : InTurn stocked keyAlone
+  pub padded : InTurn stocked padded
+  pub other-types : Each stocked otherTypes
+  pub key-checked : Each stocked keyChecked
+  pub together : InTurn stocked together
+  pub one-gone : InTurn stocked oneGone

@@ -34,7 +34,7 @@ abbrev pub stock : Reply
 stock = bytes 0 0 4 (item 2 1 1 ∷ item 2 2 1 ∷ item 1 1 1 ∷ item 1 2 1 ∷ [])
 
 -- table 1 with an optional, a ternary, a range and an lpm field of width 16, and action 1 with four parameters of width 16
-abbrev four16 : List ℕ
+abbrev pub four16 : List ℕ
 four16 =
     rowWith 1 0 20 (map (λ (k : ℕ). field k 16) (optional ∷ ternary ∷ range ∷ lpm ∷ [])) (action 1 (replicate 4 16) ∷ [])
 
@@ -92,96 +92,137 @@ mixed =
     ∷ (delete! (item 1 2 3), 21 ∷ 5 ∷ [])
     ∷ []
 
+-- ---- the frames of the cases, with their answers
+
+-- Keys are compared as numbers, and stored in shortest form: 0007 is 07, so it is stored already, is read, and deletes it.
+abbrev pub padded : List (List ℕ × Reply)
+padded =
+    (send (insert! (item 1 7 1) ∷ []), bytes 0 0 1 (done ∷ []))
+    ∷ (send (insert! (entry 1 (key 0 exact (val2 0 7) none17) 1) ∷ []), bytes 23 2 1 ((20 ∷ 6 ∷ []) ∷ []))
+    ∷ (readOne (key 0 exact (val2 0 7) none17), bytes 0 0 1 (item 1 7 1 ∷ []))
+    ∷ (send (delete! (entry 1 (key 0 exact (val2 0 7) none17) 1) ∷ []), bytes 0 0 1 (done ∷ []))
+    ∷ (readAll!, ok)
+    ∷ []
+
+-- zero is one byte 00, also where 16 are given
+abbrev pub zeros : List (List ℕ × Reply)
+zeros =
+    (send (insert! (entry 1 (key 0 exact (val (replicate 16 0)) none17) 1) ∷ []), bytes 0 0 1 (done ∷ []))
+    ∷ (readAll!, bytes 0 0 1 (item 1 0 1 ∷ []))
+    ∷ []
+
+-- The same of both values of every slot (mask, upper bound and prefix length among them) and of every parameter, in an entry
+-- that is inserted and in one that is modified.
+abbrev pub shortened : List (List ℕ × Reply)
+shortened =
+    (send (insert! (entryWith 1 keyPadded 1 (map (val2 0) (1 ∷ 2 ∷ 3 ∷ 4 ∷ []))) ∷ []), bytes 0 0 1 (done ∷ []))
+    ∷ (readAll!, bytes 0 0 1 (with1234 keyShortest ∷ []))
+    ∷ (send (insert! (with1234 keyShortest) ∷ []), bytes 23 2 1 ((20 ∷ 6 ∷ []) ∷ []))
+    ∷ (send (modify! (entryWith 1 keyPadded 1 (map (val3 0 0) (5 ∷ 6 ∷ 0 ∷ 8 ∷ []))) ∷ []), bytes 0 0 1 (done ∷ []))
+    ∷ (readOne keyPadded, bytes 0 0 1 (with4 keyShortest 5 6 0 8 ∷ []))
+    ∷ (send (delete! (with1234 keyPadded) ∷ []), bytes 0 0 1 (done ∷ []))
+    ∷ (readAll!, ok)
+    ∷ []
+
+-- Keys that differ in one part are two keys: all are stored, and the entry of one is read and deleted alone.
+abbrev pub keysApart : List (List ℕ × Reply)
+keysApart =
+    batch! (by 0 5) 0 0 10 (all done (map (λ (k : List ℕ). insert! (with1234 k)) (keyShortest ∷ nearKeys)))
+    ∷ (readOne keyShortest, bytes 0 0 1 (with1234 keyShortest ∷ []))
+    ∷ (send (delete! (with1234 keyShortest) ∷ []), bytes 0 0 1 (done ∷ []))
+    ∷ (readAll!, bytes 0 0 9 (map with1234 nearKeys))
+    ∷ []
+
+-- READ needs no primary. Table 0 is every table the role may write, for role 3 none; a named table must be known, by all its
+-- bytes, and the role's.
+abbrev pub owners : List (List ℕ × Reply)
+owners =
+    (readAll!, stock)
+    ∷ (readFrom 1 (replicate 4 0), bytes 0 0 2 (item 2 1 1 ∷ item 2 2 1 ∷ []))
+    ∷ (readFrom 1 (table# 2), bytes 0 0 2 (item 2 1 1 ∷ item 2 2 1 ∷ []))
+    ∷ (readFrom 1 (table# 1), refused 16 7)
+    ∷ (readFrom 0 (table# 2), bytes 0 0 2 (item 2 1 1 ∷ item 2 2 1 ∷ []))
+    ∷ (readFrom 3 (replicate 4 0), ok)
+    ∷ (readFrom 0 (set (table# 1) 2 1), refused 15 5)
+    ∷ []
+
+-- Role 7 is the last: it has a primary and a mark, and writes and reads the tables that it owns. Role 8 is 6.
+abbrev pub lastRole : List (List ℕ × Reply)
+lastRole =
+    (arbitrate! 2 (by 7 6), bytes 0 0 1 (notice 2 7 0 6 ∷ []))
+    ∷ (arbitrate! 3 (by 7 4), bytes 0 0 1 (notice 3 7 6 6 ∷ []))
+    ∷ (arbitrate! 4 (by 8 6), refused 6 5)
+    ∷ (write! (by 7 6) 0 (insert! (item 1 7 1) ∷ insert! (item 2 7 1) ∷ []), bytes 23 2 2 (done ∷ (16 ∷ 7 ∷ []) ∷ []))
+    ∷ (write! (by 8 6) 0 [], refused 6 5)
+    ∷ (readFrom 7 (replicate 4 0), bytes 0 0 1 (item 1 7 1 ∷ []))
+    ∷ (readFrom 7 (table# 1), bytes 0 0 1 (item 1 7 1 ∷ []))
+    ∷ (readFrom 7 (table# 2), refused 16 7)
+    ∷ (readFrom 8 (replicate 4 0), refused 6 5)
+    ∷ (configure! (by 7 6) (row 1 7 4 exact 8 ∷ []), refused 11 7)
+    ∷ (configure! (by 8 6) (row 1 7 4 exact 8 ∷ []), refused 6 5)
+    ∷ (close! 2, bytes 0 0 1 (notice 3 7 5 6 ∷ []))
+    ∷ []
+
+-- an absent key gives none
+abbrev pub one : List (List ℕ × Reply)
+one =
+    (readOne (key 0 exact (val1 2) none17), bytes 0 0 1 (item 1 2 1 ∷ []))
+    ∷ (readOne (key 0 exact (val1 3) none17), ok)
+    ∷ []
+
+-- MODIFY replaces the action in its place
+abbrev pub modified : List (List ℕ × Reply)
+modified =
+    (send (modify! (item 2 1 2) ∷ []), bytes 0 0 1 (done ∷ []))
+    ∷ (readAll!, bytes 0 0 4 (item 2 1 2 ∷ item 2 2 1 ∷ item 1 1 1 ∷ item 1 2 1 ∷ []))
+    ∷ []
+
+-- A full table takes an entry again once one is deleted, also in the same batch; the entry is the table's last then.
+abbrev pub full : List (List ℕ × Reply)
+full =
+    (send (insert! (item 2 3 1) ∷ []), bytes 23 2 1 ((22 ∷ 8 ∷ []) ∷ []))
+    ∷ (send (delete! (item 2 1 1) ∷ insert! (item 2 1 1) ∷ []), bytes 0 0 2 (done ∷ done ∷ []))
+    ∷ (readAll!, bytes 0 0 4 (item 2 2 1 ∷ item 2 1 1 ∷ item 1 1 1 ∷ item 1 2 1 ∷ []))
+    ∷ []
+
+abbrev pub batch : List (List ℕ × Reply)
+batch = batch! (by 0 5) 23 2 8 mixed ∷ (readAll!, bytes 0 0 1 (item 1 1 2 ∷ [])) ∷ []
+
+-- CONFIGURE replaces all rows
+abbrev pub replaced : List (List ℕ × Reply)
+replaced =
+    (configure! (by 0 5) (row 3 0 2 exact 8 ∷ []), ok)
+    ∷ (readFrom 0 (table# 1), refused 15 5)
+    ∷ (readFrom 0 (table# 3), ok)
+    ∷ (readAll!, ok)
+    ∷ []
+
+-- and empties the tables, also with the rows in force; a refused one does not
+abbrev pub emptied : List (List ℕ × Reply)
+emptied = (configure! (by 0 5) tables, ok) ∷ (readAll!, ok) ∷ []
+
+abbrev pub kept : List (List ℕ × Reply)
+kept = (configure! (by 0 5) sizeless, refused 14 3) ∷ (readAll!, stock) ∷ []
+
 pub record Entries : Type 0 where
-  -- Keys are compared as numbers, and stored in shortest form: 0007 is 07, so it is stored already, is read, and deletes it.
-  pub padded : InTurn (configured (row 1 0 4 exact 16 ∷ []))
-      ((send (insert! (item 1 7 1) ∷ []), bytes 0 0 1 (done ∷ []))
-      ∷ (send (insert! (entry 1 (key 0 exact (val2 0 7) none17) 1) ∷ []), bytes 23 2 1 ((20 ∷ 6 ∷ []) ∷ []))
-      ∷ (readOne (key 0 exact (val2 0 7) none17), bytes 0 0 1 (item 1 7 1 ∷ []))
-      ∷ (send (delete! (entry 1 (key 0 exact (val2 0 7) none17) 1) ∷ []), bytes 0 0 1 (done ∷ []))
-      ∷ (readAll!, ok)
-      ∷ [])
-  -- zero is one byte 00, also where 16 are given
-  pub zero : InTurn (configured (row 1 0 4 exact 16 ∷ []))
-      ((send (insert! (entry 1 (key 0 exact (val (replicate 16 0)) none17) 1) ∷ []), bytes 0 0 1 (done ∷ []))
-      ∷ (readAll!, bytes 0 0 1 (item 1 0 1 ∷ []))
-      ∷ [])
-  -- The same of both values of every slot (mask, upper bound and prefix length among them) and of every parameter, in an entry
-  -- that is inserted and in one that is modified.
-  pub shortened : InTurn (configured (four16 ∷ []))
-      ((send (insert! (entryWith 1 keyPadded 1 (map (val2 0) (1 ∷ 2 ∷ 3 ∷ 4 ∷ []))) ∷ []), bytes 0 0 1 (done ∷ []))
-      ∷ (readAll!, bytes 0 0 1 (with1234 keyShortest ∷ []))
-      ∷ (send (insert! (with1234 keyShortest) ∷ []), bytes 23 2 1 ((20 ∷ 6 ∷ []) ∷ []))
-      ∷ (send (modify! (entryWith 1 keyPadded 1 (map (val3 0 0) (5 ∷ 6 ∷ 0 ∷ 8 ∷ []))) ∷ []), bytes 0 0 1 (done ∷ []))
-      ∷ (readOne keyPadded, bytes 0 0 1 (with4 keyShortest 5 6 0 8 ∷ []))
-      ∷ (send (delete! (with1234 keyPadded) ∷ []), bytes 0 0 1 (done ∷ []))
-      ∷ (readAll!, ok)
-      ∷ [])
-  -- Keys that differ in one part are two keys: all are stored, and the entry of one is read and deleted alone.
-  pub keys-apart : InTurn (configured (four16 ∷ []))
-      (batch! (by 0 5) 0 0 10 (all done (map (λ (k : List ℕ). insert! (with1234 k)) (keyShortest ∷ nearKeys)))
-      ∷ (readOne keyShortest, bytes 0 0 1 (with1234 keyShortest ∷ []))
-      ∷ (send (delete! (with1234 keyShortest) ∷ []), bytes 0 0 1 (done ∷ []))
-      ∷ (readAll!, bytes 0 0 9 (map with1234 nearKeys))
-      ∷ [])
-  -- READ needs no primary. Table 0 is every table the role may write, for role 3 none; a named table must be known, by all its
-  -- bytes, and the role's.
-  pub owners : Each stocked
-      ((readAll!, stock)
-      ∷ (readFrom 1 (replicate 4 0), bytes 0 0 2 (item 2 1 1 ∷ item 2 2 1 ∷ []))
-      ∷ (readFrom 1 (table# 2), bytes 0 0 2 (item 2 1 1 ∷ item 2 2 1 ∷ []))
-      ∷ (readFrom 1 (table# 1), refused 16 7)
-      ∷ (readFrom 0 (table# 2), bytes 0 0 2 (item 2 1 1 ∷ item 2 2 1 ∷ []))
-      ∷ (readFrom 3 (replicate 4 0), ok)
-      ∷ (readFrom 0 (set (table# 1) 2 1), refused 15 5)
-      ∷ [])
-  -- Role 7 is the last: it has a primary and a mark, and writes and reads the tables that it owns. Role 8 is 6.
-  pub last-role : InTurn (configured (row 1 7 4 exact 8 ∷ row 2 6 4 exact 8 ∷ []) ++ map open! (2 ∷ 3 ∷ 4 ∷ []))
-      ((arbitrate! 2 (by 7 6), bytes 0 0 1 (notice 2 7 0 6 ∷ []))
-      ∷ (arbitrate! 3 (by 7 4), bytes 0 0 1 (notice 3 7 6 6 ∷ []))
-      ∷ (arbitrate! 4 (by 8 6), refused 6 5)
-      ∷ (write! (by 7 6) 0 (insert! (item 1 7 1) ∷ insert! (item 2 7 1) ∷ []), bytes 23 2 2 (done ∷ (16 ∷ 7 ∷ []) ∷ []))
-      ∷ (write! (by 8 6) 0 [], refused 6 5)
-      ∷ (readFrom 7 (replicate 4 0), bytes 0 0 1 (item 1 7 1 ∷ []))
-      ∷ (readFrom 7 (table# 1), bytes 0 0 1 (item 1 7 1 ∷ []))
-      ∷ (readFrom 7 (table# 2), refused 16 7)
-      ∷ (readFrom 8 (replicate 4 0), refused 6 5)
-      ∷ (configure! (by 7 6) (row 1 7 4 exact 8 ∷ []), refused 11 7)
-      ∷ (configure! (by 8 6) (row 1 7 4 exact 8 ∷ []), refused 6 5)
-      ∷ (close! 2, bytes 0 0 1 (notice 3 7 5 6 ∷ []))
-      ∷ [])
-  -- an absent key gives none
-  pub one : Each stocked
-      ((readOne (key 0 exact (val1 2) none17), bytes 0 0 1 (item 1 2 1 ∷ []))
-      ∷ (readOne (key 0 exact (val1 3) none17), ok)
-      ∷ [])
-  -- MODIFY replaces the action in its place
-  pub modified : InTurn stocked
-      ((send (modify! (item 2 1 2) ∷ []), bytes 0 0 1 (done ∷ []))
-      ∷ (readAll!, bytes 0 0 4 (item 2 1 2 ∷ item 2 2 1 ∷ item 1 1 1 ∷ item 1 2 1 ∷ []))
-      ∷ [])
-  -- A full table takes an entry again once one is deleted, also in the same batch; the entry is the table's last then.
-  pub full : InTurn stocked
-      ((send (insert! (item 2 3 1) ∷ []), bytes 23 2 1 ((22 ∷ 8 ∷ []) ∷ []))
-      ∷ (send (delete! (item 2 1 1) ∷ insert! (item 2 1 1) ∷ []), bytes 0 0 2 (done ∷ done ∷ []))
-      ∷ (readAll!, bytes 0 0 4 (item 2 2 1 ∷ item 2 1 1 ∷ item 1 1 1 ∷ item 1 2 1 ∷ []))
-      ∷ [])
-  pub batch : InTurn (configured tables) (batch! (by 0 5) 23 2 8 mixed ∷ (readAll!, bytes 0 0 1 (item 1 1 2 ∷ [])) ∷ [])
+  pub padded : InTurn (configured (row 1 0 4 exact 16 ∷ [])) padded
+  pub zero : InTurn (configured (row 1 0 4 exact 16 ∷ [])) zeros
+  pub shortened : InTurn (configured (four16 ∷ [])) shortened
+  pub keys-apart : InTurn (configured (four16 ∷ [])) keysApart
+  pub owners : Each stocked owners
+  pub last-role : InTurn (configured (row 1 7 4 exact 8 ∷ row 2 6 4 exact 8 ∷ []) ++ map open! (2 ∷ 3 ∷ 4 ∷ [])) lastRole
+  pub one : Each stocked one
+  pub modified : InTurn stocked modified
+  pub full : InTurn stocked full
+  pub batch : InTurn (configured tables) batch
   -- n 0
   pub no-updates : Each stocked ((send [], ok) ∷ [])
   -- a count over 255 takes both of its bytes
   pub count : reply (holding tables (replicate 256 (item 1 1 1))) (commandIn readAll!)
       ≡ record { returned = 0; written = 0 ∷ 0 ∷ 1 ∷ 0 ∷ concat (replicate 256 (item 1 1 1)) }
-  -- CONFIGURE replaces all rows
-  pub replaced : InTurn stocked
-      ((configure! (by 0 5) (row 3 0 2 exact 8 ∷ []), ok)
-      ∷ (readFrom 0 (table# 1), refused 15 5)
-      ∷ (readFrom 0 (table# 3), ok)
-      ∷ (readAll!, ok)
-      ∷ [])
-  -- and empties the tables, also with the rows in force; a refused one does not
-  pub emptied : InTurn stocked ((configure! (by 0 5) tables, ok) ∷ (readAll!, ok) ∷ [])
-  pub kept : InTurn stocked ((configure! (by 0 5) sizeless, refused 14 3) ∷ (readAll!, stock) ∷ [])
+  pub replaced : InTurn stocked replaced
+  pub emptied : InTurn stocked emptied
+  pub kept : InTurn stocked kept
 
 -- ---- 14
 
@@ -272,12 +313,19 @@ refusedRows =
     ∷ set (withActions (action 1 [] ∷ action 2 [] ∷ [])) 31 1
     ∷ []
 
+-- CONFIGUREs with one of these rows after the first n others
+abbrev pub allowedAt : ℕ → List (List ℕ × Reply)
+allowedAt n = all ok (map (placed n) allowedRows)
+
+abbrev pub refusedAt : ℕ → List (List ℕ × Reply)
+refusedAt n = all (refused 14 3) (map (placed n) refusedRows)
+
 pub record Configurations : Type 0 where
-  pub allowed : Each leading (all ok (map (placed 1) allowedRows))
+  pub allowed : Each leading (allowedAt 1)
   -- as the first of eight rows, as the second, and as the last
-  pub first-row : Each leading (all (refused 14 3) (map (placed 0) refusedRows))
-  pub second-row : Each leading (all (refused 14 3) (map (placed 1) refusedRows))
-  pub last-row : Each leading (all (refused 14 3) (map (placed 7) refusedRows))
+  pub first-row : Each leading (refusedAt 0)
+  pub second-row : Each leading (refusedAt 1)
+  pub last-row : Each leading (refusedAt 7)
   -- size 256 and size 257
   pub sizes : Each leading
       ((configure! (by 0 5) (set (row 1 0 0 exact 8) 5 1 ∷ []), ok)
@@ -287,20 +335,20 @@ pub record Configurations : Type 0 where
 -- ---- 17, 18 and 19
 
 -- the pairs of updates that are refused
-abbrev is17 : List ℕ
+abbrev pub is17 : List ℕ
 is17 = 17 ∷ 3 ∷ []
 
-abbrev is18 : List ℕ
+abbrev pub is18 : List ℕ
 is18 = 18 ∷ 11 ∷ []
 
-abbrev is19 : List ℕ
+abbrev pub is19 : List ℕ
 is19 = 19 ∷ 3 ∷ []
 
 -- a table of each kind, under the kind's number: one field of width 8, action 1, and action 2 with a parameter of width 4
 abbrev kindRow : ℕ → List ℕ
 kindRow k = rowWith k 0 9 (field k 8 ∷ []) (action 1 [] ∷ action 2 (4 ∷ []) ∷ [])
 
-abbrev kinds : List (List ℕ)
+abbrev pub kinds : List (List ℕ)
 kinds = configured (map kindRow (exact ∷ lpm ∷ ternary ∷ range ∷ optional ∷ []))
 
 -- INSERT into the table of a kind: a priority and the two values of the slot
@@ -322,7 +370,7 @@ putAt priority = insert! (entry ternary (priority ++ drop 4 (key 0 ternary (val1
 abbrev length17 : List ℕ
 length17 = 17 ∷ replicate 16 0
 
-abbrev allowedUpdates : List (List ℕ)
+abbrev pub allowedUpdates : List (List ℕ)
 allowedUpdates =
     put exact 0 (val1 0xFF) none17
     ∷ put lpm 0 (val1 0xA0) (val1 3)
@@ -340,7 +388,7 @@ allowedUpdates =
     ∷ putWith (val1 0x0F ∷ [])
     ∷ []
 
-abbrev refused17 : List (List ℕ)
+abbrev pub refused17 : List (List ℕ)
 refused17 =
     -- slot kind not allowed
     insert! (entry exact (key 0 lpm (val1 7) (val1 8)) 1)
@@ -381,7 +429,7 @@ refused17 =
     ∷ putWith (val1 7 ∷ none17 ∷ none17 ∷ set none17 16 1 ∷ [])
     ∷ []
 
-abbrev refused18 : List (List ℕ)
+abbrev pub refused18 : List (List ℕ)
 refused18 =
     put exact 0 (val2 1 0) none17
     ∷ put lpm 0 (val2 1 0) (val1 8)
@@ -393,7 +441,7 @@ refused18 =
     ∷ putWith (val1 0x10 ∷ [])
     ∷ []
 
-abbrev refused19 : List (List ℕ)
+abbrev pub refused19 : List (List ℕ)
 refused19 =
     -- prefix length 0, 9 and 0108, which is no 18; bits below the prefix
     put lpm 0 (val1 0) (val1 0)
@@ -418,11 +466,14 @@ refused19 =
     ∷ without lpm 1
     ∷ []
 
--- INSERT of two slots, an exact and a ternary one being due
+-- table 1 with an exact and a ternary field, and INSERT into it of two slots
+abbrev pub exactAndTernary : List ℕ
+exactAndTernary = rowWith 1 0 4 (field exact 8 ∷ field ternary 8 ∷ []) (action 1 [] ∷ [])
+
 abbrev putBoth : ℕ → List ℕ → List ℕ → List ℕ
 putBoth priority a b = insert! (entry 1 (keyWith priority (a ∷ b ∷ [])) 1)
 
-abbrev bothSlots : List (List ℕ × List ℕ)
+abbrev pub bothSlots : List (List ℕ × List ℕ)
 bothSlots =
     (putBoth 0 (slot exact (val2 1 0) none17) (slot range (val1 1) (val1 2)), is17)
     ∷ (putBoth 1 (slot ternary (val1 5) (val1 7)) (slot exact (val1 7) none17), is17)
@@ -432,27 +483,30 @@ bothSlots =
     ∷ (putBoth 1 (slot exact (val1 7) none17) (slot omitted none17 none17), done)
     ∷ []
 
--- INSERT into the table of `four16`: the rule of the second, third or fourth slot is broken; and none is
-abbrev eachSlot : List (List ℕ × List ℕ)
-eachSlot =
-    (insert! (with1234 (set keyShortest 41 8)), is19)
-    ∷ (insert! (with1234 (set keyShortest 76 3)), is19)
-    ∷ (insert! (with1234 (set keyShortest 112 1)), is19)
-    ∷ (insert! (with1234 keyShortest), done)
-    ∷ []
-
 -- table 2 with three exact fields and an optional one, and INSERT into it with a priority
-abbrev lastOptional : List ℕ
+abbrev pub lastOptional : List ℕ
 lastOptional = rowWith 2 0 4 (replicate 3 (field exact 8) ++ (field optional 8 ∷ [])) (action 1 [] ∷ [])
 
 abbrev putLast : ℕ → List ℕ
 putLast priority = insert! (entry 2 (keyWith priority (replicate 3 (slot exact (val1 7) none17))) 1)
 
+-- INSERT into the table of `four16`: the rule of the second, third or fourth slot is broken, and none is; and into that of
+-- `lastOptional`, with a priority of 0 and of 1
+abbrev pub eachSlot : List (List ℕ × List ℕ)
+eachSlot =
+    (insert! (with1234 (set keyShortest 41 8)), is19)
+    ∷ (insert! (with1234 (set keyShortest 76 3)), is19)
+    ∷ (insert! (with1234 (set keyShortest 112 1)), is19)
+    ∷ (insert! (with1234 keyShortest), done)
+    ∷ (putLast 0, is19)
+    ∷ (putLast 1, done)
+    ∷ []
+
 -- table 1 with exact fields and parameters of widths 1 to 4, and INSERT into it of values of one byte each
 abbrev widths : List ℕ
 widths = 1 ∷ 2 ∷ 3 ∷ 4 ∷ []
 
-abbrev byWidths : List ℕ
+abbrev pub byWidths : List ℕ
 byWidths = rowWith 1 0 9 (map (field exact) widths) (action 1 widths ∷ [])
 
 abbrev putAll : List ℕ → List ℕ → List ℕ
@@ -466,14 +520,14 @@ largest = 1 ∷ 3 ∷ 7 ∷ 15 ∷ []
 abbrev larger : List (List ℕ)
 larger = set largest 0 2 ∷ set largest 1 4 ∷ set largest 2 8 ∷ set largest 3 16 ∷ []
 
-abbrev eachWidth : List (List ℕ × List ℕ)
+abbrev pub eachWidth : List (List ℕ × List ℕ)
 eachWidth =
     all is18 (map (λ (xs : List ℕ). putAll xs largest) larger ++ map (putAll largest) larger)
     ++ all is17 (putAll (take 3 largest) largest ∷ putAll largest (take 3 largest) ∷ [])
     ++ ((putAll largest largest, done) ∷ [])
 
 -- tables of lpm, ternary and range, of width 1 under the kind's number, and of width 128 under 10 more
-abbrev narrowAndWide : List (List ℕ)
+abbrev pub narrowAndWide : List (List ℕ)
 narrowAndWide = concat (map (λ (k : ℕ). row k 0 9 k 1 ∷ row (10 + k) 0 9 k 128 ∷ []) (lpm ∷ ternary ∷ range ∷ []))
 
 -- INSERT into a table of width 128
@@ -490,7 +544,7 @@ notTop = 0x7F ∷ replicate 15 0xFF
 abbrev even : List ℕ
 even = replicate 15 0xFF ++ (0xFE ∷ [])
 
-abbrev ends : List (List ℕ × List ℕ)
+abbrev pub ends : List (List ℕ × List ℕ)
 ends =
     -- width 1: prefix length 1 only, and the whole range is 0 to 1
     (put lpm 0 (val1 1) (val1 1), done)
@@ -524,25 +578,29 @@ ends =
     ∷ (putWide range 1 over64 ones64, is19)
     ∷ []
 
+-- a WRITE of n updates with the pair of each, of which none is refused, and of which some are
+abbrev pub noneRefused : ℕ → List (List ℕ × List ℕ) → List (List ℕ × Reply)
+noneRefused n cases = batch! (by 0 5) 0 0 n cases ∷ []
+
+abbrev pub someRefused : ℕ → List (List ℕ × List ℕ) → List (List ℕ × Reply)
+someRefused n cases = batch! (by 0 5) 23 2 n cases ∷ []
+
 pub record Updates : Type 0 where
-  pub allowed : Each kinds (batch! (by 0 5) 0 0 14 (all done allowedUpdates) ∷ [])
-  pub seventeen : Each kinds (batch! (by 0 5) 23 2 31 (all is17 refused17) ∷ [])
-  pub eighteen : Each kinds (batch! (by 0 5) 23 2 8 (all is18 refused18) ∷ [])
-  pub nineteen : Each kinds (batch! (by 0 5) 23 2 16 (all is19 refused19) ∷ [])
+  pub allowed : Each kinds (noneRefused 14 (all done allowedUpdates))
+  pub seventeen : Each kinds (someRefused 31 (all is17 refused17))
+  pub eighteen : Each kinds (someRefused 8 (all is18 refused18))
+  pub nineteen : Each kinds (someRefused 16 (all is19 refused19))
   -- every slot is looked at for 17, then every one for 18, then for 19
-  pub both-slots : Each (configured (rowWith 1 0 4 (field exact 8 ∷ field ternary 8 ∷ []) (action 1 [] ∷ []) ∷ []))
-      (batch! (by 0 5) 23 2 6 bothSlots ∷ [])
+  pub both-slots : Each (configured (exactAndTernary ∷ [])) (someRefused 6 bothSlots)
   -- the last slot too; and the last field asks for a priority as the others do
-  pub each-slot : Each (configured (four16 ∷ lastOptional ∷ []))
-      (batch! (by 0 5) 23 2 6 (eachSlot ++ ((putLast 0, is19) ∷ (putLast 1, done) ∷ [])) ∷ [])
+  pub each-slot : Each (configured (four16 ∷ lastOptional ∷ [])) (someRefused 6 eachSlot)
   -- every slot and every parameter by its own width
-  pub each-width : Each (configured (byWidths ∷ [])) (batch! (by 0 5) 23 2 11 eachWidth ∷ [])
+  pub each-width : Each (configured (byWidths ∷ [])) (someRefused 11 eachWidth)
   -- the rules of lpm, ternary and range at the widths 1 and 128
-  pub narrow-and-wide : Each (configured narrowAndWide) (batch! (by 0 5) 23 2 26 ends ∷ [])
+  pub narrow-and-wide : Each (configured narrowAndWide) (someRefused 26 ends)
   -- 128 one bits fit a width of 128 and not one of 127
   pub widest : Each (configured (row 1 0 4 exact 128 ∷ row 2 0 4 exact 127 ∷ []))
-      (batch! (by 0 5) 23 2 2
+      (someRefused 2
       ((insert! (entry 1 (key 0 exact (val ones128) none17) 1), done)
       ∷ (insert! (entry 2 (key 0 exact (val ones128) none17) 1), is18)
-      ∷ [])
-      ∷ [])
+      ∷ []))

@@ -40,16 +40,19 @@ longer f = f ++ (0 ∷ [])
 abbrev badHeads : List (List ℕ)
 badHeads = headBy 1 0 2 5 ∷ headBy 1 0 0 5 ∷ set (byLong over64) 9 0 ∷ headBy 1 0 1 0 ∷ []
 
+-- t 8, sizes adding to 256, and n 64
+abbrev pub largest : List (List ℕ × Reply)
+largest =
+    (configure! (by 0 5) (map (λ (n : ℕ). row n 0 32 exact 8) (1 ∷ 2 ∷ 3 ∷ 4 ∷ 5 ∷ 6 ∷ 7 ∷ 8 ∷ [])), ok)
+    ∷ (write! (by 0 5) 0 (replicate 64 (delete! (item 8 7 1))), bytes 23 2 64 (replicate 64 (21 ∷ 5 ∷ [])))
+    ∷ []
+
 abbrev Malformed : List (List ℕ) → Type 0
 Malformed frames = Each [] (all (refused 1 3) frames)
 
 pub record Frames : Type 0 where
   pub formed : InTurn [] session
-  -- t 8, sizes adding to 256, and n 64
-  pub largest : InTurn leading
-      ((configure! (by 0 5) (map (λ (n : ℕ). row n 0 32 exact 8) (1 ∷ 2 ∷ 3 ∷ 4 ∷ 5 ∷ 6 ∷ 7 ∷ 8 ∷ [])), ok)
-      ∷ (write! (by 0 5) 0 (replicate 64 (delete! (item 8 7 1))), bytes 23 2 64 (replicate 64 (21 ∷ 5 ∷ [])))
-      ∷ [])
+  pub largest : InTurn leading largest
   -- frame empty, command unknown
   pub command : Malformed ([] ∷ map (commanded 0x00) shapes ++ map (commanded 0x07) shapes)
   -- length wrong
