@@ -9,7 +9,6 @@ use mathlib.Core.Path.{_≡_, refl, sym, ap, _∙_}
 use mathlib.Core.List.{List, []}
 use denote.Ref.{now}
 use Rattle.buffers.specs.Splice.{splice}
-use borrow.Author.Needs.{needs}
 use Rattle.buffers.proofs.move_up.Statement.{statement}
 use Rattle.buffers.proofs.move_up.Tie as tie
 
@@ -28,22 +27,22 @@ loop-holds c =
     (omega arith, refl, splice-none _ _ ∙ ap (splice (now (a .s)) (a .to + a .n)) (sym e))
 
 sub-left : tie.Need-sub-left Inv-loop μ-loop
-sub-left c = search needs
+sub-left c = omega arith
 
 add-s : tie.Need-add-s Inv-loop μ-loop
-add-s c = search needs
+add-s c = omega arith
 
 slice-read-s : tie.Need-slice-read-s Inv-loop μ-loop
-slice-read-s c = search needs
+slice-read-s c = omega arith
 
 add-s-2 : tie.Need-add-s-2 Inv-loop μ-loop
-add-s-2 c = search needs
+add-s-2 c = omega arith
 
 slice-write-s : tie.Need-slice-write-s Inv-loop μ-loop
-slice-write-s c = search needs
+slice-write-s c = omega arith
 
 loop-less : tie.Need-loop-less Inv-loop μ-loop
-loop-less c = search needs
+loop-less c = omega arith
 
 loop-again : tie.Need-loop-again Inv-loop μ-loop
 loop-again c =
@@ -67,7 +66,7 @@ loop-again c =
     )
 
 same-length : tie.Need-same-length Inv-loop μ-loop
-same-length c = search needs
+same-length c = omega arith
 
 returns : tie.Need-returns Inv-loop μ-loop
 returns c =

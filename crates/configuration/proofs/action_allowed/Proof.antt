@@ -48,7 +48,7 @@ loop-holds c =
     (search needs, e ∙ (rw (eq-eqb (getD a 0 0) 1 (d .if1 .left), le-leb (getD a 4 0) 4 (c .if2 .left))))
 
 add-width-allowed : tie.Need-add-width-allowed Inv-loop μ-loop
-add-width-allowed c = search needs
+add-width-allowed c = omega arith
 
 shared-slice-read-width-allowed : tie.Need-shared-slice-read-width-allowed Inv-loop μ-loop
 shared-slice-read-width-allowed c = search needs
@@ -67,10 +67,10 @@ returns-3 c =
     sym (l .loop .inv .1 ∙ left-refused widthPasses 1 5 4 n n a (l .loop .i) (omega arith) (omega arith) e q)
 
 add-i : tie.Need-add-i Inv-loop μ-loop
-add-i c = search needs
+add-i c = omega arith
 
 loop-less : tie.Need-loop-less Inv-loop μ-loop
-loop-less c = search needs
+loop-less c = omega arith
 
 loop-again : tie.Need-loop-again Inv-loop μ-loop
 loop-again c =
@@ -83,16 +83,16 @@ loop-again c =
     (omega arith, l .loop .inv .1 ∙ left-passed widthPasses 1 5 4 n n a (l .loop .i) (omega arith) (omega arith) e q)
 
 add-past : tie.Need-add-past Inv-loop μ-loop
-add-past c = search needs
+add-past c = omega arith
 
 sub-all-zero : tie.Need-sub-all-zero Inv-loop μ-loop
-sub-all-zero c = search needs
+sub-all-zero c = omega arith
 
 part-all-zero-start : tie.Need-part-all-zero-start Inv-loop μ-loop
-part-all-zero-start c = search needs
+part-all-zero-start c = omega arith
 
 part-all-zero-end : tie.Need-part-all-zero-end Inv-loop μ-loop
-part-all-zero-end c = search needs
+part-all-zero-end c = omega arith
 
 all-zero-requires : tie.Need-all-zero-requires Inv-loop μ-loop
 all-zero-requires c κs = search needs

@@ -40,22 +40,22 @@ loop-holds c =
     (search needs, actions-asked b (count-fits (getD b 16 0) (c .before .if1 .left) (c .if2 .left)))
 
 mul-at : tie.Need-mul-at Inv-loop μ-loop
-mul-at c = search needs
+mul-at c = omega arith
 
 add-at : tie.Need-add-at Inv-loop μ-loop
-add-at c = search needs
+add-at c = omega arith
 
 add-end : tie.Need-add-end Inv-loop μ-loop
-add-end c = search needs
+add-end c = omega arith
 
 sub-action-allowed : tie.Need-sub-action-allowed Inv-loop μ-loop
-sub-action-allowed c = search needs
+sub-action-allowed c = omega arith
 
 part-action-allowed-start : tie.Need-part-action-allowed-start Inv-loop μ-loop
-part-action-allowed-start c = search needs
+part-action-allowed-start c = omega arith
 
 part-action-allowed-end : tie.Need-part-action-allowed-end Inv-loop μ-loop
-part-action-allowed-end c = search needs
+part-action-allowed-end c = omega arith
 
 action-allowed-requires : tie.Need-action-allowed-requires Inv-loop μ-loop
 action-allowed-requires c κs = search needs
@@ -73,16 +73,16 @@ integer-requires : tie.Need-integer-requires Inv-loop μ-loop
 integer-requires c κs = search needs
 
 sub-id-repeated : tie.Need-sub-id-repeated Inv-loop μ-loop
-sub-id-repeated c = search needs
+sub-id-repeated c = omega arith
 
 part-id-repeated-start : tie.Need-part-id-repeated-start Inv-loop μ-loop
-part-id-repeated-start c = search needs
+part-id-repeated-start c = omega arith
 
 part-id-repeated-end : tie.Need-part-id-repeated-end Inv-loop μ-loop
-part-id-repeated-end c = search needs
+part-id-repeated-end c = omega arith
 
 add-id-repeated : tie.Need-add-id-repeated Inv-loop μ-loop
-add-id-repeated c = search needs
+add-id-repeated c = omega arith
 
 id-repeated-requires : tie.Need-id-repeated-requires Inv-loop μ-loop
 id-repeated-requires c κs = search needs
@@ -100,10 +100,10 @@ returns-4 c =
     sym (l .loop .inv .1 ∙ action-repeated (getD b 16 0) i b (omega arith) (omega arith) e f h (c .if4 .taken))
 
 add-i : tie.Need-add-i Inv-loop μ-loop
-add-i c = search needs
+add-i c = omega arith
 
 loop-less : tie.Need-loop-less Inv-loop μ-loop
-loop-less c = search needs
+loop-less c = omega arith
 
 loop-again : tie.Need-loop-again Inv-loop μ-loop
 loop-again c =
@@ -119,19 +119,19 @@ loop-again c =
     (omega arith, l .loop .inv .1 ∙ action-passed (getD b 16 0) i b (omega arith) (omega arith) e f h p (c .if4 .left))
 
 mul-past : tie.Need-mul-past Inv-loop μ-loop
-mul-past c = search needs
+mul-past c = omega arith
 
 add-past : tie.Need-add-past Inv-loop μ-loop
-add-past c = search needs
+add-past c = omega arith
 
 sub-all-zero : tie.Need-sub-all-zero Inv-loop μ-loop
-sub-all-zero c = search needs
+sub-all-zero c = omega arith
 
 part-all-zero-start : tie.Need-part-all-zero-start Inv-loop μ-loop
-part-all-zero-start c = search needs
+part-all-zero-start c = omega arith
 
 part-all-zero-end : tie.Need-part-all-zero-end Inv-loop μ-loop
-part-all-zero-end c = search needs
+part-all-zero-end c = omega arith
 
 all-zero-requires : tie.Need-all-zero-requires Inv-loop μ-loop
 all-zero-requires c κs = search needs

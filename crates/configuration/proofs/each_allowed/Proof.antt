@@ -32,19 +32,19 @@ loop-holds : tie.Need-loop-holds Inv-loop μ-loop
 loop-holds c = (search needs, rows-asked (c .before .args .t) (c .before .args .b .now))
 
 mul-at : tie.Need-mul-at Inv-loop μ-loop
-mul-at c = search needs
+mul-at c = omega arith
 
 add-end : tie.Need-add-end Inv-loop μ-loop
-add-end c = search needs
+add-end c = omega arith
 
 sub-row-allowed : tie.Need-sub-row-allowed Inv-loop μ-loop
-sub-row-allowed c = search needs
+sub-row-allowed c = omega arith
 
 part-row-allowed-start : tie.Need-part-row-allowed-start Inv-loop μ-loop
-part-row-allowed-start c = search needs
+part-row-allowed-start c = omega arith
 
 part-row-allowed-end : tie.Need-part-row-allowed-end Inv-loop μ-loop
-part-row-allowed-end c = search needs
+part-row-allowed-end c = omega arith
 
 row-allowed-requires : tie.Need-row-allowed-requires Inv-loop μ-loop
 row-allowed-requires c κs = simp (length-take, length-drop) (omega arith)
@@ -61,7 +61,7 @@ integer-requires : tie.Need-integer-requires Inv-loop μ-loop
 integer-requires c κs = search needs
 
 add-id-repeated : tie.Need-add-id-repeated Inv-loop μ-loop
-add-id-repeated c = search needs
+add-id-repeated c = omega arith
 
 id-repeated-requires : tie.Need-id-repeated-requires Inv-loop μ-loop
 id-repeated-requires c κs = search needs
@@ -78,10 +78,10 @@ returns-2 c =
     sym (l .loop .inv .1 ∙ once-repeated alone tableOf (a .t) 53 (a .b .now) i (omega arith) (tested r) f d (c .if2 .taken))
 
 add-i : tie.Need-add-i Inv-loop μ-loop
-add-i c = search needs
+add-i c = omega arith
 
 loop-less : tie.Need-loop-less Inv-loop μ-loop
-loop-less c = search needs
+loop-less c = omega arith
 
 loop-again : tie.Need-loop-again Inv-loop μ-loop
 unfolding ids rules.rowOf

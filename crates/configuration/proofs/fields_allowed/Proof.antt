@@ -41,10 +41,10 @@ loop-holds c =
     (search needs, fields-asked b (count-fits (getD b 7 0) (c .before .if1 .left) (c .if2 .left)))
 
 mul-at : tie.Need-mul-at Inv-loop μ-loop
-mul-at c = search needs
+mul-at c = omega arith
 
 add-at : tie.Need-add-at Inv-loop μ-loop
-add-at c = search needs
+add-at c = omega arith
 
 at-requires : tie.Need-at-requires Inv-loop μ-loop
 at-requires c κs = search needs
@@ -63,10 +63,10 @@ returns-3 c =
     sym (l .loop .inv .1 ∙ left-refused fieldPasses 2 8 8 n (2 * n) b (l .loop .i) (omega arith) (omega arith) e q)
 
 add-i : tie.Need-add-i Inv-loop μ-loop
-add-i c = search needs
+add-i c = omega arith
 
 loop-less : tie.Need-loop-less Inv-loop μ-loop
-loop-less c = search needs
+loop-less c = omega arith
 
 loop-again : tie.Need-loop-again Inv-loop μ-loop
 loop-again c =
@@ -79,19 +79,19 @@ loop-again c =
     (omega arith, l .loop .inv .1 ∙ left-passed fieldPasses 2 8 8 n (2 * n) b (l .loop .i) (omega arith) (omega arith) e q)
 
 mul-past : tie.Need-mul-past Inv-loop μ-loop
-mul-past c = search needs
+mul-past c = omega arith
 
 add-past : tie.Need-add-past Inv-loop μ-loop
-add-past c = search needs
+add-past c = omega arith
 
 sub-all-zero : tie.Need-sub-all-zero Inv-loop μ-loop
-sub-all-zero c = search needs
+sub-all-zero c = omega arith
 
 part-all-zero-start : tie.Need-part-all-zero-start Inv-loop μ-loop
-part-all-zero-start c = search needs
+part-all-zero-start c = omega arith
 
 part-all-zero-end : tie.Need-part-all-zero-end Inv-loop μ-loop
-part-all-zero-end c = search needs
+part-all-zero-end c = omega arith
 
 all-zero-requires : tie.Need-all-zero-requires Inv-loop μ-loop
 all-zero-requires c κs = search needs

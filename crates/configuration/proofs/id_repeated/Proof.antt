@@ -42,10 +42,10 @@ returns c =
     sym (l .loop .inv ∙ (rw (ids-next (a .n) (a .w) (l .loop .j) (a .b .now) (omega arith) (omega arith), q)))
 
 add-j : tie.Need-add-j Inv-loop μ-loop
-add-j c = search needs
+add-j c = omega arith
 
 loop-less : tie.Need-loop-less Inv-loop μ-loop
-loop-less c = search needs
+loop-less c = omega arith
 
 loop-again : tie.Need-loop-again Inv-loop μ-loop
 loop-again c =

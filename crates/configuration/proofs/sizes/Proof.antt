@@ -31,10 +31,10 @@ loop-holds : tie.Need-loop-holds Inv-loop μ-loop
 loop-holds c = (search needs, search needs, zero-add _)
 
 mul-integer : tie.Need-mul-integer Inv-loop μ-loop
-mul-integer c = search needs
+mul-integer c = omega arith
 
 add-integer : tie.Need-add-integer Inv-loop μ-loop
-add-integer c = search needs
+add-integer c = omega arith
 
 integer-requires : tie.Need-integer-requires Inv-loop μ-loop
 integer-requires c κs = search needs
@@ -43,10 +43,10 @@ add-total : tie.Need-add-total Inv-loop μ-loop
 add-total c = let h = few c in search needs
 
 add-i : tie.Need-add-i Inv-loop μ-loop
-add-i c = search needs
+add-i c = omega arith
 
 loop-less : tie.Need-loop-less Inv-loop μ-loop
-loop-less c = search needs
+loop-less c = omega arith
 
 loop-again : tie.Need-loop-again Inv-loop μ-loop
 loop-again c =
