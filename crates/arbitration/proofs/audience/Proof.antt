@@ -4,7 +4,6 @@ use Prim.Native.Nat.{ℕ}
 use mathlib.Core.Path.{_≡_, sym, ap, _∙_}
 use mathlib.Core.Bool.{true, false}
 use mathlib.Core.List.{List, [], _∷_}
-use borrow.Author.Needs.{needs}
 use Rattle.rules.specs.Streams as rules
 use Rattle.rules.specs.Streams.{bindRecords}
 use Rattle.election.specs.Meaning.{headOf, bindingOf, roleOr}
@@ -23,10 +22,10 @@ returns c = λ device e w p.
     ap (λ (o : rules.Outcome). o .records) (arbitrate-refused e (a .stream) device (headOf (a .head)) (sym (c .if1 .taken) ∙ p))
 
 leads-requires : tie.Need-leads-requires
-leads-requires c κs = search needs
+leads-requires c κs = tt
 
 closing-audience-requires : tie.Need-closing-audience-requires
-closing-audience-requires c κs = search needs
+closing-audience-requires c κs = tt
 
 returns-2 : tie.Need-returns-2
 returns-2 c = λ device e w p.
@@ -40,10 +39,10 @@ returns-2 c = λ device e w p.
     (c .closing-audience .ensures e (a .stream) (bindingOf (a .scan .own)) (w .own) q (l .leads .ensures e (h .role) _ w))
 
 keeps-requires : tie.Need-keeps-requires
-keeps-requires c κs = search needs
+keeps-requires c κs = tt
 
 leadership-requires : tie.Need-leadership-requires
-leadership-requires c κs = search needs
+leadership-requires c κs = tt
 
 returns-3 : tie.Need-returns-3
 unfolding recordsOf bindRecords

@@ -7,7 +7,6 @@ use mathlib.Core.List.{List}
 use lib.ListN.{drop}
 use lib.Dec.{eqb}
 use denote.Ref.{now}
-use borrow.Author.Needs.{needs}
 use borrow.Author.Tests.{eq-eqb, ne-eqb}
 use Rattle.rules.specs.Bytes.{if_then_else_, part}
 use Rattle.rules.specs.Entry.{hasAction, widthsOf}
@@ -47,19 +46,19 @@ next c {b} q =
     (rw (l .loop .inv .0, first, own), rw (l .loop .inv .1, first, own))
 
 count-requires : tie.Need-count-requires Inv-loop μ-loop
-count-requires c = search needs
+count-requires c = omega arith
 
 loop-holds : tie.Need-loop-holds Inv-loop μ-loop
 loop-holds c = (refl, refl)
 
 mul-at : tie.Need-mul-at Inv-loop μ-loop
-mul-at c = search needs
+mul-at c = omega arith
 
 add-at : tie.Need-add-at Inv-loop μ-loop
-add-at c = search needs
+add-at c = omega arith
 
 integer-requires : tie.Need-integer-requires Inv-loop μ-loop
-integer-requires c = search needs
+integer-requires c = omega arith
 
 returns : tie.Need-returns Inv-loop μ-loop
 returns c =
@@ -68,10 +67,10 @@ returns c =
     (sym (hit .0), (omega arith, λ y. sym (hit .1)))
 
 add-i : tie.Need-add-i Inv-loop μ-loop
-add-i c = search needs
+add-i c = omega arith
 
 loop-less : tie.Need-loop-less Inv-loop μ-loop
-loop-less c = search needs
+loop-less c = omega arith
 
 loop-again : tie.Need-loop-again Inv-loop μ-loop
 loop-again c =

@@ -1,8 +1,8 @@
 -- Right because of a DELETE the action is not looked at, and of the others all is. Assumes nothing.
+use native.Mathlib.Omega.{arith}
 use mathlib.Core.Path.{refl}
 use mathlib.Core.Bool.{and-true}
 use denote.Ref.{now}
-use borrow.Author.Needs.{needs}
 use borrow.Author.Tests.{eq-eqb, ne-eqb}
 use Rattle.rules.specs.Update.{entryFormed, entryFits}
 use Rattle.rules.specs.Key.{keyFormed, keyFits}
@@ -11,16 +11,16 @@ use Rattle.checks.proofs.entry_reason.Statement.{statement}
 use Rattle.checks.proofs.entry_reason.Tie as tie
 
 sub-key-reason : tie.Need-sub-key-reason
-sub-key-reason c = search needs
+sub-key-reason c = omega arith
 
 part-key-reason-start : tie.Need-part-key-reason-start
-part-key-reason-start c = search needs
+part-key-reason-start c = omega arith
 
 part-key-reason-end : tie.Need-part-key-reason-end
-part-key-reason-end c = search needs
+part-key-reason-end c = omega arith
 
 key-reason-requires : tie.Need-key-reason-requires
-key-reason-requires c = search needs
+key-reason-requires c = omega arith
 
 returns : tie.Need-returns
 unfolding entryFormed entryFits
@@ -32,7 +32,7 @@ returns c =
     rw (eq-eqb (a .kind) 3 (t .if1 .taken), and-true (keyFormed row e), and-true (keyFits row e)) (c .key-reason .ensures e refl)
 
 whole-reason-requires : tie.Need-whole-reason-requires
-whole-reason-requires c = search needs
+whole-reason-requires c = omega arith
 
 returns-2 : tie.Need-returns-2
 unfolding entryFormed entryFits

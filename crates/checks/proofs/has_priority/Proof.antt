@@ -41,22 +41,22 @@ next c =
     rw (l .loop .inv, fields-next (row l) i (omega arith), field-kind (8 + 2 * i) (row l))
 
 count-requires : tie.Need-count-requires Inv-loop μ-loop
-count-requires c = search needs
+count-requires c = omega arith
 
 loop-holds : tie.Need-loop-holds Inv-loop μ-loop
 loop-holds c = refl
 
 mul-needs-priority : tie.Need-mul-needs-priority Inv-loop μ-loop
-mul-needs-priority c = search needs
+mul-needs-priority c = omega arith
 
 add-needs-priority : tie.Need-add-needs-priority Inv-loop μ-loop
-add-needs-priority c = search needs
+add-needs-priority c = omega arith
 
 shared-slice-read-needs-priority : tie.Need-shared-slice-read-needs-priority Inv-loop μ-loop
-shared-slice-read-needs-priority c = search needs
+shared-slice-read-needs-priority c = omega arith
 
 needs-priority-requires : tie.Need-needs-priority-requires Inv-loop μ-loop
-needs-priority-requires c = search needs
+needs-priority-requires c = omega arith
 
 returns : tie.Need-returns Inv-loop μ-loop
 returns c =
@@ -65,10 +65,10 @@ returns c =
     sym (rw hit at (next t))
 
 add-i : tie.Need-add-i Inv-loop μ-loop
-add-i c = search needs
+add-i c = omega arith
 
 loop-less : tie.Need-loop-less Inv-loop μ-loop
-loop-less c = search needs
+loop-less c = omega arith
 
 loop-again : tie.Need-loop-again Inv-loop μ-loop
 loop-again c =

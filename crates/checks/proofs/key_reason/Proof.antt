@@ -1,10 +1,10 @@
 -- Right because the three tests are made in their order, of the key's own slots and priority. Assumes nothing.
+use native.Mathlib.Omega.{arith}
 use mathlib.Core.Path.{_≡_, sym, _∙_}
 use mathlib.Core.Bool.{Bool}
 use mathlib.Core.List.{List}
 use Prim.Native.Nat.{ℕ}
 use denote.Ref.{now}
-use borrow.Author.Needs.{needs}
 use borrow.Author.Tests.{not-true, not-false}
 use Rattle.rules.specs.Bytes.{part}
 use Rattle.rules.specs.Reason.{first}
@@ -37,32 +37,32 @@ ruled c k h e =
     ∙ sym (c .key-rules .ensures) ∙ e
 
 sub-slots-pass : tie.Need-sub-slots-pass
-sub-slots-pass c = search needs
+sub-slots-pass c = omega arith
 
 part-slots-pass-start : tie.Need-part-slots-pass-start
-part-slots-pass-start c = search needs
+part-slots-pass-start c = omega arith
 
 part-slots-pass-end : tie.Need-part-slots-pass-end
-part-slots-pass-end c = search needs
+part-slots-pass-end c = omega arith
 
 slots-pass-requires : tie.Need-slots-pass-requires
-slots-pass-requires c = search needs
+slots-pass-requires c = omega arith
 
 returns : tie.Need-returns
 unfolding first
 returns c k h = rw (formed (c .before) k h (not-true _ (c .if1 .taken)))
 
 sub-slots-pass-2 : tie.Need-sub-slots-pass-2
-sub-slots-pass-2 c = search needs
+sub-slots-pass-2 c = omega arith
 
 part-slots-pass-start-2 : tie.Need-part-slots-pass-start-2
-part-slots-pass-start-2 c = search needs
+part-slots-pass-start-2 c = omega arith
 
 part-slots-pass-end-2 : tie.Need-part-slots-pass-end-2
-part-slots-pass-end-2 c = search needs
+part-slots-pass-end-2 c = omega arith
 
 slots-pass-requires-2 : tie.Need-slots-pass-requires-2
-slots-pass-requires-2 c = search needs
+slots-pass-requires-2 c = omega arith
 
 returns-2 : tie.Need-returns-2
 unfolding first
@@ -71,19 +71,19 @@ returns-2 c k h =
     rw (formed (g .before) k h (not-false _ (g .if1 .left)), fits (c .before) k h (not-true _ (c .if2 .taken)))
 
 integer-requires : tie.Need-integer-requires
-integer-requires c = search needs
+integer-requires c = omega arith
 
 sub-key-rules : tie.Need-sub-key-rules
-sub-key-rules c = search needs
+sub-key-rules c = omega arith
 
 part-key-rules-start : tie.Need-part-key-rules-start
-part-key-rules-start c = search needs
+part-key-rules-start c = omega arith
 
 part-key-rules-end : tie.Need-part-key-rules-end
-part-key-rules-end c = search needs
+part-key-rules-end c = omega arith
 
 key-rules-requires : tie.Need-key-rules-requires
-key-rules-requires c = search needs
+key-rules-requires c = omega arith
 
 returns-3 : tie.Need-returns-3
 unfolding first

@@ -1,8 +1,8 @@
 -- Right because the rule is the conjunction of the two. Assumes nothing.
+use native.Mathlib.Omega.{arith}
 use mathlib.Core.Path.{_≡_, sym, _∙_}
 use mathlib.Core.Bool.{Bool}
 use denote.Ref.{now}
-use borrow.Author.Needs.{needs}
 use Rattle.rules.specs.Bytes.{parts}
 use Rattle.rules.specs.Key.{slotRule, pairwise}
 use Rattle.rows.specs.Meaning.{rowOf}
@@ -11,10 +11,10 @@ use Rattle.checks.proofs.key_rules.Statement.{statement}
 use Rattle.checks.proofs.key_rules.Tie as tie
 
 slots-pass-requires : tie.Need-slots-pass-requires
-slots-pass-requires c κs = search needs
+slots-pass-requires c κs = omega arith
 
 priority-rule-requires : tie.Need-priority-rule-requires
-priority-rule-requires c κs = search needs
+priority-rule-requires c κs = omega arith
 
 -- what the rule of the slots came out as
 ruled : (c : tie.After-slots-pass) {b : Bool} → c .slots-pass .result ≡ b →

@@ -1,23 +1,23 @@
 -- Right because each test asks its own question of the value. Assumes nothing.
-use borrow.Author.Needs.{needs}
+use native.Mathlib.Omega.{arith}
 use Rattle.checks.specs.Tests.{parameterPasses}
 use Rattle.checks.proofs.parameter_passes.Statement.{statement}
 use Rattle.checks.proofs.parameter_passes.Tie as tie
 
 enum-told : tie.Need-enum-told
-enum-told c = search needs
+enum-told c = omega arith
 
 formed-requires : tie.Need-formed-requires
-formed-requires c = search needs
+formed-requires c = omega arith
 
 enum-told-2 : tie.Need-enum-told-2
-enum-told-2 c = search needs
+enum-told-2 c = omega arith
 
 fits-requires : tie.Need-fits-requires
-fits-requires c = search needs
+fits-requires c = omega arith
 
 enum-told-3 : tie.Need-enum-told-3
-enum-told-3 c = search needs
+enum-told-3 c = omega arith
 
 returns : tie.Need-returns
 unfolding parameterPasses

@@ -5,7 +5,6 @@ use mathlib.Core.Path.{_≡_, refl, sym, _∙_}
 use mathlib.Core.Bool.{Bool, _&&_}
 use mathlib.Core.List.{List}
 use denote.Ref.{now}
-use borrow.Author.Needs.{needs}
 use borrow.Author.Tests.{not-true, not-false}
 use Rattle.rules.specs.Bytes.{parts}
 use Rattle.rows.specs.Meaning.{actionOf}
@@ -51,61 +50,61 @@ next c q =
     (c .parameter-passes .ensures) q
 
 count-requires : tie.Need-count-requires Inv-loop μ-loop
-count-requires c = search needs
+count-requires c = omega arith
 
 loop-holds : tie.Need-loop-holds Inv-loop μ-loop
 loop-holds c = (omega arith, refl)
 
 mul-at : tie.Need-mul-at Inv-loop μ-loop
-mul-at c = search needs
+mul-at c = omega arith
 
 add-end : tie.Need-add-end Inv-loop μ-loop
-add-end c = search needs
+add-end c = omega arith
 
 add-parameter-passes : tie.Need-add-parameter-passes Inv-loop μ-loop
-add-parameter-passes c = search needs
+add-parameter-passes c = omega arith
 
 shared-slice-read-parameter-passes : tie.Need-shared-slice-read-parameter-passes Inv-loop μ-loop
-shared-slice-read-parameter-passes c = search needs
+shared-slice-read-parameter-passes c = omega arith
 
 sub-parameter-passes : tie.Need-sub-parameter-passes Inv-loop μ-loop
-sub-parameter-passes c = search needs
+sub-parameter-passes c = omega arith
 
 part-parameter-passes-start : tie.Need-part-parameter-passes-start Inv-loop μ-loop
-part-parameter-passes-start c = search needs
+part-parameter-passes-start c = omega arith
 
 part-parameter-passes-end : tie.Need-part-parameter-passes-end Inv-loop μ-loop
-part-parameter-passes-end c = search needs
+part-parameter-passes-end c = omega arith
 
 parameter-passes-requires : tie.Need-parameter-passes-requires Inv-loop μ-loop
-parameter-passes-requires c = search needs
+parameter-passes-requires c = omega arith
 
 returns : tie.Need-returns Inv-loop μ-loop
 returns c = sym (next (c .before) (not-true (c .before .parameter-passes .result) (c .if1 .taken)))
 
 add-i : tie.Need-add-i Inv-loop μ-loop
-add-i c = search needs
+add-i c = omega arith
 
 loop-less : tie.Need-loop-less Inv-loop μ-loop
-loop-less c = search needs
+loop-less c = omega arith
 
 loop-again : tie.Need-loop-again Inv-loop μ-loop
 loop-again c = (omega arith, next (c .before) (not-false (c .before .parameter-passes .result) (c .if1 .left)))
 
 mul-unused : tie.Need-mul-unused Inv-loop μ-loop
-mul-unused c = search needs
+mul-unused c = omega arith
 
 sub-unused-passes : tie.Need-sub-unused-passes Inv-loop μ-loop
-sub-unused-passes c = search needs
+sub-unused-passes c = omega arith
 
 part-unused-passes-start : tie.Need-part-unused-passes-start Inv-loop μ-loop
-part-unused-passes-start c = search needs
+part-unused-passes-start c = omega arith
 
 part-unused-passes-end : tie.Need-part-unused-passes-end Inv-loop μ-loop
-part-unused-passes-end c = search needs
+part-unused-passes-end c = omega arith
 
 unused-passes-requires : tie.Need-unused-passes-requires Inv-loop μ-loop
-unused-passes-requires c = search needs
+unused-passes-requires c = omega arith
 
 returns-2 : tie.Need-returns-2 Inv-loop μ-loop
 returns-2 c =

@@ -1,13 +1,13 @@
 -- Right because it asks the rule's own questions in turn. Assumes nothing.
 use Prim.Native.Nat.{ℕ}
-use borrow.Author.Needs.{needs}
+use native.Mathlib.Omega.{arith}
 use borrow.Author.Tests.{le-leb, lt-leb}
 use Rattle.rules.specs.Key.{priorityRule}
 use Rattle.checks.proofs.priority_rule.Statement.{statement}
 use Rattle.checks.proofs.priority_rule.Tie as tie
 
 has-priority-requires : tie.Need-has-priority-requires
-has-priority-requires c κs = search needs
+has-priority-requires c κs = omega arith
 
 returns : tie.Need-returns
 unfolding priorityRule

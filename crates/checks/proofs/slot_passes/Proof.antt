@@ -1,26 +1,26 @@
 -- Right because each test asks its own question of the slot. Assumes nothing.
-use borrow.Author.Needs.{needs}
+use native.Mathlib.Omega.{arith}
 use Rattle.checks.specs.Tests.{slotPasses}
 use Rattle.checks.proofs.slot_passes.Statement.{statement}
 use Rattle.checks.proofs.slot_passes.Tie as tie
 
 enum-told : tie.Need-enum-told
-enum-told c = search needs
+enum-told c = omega arith
 
 slot-formed-requires : tie.Need-slot-formed-requires
-slot-formed-requires c = search needs
+slot-formed-requires c = omega arith
 
 enum-told-2 : tie.Need-enum-told-2
-enum-told-2 c = search needs
+enum-told-2 c = omega arith
 
 slot-fits-requires : tie.Need-slot-fits-requires
-slot-fits-requires c = search needs
+slot-fits-requires c = omega arith
 
 enum-told-3 : tie.Need-enum-told-3
-enum-told-3 c = search needs
+enum-told-3 c = omega arith
 
 slot-rule-requires : tie.Need-slot-rule-requires
-slot-rule-requires c = search needs
+slot-rule-requires c = omega arith
 
 returns : tie.Need-returns
 unfolding slotPasses

@@ -6,7 +6,6 @@ use mathlib.Core.Bool.{Bool, _&&_}
 use mathlib.Core.List.{List}
 use lib.ListN.{take, drop}
 use denote.Ref.{now}
-use borrow.Author.Needs.{needs}
 use borrow.Author.Tests.{not-true, not-false}
 use Rattle.rules.specs.Bytes.{parts}
 use Rattle.rules.specs.Row as rules
@@ -55,64 +54,64 @@ next c q =
     ∙ left-next (slotPasses test) (unusedPasses test) (rowOf (row l) .fields) 35 (slots l) i (omega arith) first (c .slot-passes .ensures ∙ field) q
 
 count-requires : tie.Need-count-requires Inv-loop μ-loop
-count-requires c = search needs
+count-requires c = omega arith
 
 loop-holds : tie.Need-loop-holds Inv-loop μ-loop
 loop-holds c = (omega arith, refl)
 
 mul-at : tie.Need-mul-at Inv-loop μ-loop
-mul-at c = search needs
+mul-at c = omega arith
 
 add-end : tie.Need-add-end Inv-loop μ-loop
-add-end c = search needs
+add-end c = omega arith
 
 mul-at-2 : tie.Need-mul-at-2 Inv-loop μ-loop
-mul-at-2 c = search needs
+mul-at-2 c = omega arith
 
 add-at : tie.Need-add-at Inv-loop μ-loop
-add-at c = search needs
+add-at c = omega arith
 
 at-requires : tie.Need-at-requires Inv-loop μ-loop
-at-requires c = search needs
+at-requires c = omega arith
 
 sub-slot-passes : tie.Need-sub-slot-passes Inv-loop μ-loop
-sub-slot-passes c = search needs
+sub-slot-passes c = omega arith
 
 part-slot-passes-start : tie.Need-part-slot-passes-start Inv-loop μ-loop
-part-slot-passes-start c = search needs
+part-slot-passes-start c = omega arith
 
 part-slot-passes-end : tie.Need-part-slot-passes-end Inv-loop μ-loop
-part-slot-passes-end c = search needs
+part-slot-passes-end c = omega arith
 
 slot-passes-requires : tie.Need-slot-passes-requires Inv-loop μ-loop
-slot-passes-requires c = search needs
+slot-passes-requires c = omega arith
 
 returns : tie.Need-returns Inv-loop μ-loop
 returns c = sym (next (c .before) (not-true (c .before .slot-passes .result) (c .if1 .taken)))
 
 add-i : tie.Need-add-i Inv-loop μ-loop
-add-i c = search needs
+add-i c = omega arith
 
 loop-less : tie.Need-loop-less Inv-loop μ-loop
-loop-less c = search needs
+loop-less c = omega arith
 
 loop-again : tie.Need-loop-again Inv-loop μ-loop
 loop-again c = (omega arith, next (c .before) (not-false (c .before .slot-passes .result) (c .if1 .left)))
 
 mul-unused : tie.Need-mul-unused Inv-loop μ-loop
-mul-unused c = search needs
+mul-unused c = omega arith
 
 sub-unused-passes : tie.Need-sub-unused-passes Inv-loop μ-loop
-sub-unused-passes c = search needs
+sub-unused-passes c = omega arith
 
 part-unused-passes-start : tie.Need-part-unused-passes-start Inv-loop μ-loop
-part-unused-passes-start c = search needs
+part-unused-passes-start c = omega arith
 
 part-unused-passes-end : tie.Need-part-unused-passes-end Inv-loop μ-loop
-part-unused-passes-end c = search needs
+part-unused-passes-end c = omega arith
 
 unused-passes-requires : tie.Need-unused-passes-requires Inv-loop μ-loop
-unused-passes-requires c = search needs
+unused-passes-requires c = omega arith
 
 returns-2 : tie.Need-returns-2 Inv-loop μ-loop
 returns-2 c =

@@ -1,6 +1,6 @@
 -- Right because the two tests are made in their order. Assumes nothing.
+use native.Mathlib.Omega.{arith}
 use mathlib.Core.Path.{sym, _∙_}
-use borrow.Author.Needs.{needs}
 use borrow.Author.Tests.{not-true, not-false}
 use Rattle.rules.specs.Reason.{first}
 use Rattle.checks.proofs.table_reason.Statement.{statement}
@@ -11,7 +11,7 @@ unfolding first
 returns c = rw (not-true (c .before .before .args .known) (c .if1 .taken))
 
 may-write-requires : tie.Need-may-write-requires
-may-write-requires c κs = search needs
+may-write-requires c κs = omega arith
 
 returns-2 : tie.Need-returns-2
 unfolding first

@@ -1,20 +1,20 @@
 -- Right because each test asks its own question. Assumes nothing.
-use borrow.Author.Needs.{needs}
+use native.Mathlib.Omega.{arith}
 use Rattle.checks.specs.Tests.{unusedPasses}
 use Rattle.checks.proofs.unused_passes.Statement.{statement}
 use Rattle.checks.proofs.unused_passes.Tie as tie
 
 enum-told : tie.Need-enum-told
-enum-told c = search needs
+enum-told c = omega arith
 
 all-zero-requires : tie.Need-all-zero-requires
-all-zero-requires c = search needs
+all-zero-requires c = omega arith
 
 enum-told-2 : tie.Need-enum-told-2
-enum-told-2 c = search needs
+enum-told-2 c = omega arith
 
 enum-told-3 : tie.Need-enum-told-3
-enum-told-3 c = search needs
+enum-told-3 c = omega arith
 
 returns : tie.Need-returns
 unfolding unusedPasses

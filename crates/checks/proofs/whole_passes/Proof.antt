@@ -5,7 +5,6 @@ use mathlib.Core.Path.{_≡_, sym, ap, _∙_}
 use mathlib.Core.Bool.{Bool}
 use lib.ListN.{drop}
 use denote.Ref.{now}
-use borrow.Author.Needs.{needs}
 use Rattle.rules.specs.Key.{slots}
 use Rattle.rules.proofs.Lists.{parts-lent}
 use Rattle.rows.specs.Meaning.{rowOf}
@@ -14,40 +13,40 @@ use Rattle.checks.proofs.whole_passes.Statement.{statement}
 use Rattle.checks.proofs.whole_passes.Tie as tie
 
 add-end : tie.Need-add-end
-add-end c = search needs
+add-end c = omega arith
 
 sub-slots-pass : tie.Need-sub-slots-pass
-sub-slots-pass c = search needs
+sub-slots-pass c = omega arith
 
 part-slots-pass-start : tie.Need-part-slots-pass-start
-part-slots-pass-start c = search needs
+part-slots-pass-start c = omega arith
 
 part-slots-pass-end : tie.Need-part-slots-pass-end
-part-slots-pass-end c = search needs
+part-slots-pass-end c = omega arith
 
 slots-pass-requires : tie.Need-slots-pass-requires
-slots-pass-requires c = search needs
+slots-pass-requires c = omega arith
 
 sub-parameters-pass : tie.Need-sub-parameters-pass
-sub-parameters-pass c = search needs
+sub-parameters-pass c = omega arith
 
 part-parameters-pass-start : tie.Need-part-parameters-pass-start
-part-parameters-pass-start c = search needs
+part-parameters-pass-start c = omega arith
 
 part-parameters-pass-end : tie.Need-part-parameters-pass-end
-part-parameters-pass-end c = search needs
+part-parameters-pass-end c = omega arith
 
 sub-parameters-pass-2 : tie.Need-sub-parameters-pass-2
-sub-parameters-pass-2 c = search needs
+sub-parameters-pass-2 c = omega arith
 
 part-parameters-pass-start-2 : tie.Need-part-parameters-pass-start-2
-part-parameters-pass-start-2 c = search needs
+part-parameters-pass-start-2 c = omega arith
 
 part-parameters-pass-end-2 : tie.Need-part-parameters-pass-end-2
-part-parameters-pass-end-2 c = search needs
+part-parameters-pass-end-2 c = omega arith
 
 parameters-pass-requires : tie.Need-parameters-pass-requires
-parameters-pass-requires c = search needs
+parameters-pass-requires c = omega arith
 
 -- what the test of the slots came out as
 slotted : (c : tie.After-slots-pass) {b : Bool} → c .slots-pass .result ≡ b →

@@ -1,10 +1,10 @@
 -- Right because the tests are made in their order, of the key and of the action found, which is looked up once. Assumes nothing.
+use native.Mathlib.Omega.{arith}
 use mathlib.Core.Path.{_≡_, refl, sym, _∙_}
 use mathlib.Core.Bool.{Bool, false, _&&_, and-false}
 use mathlib.Core.List.{List}
 use Prim.Native.Nat.{ℕ}
 use denote.Ref.{now}
-use borrow.Author.Needs.{needs}
 use borrow.Author.Tests.{not-true, not-false}
 use Rattle.rules.specs.Reason.{first}
 use Rattle.rules.specs.Row.{Row}
@@ -51,24 +51,24 @@ ruled c e =
     rules-lent (row f) (entry f) refl (sym (c .before .before .integer2 .ensures)) ∙ sym (c .key-rules .ensures) ∙ e
 
 integer-requires : tie.Need-integer-requires
-integer-requires c = search needs
+integer-requires c = omega arith
 
 action-at-requires : tie.Need-action-at-requires
-action-at-requires c = search needs
+action-at-requires c = omega arith
 
 returns : tie.Need-returns
 unfolding first
 returns c = rw (unknown c, and-false (keyFormed (row (c .before)) (entry (c .before))))
 
 whole-passes-requires : tie.Need-whole-passes-requires
-whole-passes-requires c = search needs
+whole-passes-requires c = omega arith
 
 returns-2 : tie.Need-returns-2
 unfolding first
 returns-2 c = rw (formed (c .before) (not-true _ (c .if2 .taken)))
 
 whole-passes-requires-2 : tie.Need-whole-passes-requires-2
-whole-passes-requires-2 c = search needs
+whole-passes-requires-2 c = omega arith
 
 returns-3 : tie.Need-returns-3
 unfolding first
@@ -77,19 +77,19 @@ returns-3 c =
     rw (formed (g .before) (not-false _ (g .if2 .left)), fitting (c .before) (not-true _ (c .if3 .taken)))
 
 integer-requires-2 : tie.Need-integer-requires-2
-integer-requires-2 c = search needs
+integer-requires-2 c = omega arith
 
 sub-key-rules : tie.Need-sub-key-rules
-sub-key-rules c = search needs
+sub-key-rules c = omega arith
 
 part-key-rules-start : tie.Need-part-key-rules-start
-part-key-rules-start c = search needs
+part-key-rules-start c = omega arith
 
 part-key-rules-end : tie.Need-part-key-rules-end
-part-key-rules-end c = search needs
+part-key-rules-end c = omega arith
 
 key-rules-requires : tie.Need-key-rules-requires
-key-rules-requires c = search needs
+key-rules-requires c = omega arith
 
 returns-4 : tie.Need-returns-4
 unfolding first

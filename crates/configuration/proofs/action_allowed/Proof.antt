@@ -18,7 +18,7 @@ abbrev μ-loop : tie.MeasureT-loop
 μ-loop a n i₀ i = n - i
 
 shared-slice-read-if1 : tie.Need-shared-slice-read-if1 Inv-loop μ-loop
-shared-slice-read-if1 c = search needs
+shared-slice-read-if1 c = omega arith
 
 returns : tie.Need-returns Inv-loop μ-loop
 returns c =
@@ -28,7 +28,7 @@ returns c =
     sym (e ∙ (rw (ne-eqb (getD a 0 0) 1 (c .if1 .taken))))
 
 shared-slice-read-count : tie.Need-shared-slice-read-count Inv-loop μ-loop
-shared-slice-read-count c = search needs
+shared-slice-read-count c = omega arith
 
 cast-count : tie.Need-cast-count Inv-loop μ-loop
 cast-count c = omega (arith, c .shared-slice-known3 .given 4)
@@ -51,10 +51,10 @@ add-width-allowed : tie.Need-add-width-allowed Inv-loop μ-loop
 add-width-allowed c = omega arith
 
 shared-slice-read-width-allowed : tie.Need-shared-slice-read-width-allowed Inv-loop μ-loop
-shared-slice-read-width-allowed c = search needs
+shared-slice-read-width-allowed c = omega arith
 
 width-allowed-requires : tie.Need-width-allowed-requires Inv-loop μ-loop
-width-allowed-requires c κs = search needs
+width-allowed-requires c κs = tt
 
 returns-3 : tie.Need-returns-3 Inv-loop μ-loop
 returns-3 c =
@@ -95,7 +95,7 @@ part-all-zero-end : tie.Need-part-all-zero-end Inv-loop μ-loop
 part-all-zero-end c = omega arith
 
 all-zero-requires : tie.Need-all-zero-requires Inv-loop μ-loop
-all-zero-requires c κs = search needs
+all-zero-requires c κs = tt
 
 returns-4 : tie.Need-returns-4 Inv-loop μ-loop
 returns-4 c =

@@ -19,7 +19,7 @@ abbrev μ-loop : tie.MeasureT-loop
 μ-loop b n i₀ i = n - i
 
 shared-slice-read-n : tie.Need-shared-slice-read-n Inv-loop μ-loop
-shared-slice-read-n c = search needs
+shared-slice-read-n c = omega arith
 
 cast-n : tie.Need-cast-n Inv-loop μ-loop
 cast-n c = omega (arith, c .shared-slice-known2 .given 16)
@@ -58,7 +58,7 @@ part-action-allowed-end : tie.Need-part-action-allowed-end Inv-loop μ-loop
 part-action-allowed-end c = omega arith
 
 action-allowed-requires : tie.Need-action-allowed-requires Inv-loop μ-loop
-action-allowed-requires c κs = search needs
+action-allowed-requires c κs = omega arith
 
 returns-3 : tie.Need-returns-3 Inv-loop μ-loop
 returns-3 c =
@@ -70,7 +70,7 @@ returns-3 c =
     sym (l .loop .inv .1 ∙ action-refused (getD b 16 0) i b (omega arith) (omega arith) e (not-true (r .result) (c .if3 .taken)))
 
 integer-requires : tie.Need-integer-requires Inv-loop μ-loop
-integer-requires c κs = search needs
+integer-requires c κs = omega arith
 
 sub-id-repeated : tie.Need-sub-id-repeated Inv-loop μ-loop
 sub-id-repeated c = omega arith
@@ -85,7 +85,7 @@ add-id-repeated : tie.Need-add-id-repeated Inv-loop μ-loop
 add-id-repeated c = omega arith
 
 id-repeated-requires : tie.Need-id-repeated-requires Inv-loop μ-loop
-id-repeated-requires c κs = search needs
+id-repeated-requires c κs = omega arith
 
 returns-4 : tie.Need-returns-4 Inv-loop μ-loop
 returns-4 c =
@@ -134,7 +134,7 @@ part-all-zero-end : tie.Need-part-all-zero-end Inv-loop μ-loop
 part-all-zero-end c = omega arith
 
 all-zero-requires : tie.Need-all-zero-requires Inv-loop μ-loop
-all-zero-requires c κs = search needs
+all-zero-requires c κs = tt
 
 returns-5 : tie.Need-returns-5 Inv-loop μ-loop
 returns-5 c =

@@ -58,13 +58,13 @@ returns c =
     sym (l .loop .inv .1 ∙ once-refused alone tableOf (a .t) 53 (a .b .now) (l .loop .i) (omega arith) (tested r) q)
 
 integer-requires : tie.Need-integer-requires Inv-loop μ-loop
-integer-requires c κs = search needs
+integer-requires c κs = omega arith
 
 add-id-repeated : tie.Need-add-id-repeated Inv-loop μ-loop
 add-id-repeated c = omega arith
 
 id-repeated-requires : tie.Need-id-repeated-requires Inv-loop μ-loop
-id-repeated-requires c κs = search needs
+id-repeated-requires c κs = omega arith
 
 returns-2 : tie.Need-returns-2 Inv-loop μ-loop
 unfolding ids rules.rowOf

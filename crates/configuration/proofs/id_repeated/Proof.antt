@@ -1,10 +1,9 @@
 -- Right because each turn passes one record: whether one has the id is whether one of those left has. Assumes nothing.
 use Prim.Native.Nat.{ℕ, _*_, _-_}
 use native.Mathlib.Omega.{arith}
-use mathlib.Core.Path.{_≡_, sym, _∙_}
+use mathlib.Core.Path.{refl, _≡_, sym, _∙_}
 use lib.Dec.{eqb}
 use lib.ListN.{drop}
-use borrow.Author.Needs.{needs}
 use borrow.Author.Tests.{eq-eqb, ne-eqb}
 use Rattle.rules.specs.Bytes.{some-of, parts, int}
 use Rattle.configuration.specs.Passing.{ids}
@@ -19,7 +18,7 @@ abbrev μ-loop : tie.MeasureT-loop
 μ-loop b w from n id j₀ j = n - j
 
 loop-holds : tie.Need-loop-holds Inv-loop μ-loop
-loop-holds c = search needs
+loop-holds c = refl
 
 mul-integer : tie.Need-mul-integer Inv-loop μ-loop
 mul-integer c =

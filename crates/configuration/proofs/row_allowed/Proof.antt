@@ -7,12 +7,11 @@ use lib.ListN.{getD}
 use borrow.Author.Tests.{not-true, not-false, eq-eqb, ne-eqb, le-leb, lt-leb}
 use Rattle.rules.specs.Bytes.{int}
 use Rattle.configuration.proofs.OneRow.{row-asked}
-use borrow.Author.Needs.{needs}
 use Rattle.configuration.proofs.row_allowed.Statement.{statement}
 use Rattle.configuration.proofs.row_allowed.Tie as tie
 
 shared-slice-read-if1 : tie.Need-shared-slice-read-if1
-shared-slice-read-if1 c = search needs
+shared-slice-read-if1 c = omega arith
 
 returns : tie.Need-returns
 returns c =
@@ -21,7 +20,7 @@ returns c =
     sym (e ∙ (rw (ne-eqb (getD b 0 0) 2 (c .if1 .taken))))
 
 shared-slice-read-if2 : tie.Need-shared-slice-read-if2
-shared-slice-read-if2 c = search needs
+shared-slice-read-if2 c = omega arith
 
 returns-2 : tie.Need-returns-2
 returns-2 c =
@@ -32,7 +31,7 @@ returns-2 c =
     sym (e ∙ (rw (table, lt-leb (getD b 4 0) 7 (c .if2 .taken))))
 
 integer-requires : tie.Need-integer-requires
-integer-requires c κs = search needs
+integer-requires c κs = omega arith
 
 returns-3 : tie.Need-returns-3
 returns-3 c =
@@ -46,7 +45,7 @@ returns-3 c =
     sym (e ∙ (rw (table, owner, size)))
 
 fields-allowed-requires : tie.Need-fields-allowed-requires
-fields-allowed-requires c κs = search needs
+fields-allowed-requires c κs = omega arith
 
 returns-4 : tie.Need-returns-4
 returns-4 c =
@@ -63,7 +62,7 @@ returns-4 c =
     sym (e ∙ (rw (table, owner, size, fields)))
 
 actions-allowed-requires : tie.Need-actions-allowed-requires
-actions-allowed-requires c κs = search needs
+actions-allowed-requires c κs = omega arith
 
 returns-5 : tie.Need-returns-5
 returns-5 c =

@@ -37,7 +37,7 @@ add-integer : tie.Need-add-integer Inv-loop μ-loop
 add-integer c = omega arith
 
 integer-requires : tie.Need-integer-requires Inv-loop μ-loop
-integer-requires c κs = search needs
+integer-requires c κs = omega arith
 
 add-total : tie.Need-add-total Inv-loop μ-loop
 add-total c = let h = few c in search needs

@@ -7,7 +7,6 @@ use Prim.Native.Nat.{_≤_}
 use mathlib.Core.Bool.{true}
 use borrow.Author.Tests.{not-true, not-false}
 use Rattle.frames.proofs.Readings.{arbitrate-length, arbitrate-over, arbitrate-flag, arbitrate-fits}
-use borrow.Author.Needs.{needs}
 use Rattle.frames.proofs.read_arbitrate.Statement.{statement}
 use Rattle.frames.proofs.read_arbitrate.Tie as tie
 
@@ -15,19 +14,19 @@ returns : tie.Need-returns
 returns c = (arbitrate-length (c .before .before .args .frame .now) _ (c .if1 .taken), tt)
 
 shared-slice-read-stream : tie.Need-shared-slice-read-stream
-shared-slice-read-stream c = search needs
+shared-slice-read-stream c = omega arith
 
 returns-2 : tie.Need-returns-2
 returns-2 c = (arbitrate-over (c .before .before .before .before .args .frame .now) _ (c .if2 .taken), tt)
 
 head-at-requires : tie.Need-head-at-requires
-head-at-requires c κs = search needs
+head-at-requires c κs = omega arith
 
 shared-slice-read-flag-fits : tie.Need-shared-slice-read-flag-fits
-shared-slice-read-flag-fits c = search needs
+shared-slice-read-flag-fits c = omega arith
 
 flag-fits-requires : tie.Need-flag-fits-requires
-flag-fits-requires c κs = search needs
+flag-fits-requires c κs = tt
 
 -- where a state came from: the call's start
 abbrev start : tie.After-flag-fits → tie.Start

@@ -8,7 +8,6 @@ use lib.ListN.{length, drop}
 use mathlib.Core.Bool.{true}
 use borrow.Author.Tests.{not-true, not-false}
 use Rattle.frames.proofs.Readings.{configure-length, configure-none, configure-many, configure-flag, configure-fits}
-use borrow.Author.Needs.{needs}
 use Rattle.frames.proofs.read_configure.Statement.{statement}
 use Rattle.frames.proofs.read_configure.Tie as tie
 
@@ -18,7 +17,7 @@ returns c =
     (configure-length f (byte 27 f) _ (λ (e : length f ≡ 28 + 53 * byte 27 f). omega arith), tt)
 
 shared-slice-read-t : tie.Need-shared-slice-read-t
-shared-slice-read-t c = search needs
+shared-slice-read-t c = omega arith
 
 cast-t : tie.Need-cast-t
 cast-t c = record { fits = omega (arith, c .shared-slice-known2 .given 27) }
@@ -30,22 +29,22 @@ returns-3 : tie.Need-returns-3
 returns-3 c = let f = c .before .before .before .before .before .args .frame .now in (configure-many f (byte 27 f) _ (c .if3 .taken), tt)
 
 mul-if4 : tie.Need-mul-if4
-mul-if4 c = search needs
+mul-if4 c = omega arith
 
 add-if4 : tie.Need-add-if4
-add-if4 c = search needs
+add-if4 c = omega arith
 
 returns-4 : tie.Need-returns-4
 returns-4 c = let f = c .before .before .before .before .before .before .args .frame .now in (configure-length f (byte 27 f) _ (c .if4 .taken), tt)
 
 head-at-requires : tie.Need-head-at-requires
-head-at-requires c κs = search needs
+head-at-requires c κs = omega arith
 
 shared-slice-read-flag-fits : tie.Need-shared-slice-read-flag-fits
-shared-slice-read-flag-fits c = search needs
+shared-slice-read-flag-fits c = omega arith
 
 flag-fits-requires : tie.Need-flag-fits-requires
-flag-fits-requires c κs = search needs
+flag-fits-requires c κs = tt
 
 -- where a state came from: the call's start
 abbrev start : tie.After-flag-fits → tie.Start

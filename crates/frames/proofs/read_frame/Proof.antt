@@ -2,7 +2,6 @@
 use native.Mathlib.Omega.{arith}
 use mathlib.Core.Path.{refl}
 use Rattle.frames.proofs.Readings.{frame-empty, frame-by, frame-other}
-use borrow.Author.Needs.{needs}
 use Rattle.frames.proofs.read_frame.Statement.{statement}
 use Rattle.frames.proofs.read_frame.Tie as tie
 
@@ -10,25 +9,25 @@ returns : tie.Need-returns
 returns c = (frame-empty (c .before .before .args .frame .now) (c .if1 .taken), tt)
 
 shared-slice-read-command : tie.Need-shared-slice-read-command
-shared-slice-read-command c = search needs
+shared-slice-read-command c = omega arith
 
 read-open-requires : tie.Need-read-open-requires
-read-open-requires c κs = search needs
+read-open-requires c κs = tt
 
 read-close-requires : tie.Need-read-close-requires
-read-close-requires c κs = search needs
+read-close-requires c κs = tt
 
 read-arbitrate-requires : tie.Need-read-arbitrate-requires
-read-arbitrate-requires c κs = search needs
+read-arbitrate-requires c κs = tt
 
 read-configure-requires : tie.Need-read-configure-requires
-read-configure-requires c κs = search needs
+read-configure-requires c κs = tt
 
 read-write-requires : tie.Need-read-write-requires
-read-write-requires c κs = search needs
+read-write-requires c κs = tt
 
 read-read-requires : tie.Need-read-read-requires
-read-read-requires c κs = search needs
+read-read-requires c κs = tt
 
 returns-2 : tie.Need-returns-2
 returns-2 c =

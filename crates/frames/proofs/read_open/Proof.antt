@@ -1,7 +1,6 @@
 -- Right because the two tests are those of the form of OPEN. Assumes nothing.
 use native.Mathlib.Omega.{arith}
 use Rattle.frames.proofs.Readings.{stream-length, stream-over, stream-fits}
-use borrow.Author.Needs.{needs}
 use Rattle.frames.proofs.read_open.Statement.{statement}
 use Rattle.frames.proofs.read_open.Tie as tie
 
@@ -9,7 +8,7 @@ returns : tie.Need-returns
 returns c = (stream-length (c .before .args .frame .now) _ (c .if1 .taken), tt)
 
 shared-slice-read-stream : tie.Need-shared-slice-read-stream
-shared-slice-read-stream c = search needs
+shared-slice-read-stream c = omega arith
 
 returns-2 : tie.Need-returns-2
 returns-2 c = (stream-over (c .before .before .before .args .frame .now) _ (c .if2 .taken), tt)

@@ -9,7 +9,6 @@ use borrow.Author.Tests.{not-true, not-false}
 use mathlib.Core.Logic.{⊎-elim}
 use lib.Dec.{eqb}
 use Rattle.frames.proofs.Readings.{keyFits, key-all, key-only, key-over, read-length, read-key, read-fits, key-named}
-use borrow.Author.Needs.{needs}
 use Rattle.frames.proofs.read_read.Statement.{statement}
 use Rattle.frames.proofs.read_read.Tie as tie
 
@@ -17,22 +16,22 @@ returns : tie.Need-returns
 returns c = (read-length (c .before .before .args .frame .now) _ (c .if1 .taken), tt)
 
 shared-slice-read-only : tie.Need-shared-slice-read-only
-shared-slice-read-only c = search needs
+shared-slice-read-only c = omega arith
 
 integer-requires : tie.Need-integer-requires
-integer-requires c κs = search needs
+integer-requires c κs = omega arith
 
 sub-all-zero : tie.Need-sub-all-zero
-sub-all-zero c = search needs
+sub-all-zero c = omega arith
 
 part-all-zero-start : tie.Need-part-all-zero-start
-part-all-zero-start c = search needs
+part-all-zero-start c = omega arith
 
 part-all-zero-end : tie.Need-part-all-zero-end
-part-all-zero-end c = search needs
+part-all-zero-end c = omega arith
 
 all-zero-requires : tie.Need-all-zero-requires
-all-zero-requires c κs = search needs
+all-zero-requires c κs = tt
 
 -- by each arm, the test is that of the byte
 key-fits : (c : tie.At-match-came) → c .match .formed ≡ keyFits (c .before .before .before .before .before .args .frame .now)
@@ -53,10 +52,10 @@ returns-2 c =
     (read-key f _ (sym (key-fits (c .before)) ∙ not-true _ (c .if2 .taken)), tt)
 
 integer-requires-2 : tie.Need-integer-requires-2
-integer-requires-2 c κs = search needs
+integer-requires-2 c κs = omega arith
 
 shared-slice-read-t9 : tie.Need-shared-slice-read-t9
-shared-slice-read-t9 c = search needs
+shared-slice-read-t9 c = omega arith
 
 returns-3 : tie.Need-returns-3
 returns-3 c =

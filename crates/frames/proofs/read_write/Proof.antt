@@ -9,7 +9,6 @@ use mathlib.Core.Bool.{true}
 use mathlib.Core.List.{map}
 use borrow.Author.Tests.{not-true, not-false}
 use Rattle.frames.proofs.Readings.{write-length, write-many, write-flag, write-atomicity, write-fits}
-use borrow.Author.Needs.{needs}
 use Rattle.frames.proofs.read_write.Statement.{statement}
 use Rattle.frames.proofs.read_write.Tie as tie
 
@@ -19,7 +18,7 @@ returns c =
     (write-length f (byte 28 f) _ (λ (e : length f ≡ 29 + 221 * byte 28 f). omega arith), tt)
 
 shared-slice-read-n : tie.Need-shared-slice-read-n
-shared-slice-read-n c = search needs
+shared-slice-read-n c = omega arith
 
 cast-n : tie.Need-cast-n
 cast-n c = record { fits = omega (arith, c .shared-slice-known2 .given 28) }
@@ -28,16 +27,16 @@ returns-2 : tie.Need-returns-2
 returns-2 c = let f = c .before .before .before .before .args .frame .now in (write-many f (byte 28 f) _ (c .if2 .taken), tt)
 
 mul-if3 : tie.Need-mul-if3
-mul-if3 c = search needs
+mul-if3 c = omega arith
 
 add-if3 : tie.Need-add-if3
-add-if3 c = search needs
+add-if3 c = omega arith
 
 returns-3 : tie.Need-returns-3
 returns-3 c = let f = c .before .before .before .before .before .args .frame .now in (write-length f (byte 28 f) _ (c .if3 .taken), tt)
 
 shared-slice-read-atomicity : tie.Need-shared-slice-read-atomicity
-shared-slice-read-atomicity c = search needs
+shared-slice-read-atomicity c = omega arith
 
 returns-4 : tie.Need-returns-4
 returns-4 c =
@@ -45,13 +44,13 @@ returns-4 c =
     (write-atomicity f (byte 28 f) _ (c .if4 .taken), tt)
 
 head-at-requires : tie.Need-head-at-requires
-head-at-requires c κs = search needs
+head-at-requires c κs = omega arith
 
 shared-slice-read-flag-fits : tie.Need-shared-slice-read-flag-fits
-shared-slice-read-flag-fits c = search needs
+shared-slice-read-flag-fits c = omega arith
 
 flag-fits-requires : tie.Need-flag-fits-requires
-flag-fits-requires c κs = search needs
+flag-fits-requires c κs = tt
 
 -- where a state came from: the call's start
 abbrev start : tie.After-flag-fits → tie.Start

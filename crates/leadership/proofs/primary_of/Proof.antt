@@ -1,9 +1,9 @@
 -- Right because the two tests are those of the contract. Assumes nothing.
+use native.Mathlib.Omega.{arith}
 use mathlib.Core.Path.{_≡_, sym, _∙_}
 use mathlib.Core.Bool.{true, false}
 use lib.Dec.{eqb}
 use borrow.Author.Tests.{not-true, not-false, lt-ltb, le-ltb}
-use borrow.Author.Needs.{needs}
 use Rattle.election.specs.Meaning.{idOf}
 use Rattle.leadership.proofs.primary_of.Statement.{statement}
 use Rattle.leadership.proofs.primary_of.Tie as tie
@@ -15,7 +15,7 @@ mark-set c =
     not-true (eqb (idOf (i .before .args .mark)) 0) (sym (i .is-set .ensures) ∙ not-false (i .is-set .result) (c .if1 .left))
 
 is-set-requires : tie.Need-is-set-requires
-is-set-requires c κs = search needs
+is-set-requires c κs = tt
 
 returns : tie.Need-returns
 returns c =
@@ -28,7 +28,7 @@ returns-2 : tie.Need-returns-2
 returns-2 c = rw (mark-set (c .before), le-ltb _ 32 (c .if2 .taken))
 
 cast-t5 : tie.Need-cast-t5
-cast-t5 c = search needs
+cast-t5 c = omega arith
 
 returns-3 : tie.Need-returns-3
 returns-3 c = rw (mark-set (c .before), lt-ltb _ 32 (c .if2 .left))

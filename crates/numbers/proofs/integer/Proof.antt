@@ -22,22 +22,22 @@ mul-x : tie.Need-mul-x Inv-loop μ-loop
 mul-x c = record { fits = omega (arith, pow-seven (c .before .loop .k) (omega arith)) }
 
 add-wide : tie.Need-add-wide Inv-loop μ-loop
-add-wide c = search needs
+add-wide c = omega arith
 
 shared-slice-read-wide : tie.Need-shared-slice-read-wide Inv-loop μ-loop
-shared-slice-read-wide c = search needs
+shared-slice-read-wide c = omega arith
 
 wide-requires : tie.Need-wide-requires Inv-loop μ-loop
-wide-requires c κs = search needs
+wide-requires c κs = tt
 
 add-x : tie.Need-add-x Inv-loop μ-loop
 add-x c = record { fits = omega (arith, pow-seven (c .before .before .before .loop .k) (omega arith)) }
 
 add-k : tie.Need-add-k Inv-loop μ-loop
-add-k c = search needs
+add-k c = omega arith
 
 loop-less : tie.Need-loop-less Inv-loop μ-loop
-loop-less c = search needs
+loop-less c = omega arith
 
 loop-again : tie.Need-loop-again Inv-loop μ-loop
 loop-again c =

@@ -3,13 +3,12 @@ use Prim.Native.Nat.{ℕ, _+_, _*_, _-_, _^_}
 use native.Mathlib.Omega.{arith}
 use mathlib.Core.Path.{_≡_, sym, ap, _∙_}
 use lib.Pow.{pow-pos, ones-split}
-use borrow.Author.Needs.{needs}
 use Rattle.numbers.proofs.Bits.{one-shl}
 use Rattle.numbers.proofs.ones.Statement.{statement}
 use Rattle.numbers.proofs.ones.Tie as tie
 
 shl-p : tie.Need-shl-p
-shl-p c = search needs
+shl-p c = omega arith
 
 sub-t6 : tie.Need-sub-t6
 sub-t6 c = let w : ℕ = c .before .args .width in omega (arith, one-shl w (c .if1 .taken), pow-pos w)
@@ -18,10 +17,10 @@ returns : tie.Need-returns
 returns c = let w : ℕ = c .before .args .width in omega (arith, one-shl w (c .if1 .taken))
 
 cast-p : tie.Need-cast-p
-cast-p c = search needs
+cast-p c = omega arith
 
 shl-p-2 : tie.Need-shl-p-2
-shl-p-2 c = search needs
+shl-p-2 c = omega arith
 
 sub-t7 : tie.Need-sub-t7
 sub-t7 c =

@@ -1,18 +1,18 @@
 -- Right because table 0 asks by the role, and any other by the table alone. Assumes nothing.
+use native.Mathlib.Omega.{arith}
 use borrow.Author.Tests.{eq-eqb, ne-eqb}
 use Rattle.rows.specs.Meaning.{rowOf}
-use borrow.Author.Needs.{needs}
 use Rattle.reads.proofs.asks.Statement.{statement}
 use Rattle.reads.proofs.asks.Tie as tie
 
 may-write-requires : tie.Need-may-write-requires
-may-write-requires c κs = search needs
+may-write-requires c κs = omega arith
 
 returns : tie.Need-returns
 returns c = rw (eq-eqb (c .before .before .before .args .table) 0 (c .before .if1 .taken)) (c .may-write .ensures)
 
 integer-requires : tie.Need-integer-requires
-integer-requires c κs = search needs
+integer-requires c κs = omega arith
 
 returns-2 : tie.Need-returns-2
 unfolding rowOf

@@ -1,4 +1,5 @@
 -- Right because the table's reasons come first, and then those of the key by the table's row. Assumes nothing.
+use native.Mathlib.Omega.{arith}
 use mathlib.Core.List.{List}
 use Prim.Native.Nat.{ℕ}
 use denote.Ref.{now}
@@ -10,7 +11,7 @@ use Rattle.reads.proofs.named_reason.Statement.{statement}
 use Rattle.reads.proofs.named_reason.Tie as tie
 
 table-reason-requires : tie.Need-table-reason-requires
-table-reason-requires c κs = search needs
+table-reason-requires c κs = omega arith
 
 returns : tie.Need-returns
 returns c =
@@ -26,16 +27,16 @@ returns-2 c =
     (c .if2 .taken)
 
 sub-key-reason : tie.Need-sub-key-reason
-sub-key-reason c = search needs
+sub-key-reason c = omega arith
 
 part-key-reason-start : tie.Need-part-key-reason-start
-part-key-reason-start c = search needs
+part-key-reason-start c = omega arith
 
 part-key-reason-end : tie.Need-part-key-reason-end
-part-key-reason-end c = search needs
+part-key-reason-end c = omega arith
 
 key-reason-requires : tie.Need-key-reason-requires
-key-reason-requires c κs = search needs
+key-reason-requires c κs = omega arith
 
 returns-3 : tie.Need-returns-3
 returns-3 c =

@@ -6,7 +6,6 @@ use denote.Ref.{now}
 use Rattle.rows.specs.Meaning.{rowsIn}
 use Rattle.reads.specs.Read.{keyIn}
 use Rattle.reads.proofs.QueryOrder.{none-named, one-named}
-use borrow.Author.Needs.{needs}
 use Rattle.reads.proofs.query_reason.Statement.{statement}
 use Rattle.reads.proofs.query_reason.Tie as tie
 
@@ -18,22 +17,22 @@ returns c =
     none-named (rowsIn (a .count) (now (a .rows))) (a .role) (a .table) (a .only) (keyIn (now (a .query))) z (λ o. s .pre .2 o z)
 
 find-requires : tie.Need-find-requires
-find-requires c κs = search needs
+find-requires c κs = omega arith
 
 add-end : tie.Need-add-end
-add-end c = search needs
+add-end c = omega arith
 
 sub-named-reason : tie.Need-sub-named-reason
-sub-named-reason c = search needs
+sub-named-reason c = omega arith
 
 part-named-reason-start : tie.Need-part-named-reason-start
-part-named-reason-start c = search needs
+part-named-reason-start c = omega arith
 
 part-named-reason-end : tie.Need-part-named-reason-end
-part-named-reason-end c = search needs
+part-named-reason-end c = omega arith
 
 named-reason-requires : tie.Need-named-reason-requires
-named-reason-requires c κs = search needs
+named-reason-requires c κs = omega arith
 
 returns-2 : tie.Need-returns-2
 returns-2 c =

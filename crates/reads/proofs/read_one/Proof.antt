@@ -11,10 +11,10 @@ use Rattle.reads.proofs.read_one.Statement.{statement}
 use Rattle.reads.proofs.read_one.Tie as tie
 
 find-requires : tie.Need-find-requires
-find-requires c κs = search needs
+find-requires c κs = omega arith
 
 enum-known-found : tie.Need-enum-known-found
-enum-known-found c = search needs
+enum-known-found c = omega arith
 
 -- the place that the search found, which is that of an entry
 found : (d : tie.After-found) →
@@ -32,22 +32,22 @@ add-end : tie.Need-add-end
 add-end c = omega (arith, inside (c .before))
 
 sub-write-entry : tie.Need-sub-write-entry
-sub-write-entry c = search needs
+sub-write-entry c = omega arith
 
 part-write-entry-start : tie.Need-part-write-entry-start
-part-write-entry-start c = search needs
+part-write-entry-start c = omega arith
 
 part-write-entry-end : tie.Need-part-write-entry-end
 part-write-entry-end c = omega (arith, inside (c .before))
 
 write-entry-requires : tie.Need-write-entry-requires
-write-entry-requires c κs = search needs
+write-entry-requires c κs = omega arith
 
 enum-told : tie.Need-enum-told
-enum-told c = search needs
+enum-told c = omega arith
 
 same-length : tie.Need-same-length
-same-length c = search needs
+same-length c = omega arith
 
 returns : tie.Need-returns
 returns c =

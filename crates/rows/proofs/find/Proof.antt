@@ -5,7 +5,6 @@ use mathlib.Core.Path.{_≡_, refl, sym, ap, _∙_}
 use mathlib.Core.Bool.{true, false}
 use lib.ListN.{length, drop}
 use lib.Dec.{eqb}
-use borrow.Author.Needs.{needs}
 use borrow.Author.Tests.{eq-eqb, ne-eqb}
 use Rattle.rules.specs.Bytes.{if_then_else_, int}
 use Rattle.rules.specs.Row as rules
@@ -45,10 +44,10 @@ returns : tie.Need-returns Inv-loop μ-loop
 returns c = (ended (c .before .before) (omega arith), (λ e. contradiction e refl, omega arith))
 
 mul-at : tie.Need-mul-at Inv-loop μ-loop
-mul-at c = search needs
+mul-at c = omega arith
 
 integer-requires : tie.Need-integer-requires Inv-loop μ-loop
-integer-requires c κs = search needs
+integer-requires c κs = omega arith
 
 returns-2 : tie.Need-returns-2 Inv-loop μ-loop
 returns-2 c =
@@ -63,10 +62,10 @@ returns-2 c =
     (sym (rw hit at known), (λ _. sym (rw hit at row), omega arith))
 
 add-i : tie.Need-add-i Inv-loop μ-loop
-add-i c = search needs
+add-i c = omega arith
 
 loop-less : tie.Need-loop-less Inv-loop μ-loop
-loop-less c = search needs
+loop-less c = omega arith
 
 loop-again : tie.Need-loop-again Inv-loop μ-loop
 loop-again c =

@@ -3,7 +3,6 @@ use native.Mathlib.Omega.{arith}
 use mathlib.Core.Path.{_∙_}
 use Rattle.numbers.specs.Whole.{wholeOf}
 use Rattle.slots.proofs.Slots.{low-alone, prefix-none, prefix-long, prefix-some}
-use borrow.Author.Needs.{needs}
 use Rattle.slots.proofs.lpm_rule.Statement.{statement}
 use Rattle.slots.proofs.lpm_rule.Tie as tie
 
@@ -24,10 +23,10 @@ returns-3 c =
     prefix-long (a .width) (wholeOf (a .x)) (wholeOf (a .y)) (omega arith)
 
 cast-low-zero : tie.Need-cast-low-zero
-cast-low-zero c = search needs
+cast-low-zero c = omega arith
 
 low-zero-requires : tie.Need-low-zero-requires
-low-zero-requires c κs = search needs
+low-zero-requires c κs = tt
 
 returns-4 : tie.Need-returns-4
 returns-4 c =

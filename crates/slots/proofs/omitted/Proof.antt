@@ -1,4 +1,5 @@
 -- Right because a slot that does not begin with 0 is not all zeros. Assumes nothing.
+use native.Mathlib.Omega.{arith}
 use mathlib.Core.Path.{sym}
 use denote.Ref.{now}
 use borrow.Author.Tests.{ne-eqb}
@@ -9,10 +10,10 @@ use Rattle.slots.proofs.omitted.Statement.{statement}
 use Rattle.slots.proofs.omitted.Tie as tie
 
 shared-slice-read-if1 : tie.Need-shared-slice-read-if1
-shared-slice-read-if1 c = search needs
+shared-slice-read-if1 c = omega arith
 
 all-zero-requires : tie.Need-all-zero-requires
-all-zero-requires c κs = search needs
+all-zero-requires c κs = tt
 
 returns : tie.Need-returns
 returns c = search needs

@@ -1,23 +1,23 @@
 -- Right because it is the tests of the contract, in their order. Assumes nothing.
+use native.Mathlib.Omega.{arith}
 use mathlib.Core.Path.{sym, _∙_}
-use borrow.Author.Needs.{needs}
 use Rattle.slots.proofs.one_value.Statement.{statement}
 use Rattle.slots.proofs.one_value.Tie as tie
 
 present-requires : tie.Need-present-requires
-present-requires c κs = search needs
+present-requires c κs = omega arith
 
 sub-all-zero : tie.Need-sub-all-zero
-sub-all-zero c = search needs
+sub-all-zero c = omega arith
 
 part-all-zero-start : tie.Need-part-all-zero-start
-part-all-zero-start c = search needs
+part-all-zero-start c = omega arith
 
 part-all-zero-end : tie.Need-part-all-zero-end
-part-all-zero-end c = search needs
+part-all-zero-end c = omega arith
 
 all-zero-requires : tie.Need-all-zero-requires
-all-zero-requires c κs = search needs
+all-zero-requires c κs = tt
 
 returns : tie.Need-returns
 returns c = rw (sym (c .before .before .before .present .ensures) ∙ c .before .before .if1 .taken) (c .all-zero .ensures)

@@ -1,25 +1,25 @@
 -- Right because it is the two tests of the contract, in their order. Assumes nothing.
+use native.Mathlib.Omega.{arith}
 use denote.Ref.{now}
 use borrow.Author.Tests.{eq-eqb, ne-eqb}
 use Rattle.rules.specs.Key.{kind}
-use borrow.Author.Needs.{needs}
 use Rattle.slots.proofs.present.Statement.{statement}
 use Rattle.slots.proofs.present.Tie as tie
 
 shared-slice-read-if1 : tie.Need-shared-slice-read-if1
-shared-slice-read-if1 c = search needs
+shared-slice-read-if1 c = omega arith
 
 sub-formed : tie.Need-sub-formed
-sub-formed c = search needs
+sub-formed c = omega arith
 
 part-formed-start : tie.Need-part-formed-start
-part-formed-start c = search needs
+part-formed-start c = omega arith
 
 part-formed-end : tie.Need-part-formed-end
-part-formed-end c = search needs
+part-formed-end c = omega arith
 
 formed-requires : tie.Need-formed-requires
-formed-requires c κs = search needs
+formed-requires c κs = omega arith
 
 returns : tie.Need-returns
 returns c =

@@ -9,7 +9,6 @@ use Rattle.rules.specs.Key.{kind}
 use Rattle.rows.specs.Meaning.{fieldOf}
 use mathlib.Core.Logic.{inl, inr}
 use Rattle.slots.proofs.Slots.{omitted-fits, first-alone, second-too}
-use borrow.Author.Needs.{needs}
 use Rattle.slots.proofs.slot_fits.Statement.{statement}
 use Rattle.slots.proofs.slot_fits.Tie as tie
 
@@ -24,28 +23,28 @@ present : (p : tie.At-match-rest) → kind (S p) ≡ 0 → ⊥
 present p = p .match .rest .1
 
 shared-slice-read-own : tie.Need-shared-slice-read-own
-shared-slice-read-own c = search needs
+shared-slice-read-own c = omega arith
 
 first-fits-requires : tie.Need-first-fits-requires
-first-fits-requires c κs = search needs
+first-fits-requires c κs = omega arith
 
 first-fits-requires-2 : tie.Need-first-fits-requires-2
-first-fits-requires-2 c κs = search needs
+first-fits-requires-2 c κs = omega arith
 
 first-fits-requires-3 : tie.Need-first-fits-requires-3
-first-fits-requires-3 c κs = search needs
+first-fits-requires-3 c κs = omega arith
 
 both-fit-requires : tie.Need-both-fit-requires
-both-fit-requires c κs = search needs
+both-fit-requires c κs = omega arith
 
 both-fit-requires-2 : tie.Need-both-fit-requires-2
-both-fit-requires-2 c κs = search needs
+both-fit-requires-2 c κs = omega arith
 
 first-fits-requires-4 : tie.Need-first-fits-requires-4
-first-fits-requires-4 c κs = search needs
+first-fits-requires-4 c κs = omega arith
 
 first-fits-requires-5 : tie.Need-first-fits-requires-5
-first-fits-requires-5 c κs = search needs
+first-fits-requires-5 c κs = omega arith
 
 returns : tie.Need-returns
 returns c =

@@ -7,7 +7,6 @@ use denote.Ref.{now}
 use Rattle.rules.specs.Row.{Field}
 use Rattle.rows.specs.Meaning.{fieldOf}
 use Rattle.slots.proofs.Slots.{kind-none, kind-exact, left-out, kind-two, kind-optional}
-use borrow.Author.Needs.{needs}
 use Rattle.slots.proofs.slot_formed.Statement.{statement}
 use Rattle.slots.proofs.slot_formed.Tie as tie
 
@@ -18,40 +17,40 @@ abbrev S : tie.Start → List ℕ
 S t = now (t .args .slot)
 
 omitted-requires : tie.Need-omitted-requires
-omitted-requires c κs = search needs
+omitted-requires c κs = omega arith
 
 one-value-requires : tie.Need-one-value-requires
-one-value-requires c κs = search needs
+one-value-requires c κs = omega arith
 
 omitted-requires-2 : tie.Need-omitted-requires-2
-omitted-requires-2 c κs = search needs
+omitted-requires-2 c κs = omega arith
 
 two-values-requires : tie.Need-two-values-requires
-two-values-requires c κs = search needs
+two-values-requires c κs = omega arith
 
 omitted-requires-3 : tie.Need-omitted-requires-3
-omitted-requires-3 c κs = search needs
+omitted-requires-3 c κs = omega arith
 
 two-values-requires-2 : tie.Need-two-values-requires-2
-two-values-requires-2 c κs = search needs
+two-values-requires-2 c κs = omega arith
 
 omitted-requires-4 : tie.Need-omitted-requires-4
-omitted-requires-4 c κs = search needs
+omitted-requires-4 c κs = omega arith
 
 two-values-requires-3 : tie.Need-two-values-requires-3
-two-values-requires-3 c κs = search needs
+two-values-requires-3 c κs = omega arith
 
 omitted-requires-5 : tie.Need-omitted-requires-5
-omitted-requires-5 c κs = search needs
+omitted-requires-5 c κs = omega arith
 
 one-value-requires-2 : tie.Need-one-value-requires-2
-one-value-requires-2 c κs = search needs
+one-value-requires-2 c κs = omega arith
 
 omitted-requires-6 : tie.Need-omitted-requires-6
-omitted-requires-6 c κs = search needs
+omitted-requires-6 c κs = omega arith
 
 two-values-requires-4 : tie.Need-two-values-requires-4
-two-values-requires-4 c κs = search needs
+two-values-requires-4 c κs = omega arith
 
 returns : tie.Need-returns
 returns c =

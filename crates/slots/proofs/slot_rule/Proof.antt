@@ -9,7 +9,6 @@ use Rattle.rules.specs.Key.{kind}
 use Rattle.rows.specs.Meaning.{fieldOf}
 use Rattle.numbers.specs.Whole.{wholeOf}
 use Rattle.slots.proofs.Slots.{omitted-passes, no-rule, by-lpm, by-ternary, by-range}
-use borrow.Author.Needs.{needs}
 use Rattle.slots.proofs.slot_rule.Statement.{statement}
 use Rattle.slots.proofs.slot_rule.Tie as tie
 
@@ -24,34 +23,34 @@ present : (p : tie.At-match-rest) → kind (S p) ≡ 0 → ⊥
 present p = p .match .rest .1
 
 shared-slice-read-own : tie.Need-shared-slice-read-own
-shared-slice-read-own c = search needs
+shared-slice-read-own c = omega arith
 
 first-requires : tie.Need-first-requires
-first-requires c κs = search needs
+first-requires c κs = omega arith
 
 second-requires : tie.Need-second-requires
-second-requires c κs = search needs
+second-requires c κs = omega arith
 
 lpm-rule-requires : tie.Need-lpm-rule-requires
-lpm-rule-requires c κs = search needs
+lpm-rule-requires c κs = tt
 
 first-requires-2 : tie.Need-first-requires-2
-first-requires-2 c κs = search needs
+first-requires-2 c κs = omega arith
 
 second-requires-2 : tie.Need-second-requires-2
-second-requires-2 c κs = search needs
+second-requires-2 c κs = omega arith
 
 ternary-rule-requires : tie.Need-ternary-rule-requires
-ternary-rule-requires c κs = search needs
+ternary-rule-requires c κs = tt
 
 first-requires-3 : tie.Need-first-requires-3
-first-requires-3 c κs = search needs
+first-requires-3 c κs = omega arith
 
 second-requires-3 : tie.Need-second-requires-3
-second-requires-3 c κs = search needs
+second-requires-3 c κs = omega arith
 
 range-rule-requires : tie.Need-range-rule-requires
-range-rule-requires c κs = search needs
+range-rule-requires c κs = tt
 
 returns : tie.Need-returns
 returns c =

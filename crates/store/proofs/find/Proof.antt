@@ -8,7 +8,6 @@ use denote.Ref.{now}
 use Rattle.rules.specs.Bytes.{part, parts, same}
 use Rattle.store.specs.Store.{place}
 use Rattle.store.proofs.Scan.{searched, searched-next, searched-none}
-use borrow.Author.Needs.{needs}
 use Rattle.store.proofs.find.Statement.{statement}
 use Rattle.store.proofs.find.Tie as tie
 
@@ -22,10 +21,10 @@ loop-holds : tie.Need-loop-holds Inv-loop μ-loop
 loop-holds c = (omega arith, refl)
 
 mul-has-key : tie.Need-mul-has-key Inv-loop μ-loop
-mul-has-key c = search needs
+mul-has-key c = omega arith
 
 has-key-requires : tie.Need-has-key-requires Inv-loop μ-loop
-has-key-requires c κs = search needs
+has-key-requires c κs = omega arith
 
 returns : tie.Need-returns Inv-loop μ-loop
 returns c =
@@ -37,10 +36,10 @@ returns c =
     (sym (l .loop .inv .1 ∙ searched-next (a .tables) s (now (a .key)) i true (omega arith) t), omega arith)
 
 add-i : tie.Need-add-i Inv-loop μ-loop
-add-i c = search needs
+add-i c = omega arith
 
 loop-less : tie.Need-loop-less Inv-loop μ-loop
-loop-less c = search needs
+loop-less c = omega arith
 
 loop-again : tie.Need-loop-again Inv-loop μ-loop
 loop-again c =

@@ -6,15 +6,14 @@ use denote.Ref.{now}
 use borrow.Author.Tests.{not-true}
 use Rattle.rules.specs.Bytes.{part, same}
 use Rattle.store.proofs.Scan.{word-differs}
-use borrow.Author.Needs.{needs}
 use Rattle.store.proofs.has_key.Statement.{statement}
 use Rattle.store.proofs.has_key.Tie as tie
 
 add-equal-eight : tie.Need-add-equal-eight
-add-equal-eight c = search needs
+add-equal-eight c = omega arith
 
 equal-eight-requires : tie.Need-equal-eight-requires
-equal-eight-requires c κs = search needs
+equal-eight-requires c κs = omega arith
 
 returns : tie.Need-returns
 returns c =
@@ -23,10 +22,10 @@ returns c =
     sym (word-differs (a .at) 8 (now (a .store)) (now (a .key)) (omega arith) (sym (w .ensures) ∙ not-true (w .result) (c .if1 .taken)))
 
 add-equal-eight-2 : tie.Need-add-equal-eight-2
-add-equal-eight-2 c = search needs
+add-equal-eight-2 c = omega arith
 
 equal-eight-requires-2 : tie.Need-equal-eight-requires-2
-equal-eight-requires-2 c κs = search needs
+equal-eight-requires-2 c κs = omega arith
 
 returns-2 : tie.Need-returns-2
 returns-2 c =
@@ -35,10 +34,10 @@ returns-2 c =
     sym (word-differs (a .at) 18 (now (a .store)) (now (a .key)) (omega arith) (sym (w .ensures) ∙ not-true (w .result) (c .if2 .taken)))
 
 add-equal-eight-3 : tie.Need-add-equal-eight-3
-add-equal-eight-3 c = search needs
+add-equal-eight-3 c = omega arith
 
 equal-eight-requires-3 : tie.Need-equal-eight-requires-3
-equal-eight-requires-3 c κs = search needs
+equal-eight-requires-3 c κs = omega arith
 
 returns-3 : tie.Need-returns-3
 returns-3 c =
@@ -47,19 +46,19 @@ returns-3 c =
     sym (word-differs (a .at) 140 (now (a .store)) (now (a .key)) (omega arith) (sym (w .ensures) ∙ not-true (w .result) (c .if3 .taken)))
 
 add-end : tie.Need-add-end
-add-end c = search needs
+add-end c = omega arith
 
 sub-equal : tie.Need-sub-equal
-sub-equal c = search needs
+sub-equal c = omega arith
 
 part-equal-start : tie.Need-part-equal-start
-part-equal-start c = search needs
+part-equal-start c = omega arith
 
 part-equal-end : tie.Need-part-equal-end
-part-equal-end c = search needs
+part-equal-end c = omega arith
 
 equal-requires : tie.Need-equal-requires
-equal-requires c κs = search needs
+equal-requires c κs = tt
 
 returns-4 : tie.Need-returns-4
 returns-4 c =

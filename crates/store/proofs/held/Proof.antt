@@ -10,7 +10,6 @@ use Rattle.rules.specs.Update.{held as heldIn}
 use Rattle.store.specs.declared.Tables.{Tables}
 use Rattle.store.specs.Store.{tablesIn}
 use Rattle.store.proofs.Scan.{left, left-hit, left-miss, left-none, held-left}
-use borrow.Author.Needs.{needs}
 use Rattle.store.proofs.held.Statement.{statement}
 use Rattle.store.proofs.held.Tie as tie
 
@@ -26,19 +25,19 @@ loop-holds : tie.Need-loop-holds Inv-loop μ-loop
 loop-holds c = let a = c .before .args in (omega arith, omega arith, held-left (a .table) (a .tables) (now (a .store)))
 
 mul-integer : tie.Need-mul-integer Inv-loop μ-loop
-mul-integer c = search needs
+mul-integer c = omega arith
 
 integer-requires : tie.Need-integer-requires Inv-loop μ-loop
-integer-requires c κs = search needs
+integer-requires c κs = omega arith
 
 add-n : tie.Need-add-n Inv-loop μ-loop
-add-n c = search needs
+add-n c = omega arith
 
 add-i : tie.Need-add-i Inv-loop μ-loop
-add-i c = search needs
+add-i c = omega arith
 
 loop-less : tie.Need-loop-less Inv-loop μ-loop
-loop-less c = search needs
+loop-less c = omega arith
 
 loop-again : tie.Need-loop-again Inv-loop μ-loop
 loop-again c =

@@ -9,42 +9,41 @@ use denote.Ref.{now}
 use Rattle.buffers.specs.Splice.{splice}
 use Rattle.buffers.proofs.Splice.{part-copied, splice-before, drop-splice, length-splice, length-window}
 use Rattle.store.proofs.Writes.{parts-open}
-use borrow.Author.Needs.{needs}
 use Rattle.store.proofs.put_back.Statement.{statement}
 use Rattle.store.proofs.put_back.Tie as tie
 
 mul-at : tie.Need-mul-at
-mul-at c = search needs
+mul-at c = omega arith
 
 add-to : tie.Need-add-to
-add-to c = search needs
+add-to c = omega arith
 
 mul-end : tie.Need-mul-end
-mul-end c = search needs
+mul-end c = omega arith
 
 sub-move-up : tie.Need-sub-move-up
-sub-move-up c = search needs
+sub-move-up c = omega arith
 
 move-up-requires : tie.Need-move-up-requires
-move-up-requires c κs = search needs
+move-up-requires c κs = omega arith
 
 sub-copy : tie.Need-sub-copy
-sub-copy c = search needs
+sub-copy c = omega arith
 
 part-copy-start : tie.Need-part-copy-start
-part-copy-start c = search needs
+part-copy-start c = omega arith
 
 part-copy-end : tie.Need-part-copy-end
-part-copy-end c = search needs
+part-copy-end c = omega arith
 
 copy-requires : tie.Need-copy-requires
-copy-requires c κs = search needs
+copy-requires c κs = omega arith
 
 add-t12 : tie.Need-add-t12
-add-t12 c = search needs
+add-t12 c = omega arith
 
 same-length : tie.Need-same-length
-same-length c = search needs
+same-length c = omega arith
 
 returns : tie.Need-returns
 returns c =

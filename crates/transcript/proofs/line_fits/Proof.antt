@@ -4,7 +4,6 @@ use Prim.Native.Nat.{_<_}
 use denote.Ref.{now}
 use Rattle.transcript.proofs.Input.{int-two}
 use Rattle.transcript.proofs.Fitting.{too-wide, no-head, cut-off, by-room, few-bytes, few-characters}
-use borrow.Author.Needs.{needs}
 use Rattle.transcript.proofs.line_fits.Statement.{statement}
 use Rattle.transcript.proofs.line_fits.Tie as tie
 
@@ -21,7 +20,7 @@ returns-2 : tie.Need-returns-2
 returns-2 c = let a = c .before .before .before .args in no-head (a .room) (a .size) (now (a .answer)) (c .before .if1 .left) (c .if2 .taken)
 
 integer-requires : tie.Need-integer-requires
-integer-requires c κs = search needs
+integer-requires c κs = omega arith
 
 mul-if3 : tie.Need-mul-if3
 mul-if3 c =
@@ -40,10 +39,10 @@ returns-3 c =
     cut-off (a .room) (a .size) (now (a .answer)) (d .integer .result) (d .integer .ensures) (omega arith) (omega arith) (c .if3 .taken)
 
 mul-result : tie.Need-mul-result
-mul-result c = search needs
+mul-result c = omega arith
 
 add-result : tie.Need-add-result
-add-result c = search needs
+add-result c = omega arith
 
 mul-result-2 : tie.Need-mul-result-2
 mul-result-2 c =

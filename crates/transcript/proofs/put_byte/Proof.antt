@@ -8,10 +8,10 @@ use Rattle.transcript.proofs.put_byte.Statement.{statement}
 use Rattle.transcript.proofs.put_byte.Tie as tie
 
 slice-write-out : tie.Need-slice-write-out
-slice-write-out c = search needs
+slice-write-out c = omega arith
 
 add-result : tie.Need-add-result
-add-result c = search needs
+add-result c = omega arith
 
 same-length : tie.Need-same-length
 same-length c = search needs

@@ -36,7 +36,7 @@ loop-holds c =
     (search needs, (rw add-zero (prefix-none (hex (now (a .bytes))) (a .at) (now (a .out)))))
 
 shared-slice-read-b : tie.Need-shared-slice-read-b Inv-loop μ-loop
-shared-slice-read-b c = search needs
+shared-slice-read-b c = omega arith
 
 mul-to : tie.Need-mul-to Inv-loop μ-loop
 mul-to c = record { fits = omega (arith, room (c .before)) }
@@ -60,10 +60,10 @@ slice-write-out-2 : tie.Need-slice-write-out-2 Inv-loop μ-loop
 slice-write-out-2 c = simp length-set (omega (arith, room (c .before .before .before), out-length (c .before .before .before)))
 
 add-i : tie.Need-add-i Inv-loop μ-loop
-add-i c = search needs
+add-i c = omega arith
 
 loop-less : tie.Need-loop-less Inv-loop μ-loop
-loop-less c = search needs
+loop-less c = omega arith
 
 loop-again : tie.Need-loop-again Inv-loop μ-loop
 loop-again c =

@@ -12,7 +12,6 @@ use Rattle.transcript.specs.Line.{decimal, field, newline, recordsHex, p
 use Rattle.transcript.proofs.PrefixWritten.{PrefixWritten, prefix-none, prefix-next, prefix-room, prefix-space, prefix-last}
 use Rattle.transcript.proofs.Fitting.{Fitting, fitting, printed-split, lineIn-whole, lineIn-length}
 use borrow.Rule.Slice.PartAt.{part-to-end}
-use borrow.Author.Needs.{needs}
 use Rattle.transcript.proofs.put_line.Statement.{statement}
 use Rattle.transcript.proofs.put_line.Tie as tie
 
@@ -98,7 +97,7 @@ part-put-records-start : tie.Need-part-put-records-start
 part-put-records-start c = omega (arith, fit (start (counted (c .before .before))) .head)
 
 part-put-records-end : tie.Need-part-put-records-end
-part-put-records-end c = search needs
+part-put-records-end c = omega arith
 
 put-records-requires : tie.Need-put-records-requires
 put-records-requires c κs =
@@ -116,7 +115,7 @@ put-byte-requires c κs =
     omega (arith, prefix-space (records-put d) (room (start (counted (numbered d)))))
 
 same-length : tie.Need-same-length
-same-length c = search needs
+same-length c = omega arith
 
 returns : tie.Need-returns
 returns c =

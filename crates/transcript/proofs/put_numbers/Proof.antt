@@ -8,7 +8,6 @@ use lib.ListN.{length}
 use denote.Ref.{now}
 use Rattle.transcript.specs.Line.{decimal, field}
 use Rattle.transcript.proofs.PrefixWritten.{PrefixWritten, prefix-none, prefix-next, prefix-room, prefix-space, prefix-last}
-use borrow.Author.Needs.{needs}
 use Rattle.transcript.proofs.put_numbers.Statement.{statement}
 use Rattle.transcript.proofs.put_numbers.Tie as tie
 
@@ -77,7 +76,7 @@ put-digits-requires c κs =
     prefix-space (code-put d) (room (start3 d))
 
 same-length : tie.Need-same-length
-same-length c = search needs
+same-length c = omega arith
 
 returns : tie.Need-returns
 returns c =

@@ -70,10 +70,10 @@ put-byte-requires c κs =
     omega (arith, prefix-room (d .before .loop .inv .1) (blank ∷ []) (hex (record′ d) ++ after d) (split d) (start d .pre .1))
 
 sub-put-hex : tie.Need-sub-put-hex Inv-loop μ-loop
-sub-put-hex c = search needs
+sub-put-hex c = omega arith
 
 part-put-hex-start : tie.Need-part-put-hex-start Inv-loop μ-loop
-part-put-hex-start c = search needs
+part-put-hex-start c = omega arith
 
 part-put-hex-end : tie.Need-part-put-hex-end Inv-loop μ-loop
 part-put-hex-end c = omega (arith, whole (c .before .before .before .before))
@@ -84,10 +84,10 @@ put-hex-requires c κs =
     prefix-room (blank-put p) (hex (record′ (turn p))) (after (turn p)) refl (start (turn p) .pre .1)
 
 add-i : tie.Need-add-i Inv-loop μ-loop
-add-i c = search needs
+add-i c = omega arith
 
 loop-less : tie.Need-loop-less Inv-loop μ-loop
-loop-less c = search needs
+loop-less c = omega arith
 
 loop-again : tie.Need-loop-again Inv-loop μ-loop
 loop-again c =

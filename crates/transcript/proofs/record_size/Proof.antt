@@ -6,7 +6,6 @@ use mathlib.Core.List.{List, [], _∷_}
 use lib.Dec.{eqb}
 use lib.ListN.{length}
 use denote.Ref.{now}
-use borrow.Author.Needs.{needs}
 use borrow.Author.Tests.{ne-eqb}
 use Rattle.rules.specs.Bytes.{if_then_else_, byte}
 use Rattle.transcript.specs.Line.{recordSize}
@@ -49,7 +48,7 @@ returns : tie.Need-returns
 returns c = size-none (now (c .before .args .frame)) (c .if1 .taken)
 
 shared-slice-read-command : tie.Need-shared-slice-read-command
-shared-slice-read-command c = search needs
+shared-slice-read-command c = omega arith
 
 returns-2 : tie.Need-returns-2
 returns-2 c = ap size (sym (c .match .keys1)) ∙ size-some (now (c .before .before .before .args .frame)) (c .before .before .if1 .left)

@@ -1,4 +1,5 @@
 -- Right because it writes the line exactly where it fits. Assumes nothing.
+use native.Mathlib.Omega.{arith}
 use mathlib.Core.Path.{sym, ap, _∙_}
 use mathlib.Core.List.{List}
 use Prim.Native.Nat.{ℕ}
@@ -7,12 +8,11 @@ use denote.Ref.{now}
 use Rattle.buffers.specs.Splice.{splice}
 use Rattle.buffers.proofs.Splice.{splice-none}
 use Rattle.transcript.proofs.Fitting.{lineIn-none}
-use borrow.Author.Needs.{needs}
 use Rattle.transcript.proofs.write_line.Statement.{statement}
 use Rattle.transcript.proofs.write_line.Tie as tie
 
 line-fits-requires : tie.Need-line-fits-requires
-line-fits-requires c κs = search needs
+line-fits-requires c κs = tt
 
 put-line-requires : tie.Need-put-line-requires
 put-line-requires c κs =
@@ -20,7 +20,7 @@ put-line-requires c κs =
     sym (t .before .line-fits .ensures) ∙ t .if1 .taken
 
 same-length : tie.Need-same-length
-same-length c = search needs
+same-length c = omega arith
 
 returns : tie.Need-returns
 returns c = c .before .before .put-line .ensures

@@ -13,31 +13,31 @@ use Rattle.values.proofs.pad_at.Statement.{statement}
 use Rattle.values.proofs.pad_at.Tie as tie
 
 cast-dst : tie.Need-cast-dst
-cast-dst c = search needs
+cast-dst c = omega arith
 
 slice-write-dst : tie.Need-slice-write-dst
-slice-write-dst c = search needs
+slice-write-dst c = omega arith
 
 add-past : tie.Need-add-past
-add-past c = search needs
+add-past c = omega arith
 
 add-past-2 : tie.Need-add-past-2
-add-past-2 c = search needs
+add-past-2 c = omega arith
 
 add-end : tie.Need-add-end
-add-end c = search needs
+add-end c = omega arith
 
 sub-clear : tie.Need-sub-clear
-sub-clear c = search needs
+sub-clear c = omega arith
 
 part-clear-start : tie.Need-part-clear-start
-part-clear-start c = search needs
+part-clear-start c = omega arith
 
 part-clear-end : tie.Need-part-clear-end
 part-clear-end c = search needs
 
 clear-requires : tie.Need-clear-requires
-clear-requires c κs = search needs
+clear-requires c κs = tt
 
 same-length : tie.Need-same-length
 same-length c =

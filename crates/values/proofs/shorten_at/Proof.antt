@@ -15,7 +15,6 @@ use Rattle.buffers.specs.Splice.{splice}
 use Rattle.buffers.proofs.Splice.{splice-same}
 use Rattle.values.proofs.Digits.{first-byte, part-all}
 use Rattle.values.proofs.InPlace.{value-in-place}
-use borrow.Author.Needs.{needs}
 use Rattle.values.proofs.shorten_at.Statement.{statement}
 use Rattle.values.proofs.shorten_at.Tie as tie
 
@@ -45,7 +44,7 @@ counted k =
     (k .if2 .came)
 
 slice-read-n : tie.Need-slice-read-n
-slice-read-n c = search needs
+slice-read-n c = omega arith
 
 cast-n : tie.Need-cast-n
 cast-n c = record { fits = omega (arith, c .slice-known2 .given (c .before .before .args .at)) }
@@ -65,7 +64,7 @@ pad-at-requires : tie.Need-pad-at-requires
 pad-at-requires c κs = let l = counted (c .before .before .before .before .before) in (omega arith, omega arith)
 
 same-length : tie.Need-same-length
-same-length c = search needs
+same-length c = omega arith
 
 returns-2 : tie.Need-returns-2
 unfolding short

@@ -10,27 +10,26 @@ use Rattle.rules.specs.Entry.{shortEntry}
 use Rattle.rules.proofs.Shortest.{key-length, entry-length}
 use Rattle.buffers.proofs.Splice.{rest-after}
 use Rattle.values.proofs.InPlace.{entry-parts}
-use borrow.Author.Needs.{needs}
 use Rattle.values.proofs.shorten_entry.Statement.{statement}
 use Rattle.values.proofs.shorten_entry.Tie as tie
 
 shorten-key-requires : tie.Need-shorten-key-requires
-shorten-key-requires c κs = search needs
+shorten-key-requires c κs = omega arith
 
 sub-shorten-action : tie.Need-sub-shorten-action
-sub-shorten-action c = search needs
+sub-shorten-action c = omega arith
 
 part-shorten-action-start : tie.Need-part-shorten-action-start
-part-shorten-action-start c = search needs
+part-shorten-action-start c = omega arith
 
 part-shorten-action-end : tie.Need-part-shorten-action-end
-part-shorten-action-end c = search needs
+part-shorten-action-end c = omega arith
 
 shorten-action-requires : tie.Need-shorten-action-requires
-shorten-action-requires c κs = search needs
+shorten-action-requires c κs = omega arith
 
 same-length : tie.Need-same-length
-same-length c = search needs
+same-length c = omega arith
 
 returns : tie.Need-returns
 returns c =

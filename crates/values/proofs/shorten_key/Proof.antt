@@ -6,7 +6,6 @@ use mathlib.Core.Path.{_≡_, refl, ap, _∙_}
 use mathlib.Core.List.{List, _++_, map}
 use lib.ListN.{length, take, drop}
 use denote.Ref.{now}
-use borrow.Author.Needs.{needs}
 use Rattle.rules.specs.Bytes.{concat, part, parts}
 use Rattle.rules.specs.Key.{shortSlot}
 use Rattle.rules.proofs.Shortest.{part-length, slot-length}
@@ -23,34 +22,34 @@ abbrev μ-loop : tie.MeasureT-loop
 μ-loop entry dst₀ i₀ dst i = i
 
 sub-copy : tie.Need-sub-copy Inv-loop μ-loop
-sub-copy c = search needs
+sub-copy c = omega arith
 
 part-copy-start : tie.Need-part-copy-start Inv-loop μ-loop
-part-copy-start c = search needs
+part-copy-start c = omega arith
 
 part-copy-end : tie.Need-part-copy-end Inv-loop μ-loop
-part-copy-end c = search needs
+part-copy-end c = omega arith
 
 copy-requires : tie.Need-copy-requires Inv-loop μ-loop
-copy-requires c κs = search needs
+copy-requires c κs = omega arith
 
 loop-holds : tie.Need-loop-holds Inv-loop μ-loop
 loop-holds c = (omega arith, refl, replaced-none shortSlot 35 _ _ 148)
 
 sub-i : tie.Need-sub-i Inv-loop μ-loop
-sub-i c = search needs
+sub-i c = omega arith
 
 mul-shorten-slot : tie.Need-mul-shorten-slot Inv-loop μ-loop
-mul-shorten-slot c = search needs
+mul-shorten-slot c = omega arith
 
 add-shorten-slot : tie.Need-add-shorten-slot Inv-loop μ-loop
-add-shorten-slot c = search needs
+add-shorten-slot c = omega arith
 
 shorten-slot-requires : tie.Need-shorten-slot-requires Inv-loop μ-loop
-shorten-slot-requires c κs = search needs
+shorten-slot-requires c κs = omega arith
 
 loop-less : tie.Need-loop-less Inv-loop μ-loop
-loop-less c = search needs
+loop-less c = omega arith
 
 loop-again : tie.Need-loop-again Inv-loop μ-loop
 loop-again c =
@@ -68,7 +67,7 @@ loop-again c =
     )
 
 same-length : tie.Need-same-length Inv-loop μ-loop
-same-length c = search needs
+same-length c = omega arith
 
 returns : tie.Need-returns Inv-loop μ-loop
 returns c =

@@ -2,24 +2,23 @@
 use native.Mathlib.Omega.{arith}
 use denote.Ref.{now}
 use Rattle.values.proofs.InPlace.{slot-in-place}
-use borrow.Author.Needs.{needs}
 use Rattle.values.proofs.shorten_slot.Statement.{statement}
 use Rattle.values.proofs.shorten_slot.Tie as tie
 
 add-shorten-at : tie.Need-add-shorten-at
-add-shorten-at c = search needs
+add-shorten-at c = omega arith
 
 shorten-at-requires : tie.Need-shorten-at-requires
-shorten-at-requires c κs = search needs
+shorten-at-requires c κs = omega arith
 
 add-shorten-at-2 : tie.Need-add-shorten-at-2
-add-shorten-at-2 c = search needs
+add-shorten-at-2 c = omega arith
 
 shorten-at-requires-2 : tie.Need-shorten-at-requires-2
-shorten-at-requires-2 c κs = search needs
+shorten-at-requires-2 c κs = omega arith
 
 same-length : tie.Need-same-length
-same-length c = search needs
+same-length c = omega arith
 
 returns : tie.Need-returns
 returns c =

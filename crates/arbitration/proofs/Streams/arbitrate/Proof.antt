@@ -1,4 +1,5 @@
 -- Right because the scan fixes the reason, and the reason what is left and who is notified. Assumes nothing.
+use native.Mathlib.Omega.{arith}
 use mathlib.Core.Path.{_≡_}
 use lib.ListN.{length}
 use borrow.Author.Needs.{needs}
@@ -17,49 +18,49 @@ marks : (c : tie.After-id) → length (c .before .args .self .marks) ≡ 8
 marks c = search (needs, length-mapped)
 
 cast-k : tie.Need-cast-k
-cast-k c = search needs
+cast-k c = omega arith
 
 scan-requires : tie.Need-scan-requires
-scan-requires c κs = search needs
+scan-requires c κs = tt
 
 reason-requires : tie.Need-reason-requires
-reason-requires c κs = search needs
+reason-requires c κs = tt
 
 audience-requires : tie.Need-audience-requires
-audience-requires c κs = search needs
+audience-requires c κs = tt
 
 mul-s : tie.Need-mul-s
-mul-s c = search needs
+mul-s c = omega arith
 
 element-copy-out-s : tie.Need-element-copy-out-s
-element-copy-out-s c = search needs
+element-copy-out-s c = omega arith
 
 after-arbitrate-requires : tie.Need-after-arbitrate-requires
-after-arbitrate-requires c κs = search needs
+after-arbitrate-requires c κs = tt
 
 mul-t16 : tie.Need-mul-t16
-mul-t16 c = search needs
+mul-t16 c = omega arith
 
 element-set-from-left : tie.Need-element-set-from-left
-element-set-from-left c = search needs
+element-set-from-left c = omega arith
 
 cast-at : tie.Need-cast-at
-cast-at c = search needs
+cast-at c = omega arith
 
 mul-old : tie.Need-mul-old
-mul-old c = search needs
+mul-old c = omega arith
 
 element-copy-out-old : tie.Need-element-copy-out-old
-element-copy-out-old c = search needs
+element-copy-out-old c = omega arith
 
 mark-after-requires : tie.Need-mark-after-requires
-mark-after-requires c κs = search needs
+mark-after-requires c κs = tt
 
 mul-t16-2 : tie.Need-mul-t16-2
-mul-t16-2 c = search needs
+mul-t16-2 c = omega arith
 
 element-set-from-left-2 : tie.Need-element-set-from-left-2
-element-set-from-left-2 c = search needs
+element-set-from-left-2 c = omega arith
 
 returns : tie.Need-returns
 returns c =

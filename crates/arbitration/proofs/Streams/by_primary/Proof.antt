@@ -1,5 +1,6 @@
 -- Right because the primary of a role whose mark is set is the first stream that holds it. Assumes nothing.
 use Prim.Native.Nat.{ℕ, _-_, _≤_}
+use native.Mathlib.Omega.{arith}
 use mathlib.Core.Path.{_≡_, refl, sym, _∙_}
 use mathlib.Core.Bool.{Bool, true, false, _&&_, not, and-true as and-all}
 use mathlib.Core.Option.{Option}
@@ -56,16 +57,16 @@ found c h =
     mark-held (streamsOf (a .t1)) (a .role) i q h
 
 cast-place : tie.Need-cast-place Inv-loop μ-loop
-cast-place c = search needs
+cast-place c = omega arith
 
 mul-read : tie.Need-mul-read Inv-loop μ-loop
-mul-read c = search needs
+mul-read c = omega arith
 
 element-copy-out-read : tie.Need-element-copy-out-read Inv-loop μ-loop
-element-copy-out-read c = search needs
+element-copy-out-read c = omega arith
 
 is-mark-requires : tie.Need-is-mark-requires Inv-loop μ-loop
-is-mark-requires c κs = search needs
+is-mark-requires c κs = tt
 
 returns : tie.Need-returns Inv-loop μ-loop
 unfolding byPrimary
@@ -84,16 +85,16 @@ loop-holds c =
     (search needs, first-none (holds (a .role) (idOf (a .id))) (streamsOf (a .t1)))
 
 mul-s : tie.Need-mul-s Inv-loop μ-loop
-mul-s c = search needs
+mul-s c = omega arith
 
 element-copy-out-s : tie.Need-element-copy-out-s Inv-loop μ-loop
-element-copy-out-s c = search needs
+element-copy-out-s c = omega arith
 
 binding-requires : tie.Need-binding-requires Inv-loop μ-loop
-binding-requires c κs = search needs
+binding-requires c κs = tt
 
 holds-requires : tie.Need-holds-requires Inv-loop μ-loop
-holds-requires c κs = search needs
+holds-requires c κs = tt
 
 returns-2 : tie.Need-returns-2 Inv-loop μ-loop
 returns-2 c =
@@ -105,10 +106,10 @@ returns-2 c =
     found (d .before) (first-hit _ z (d .loop .inv .1) (t .loop-test .taken) (b .binding .ensures) (sym (c .if2 .taken) ∙ h .holds .ensures))
 
 add-k : tie.Need-add-k Inv-loop μ-loop
-add-k c = search needs
+add-k c = omega arith
 
 loop-less : tie.Need-loop-less Inv-loop μ-loop
-loop-less c = search needs
+loop-less c = omega arith
 
 loop-again : tie.Need-loop-again Inv-loop μ-loop
 loop-again c =

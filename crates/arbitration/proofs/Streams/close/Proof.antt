@@ -1,4 +1,5 @@
 -- Right because what is stored in the stream's place is what a CLOSE with its reason leaves there. Assumes nothing.
+use native.Mathlib.Omega.{arith}
 use mathlib.Core.Path.{_≡_, sym, ap, _∙_}
 use mathlib.Core.Logic.{⊎-elim}
 use mathlib.Core.Bool.{Bool}
@@ -42,28 +43,28 @@ told c =
     (c .match .came)
 
 cast-k : tie.Need-cast-k
-cast-k c = search needs
+cast-k c = omega arith
 
 mul-s : tie.Need-mul-s
-mul-s c = search needs
+mul-s c = omega arith
 
 element-copy-out-s : tie.Need-element-copy-out-s
-element-copy-out-s c = search needs
+element-copy-out-s c = omega arith
 
 binding-of-requires : tie.Need-binding-of-requires
-binding-of-requires c κs = search needs
+binding-of-requires c κs = tt
 
 close-reason-requires : tie.Need-close-reason-requires
-close-reason-requires c κs = search needs
+close-reason-requires c κs = tt
 
 enum-told : tie.Need-enum-told
-enum-told c = search needs
+enum-told c = omega arith
 
 enum-told-2 : tie.Need-enum-told-2
-enum-told-2 c = search needs
+enum-told-2 c = omega arith
 
 enum-known-b : tie.Need-enum-known-b
-enum-known-b c = search needs
+enum-known-b c = omega arith
 
 leads-requires : tie.Need-leads-requires
 leads-requires c κs =
@@ -72,19 +73,19 @@ leads-requires c κs =
     ap bindingOf (sym (c .before .b .given .1)) ∙ as-is b
 
 role-or-requires : tie.Need-role-or-requires
-role-or-requires c κs = search needs
+role-or-requires c κs = tt
 
 closing-audience-requires : tie.Need-closing-audience-requires
-closing-audience-requires c κs = search needs
+closing-audience-requires c κs = tt
 
 after-close-requires : tie.Need-after-close-requires
-after-close-requires c κs = search needs
+after-close-requires c κs = tt
 
 mul-t13 : tie.Need-mul-t13
-mul-t13 c = search needs
+mul-t13 c = omega arith
 
 element-set-from-self : tie.Need-element-set-from-self
-element-set-from-self c = search needs
+element-set-from-self c = omega arith
 
 returns : tie.Need-returns
 returns c =

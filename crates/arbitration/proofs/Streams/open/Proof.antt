@@ -1,4 +1,5 @@
 -- Right because what is stored in the stream's place is what an OPEN with its reason leaves there. Assumes nothing.
+use native.Mathlib.Omega.{arith}
 use mathlib.Core.Path.{_≡_}
 use lib.ListN.{length}
 use borrow.Author.Needs.{needs}
@@ -9,28 +10,28 @@ use Rattle.arbitration.proofs.Streams.open.Statement.{statement}
 use Rattle.arbitration.proofs.Streams.open.Tie as tie
 
 cast-k : tie.Need-cast-k
-cast-k c = search needs
+cast-k c = omega arith
 
 mul-s : tie.Need-mul-s
-mul-s c = search needs
+mul-s c = omega arith
 
 element-copy-out-s : tie.Need-element-copy-out-s
-element-copy-out-s c = search needs
+element-copy-out-s c = omega arith
 
 binding-requires : tie.Need-binding-requires
-binding-requires c κs = search needs
+binding-requires c κs = tt
 
 open-reason-requires : tie.Need-open-reason-requires
-open-reason-requires c κs = search needs
+open-reason-requires c κs = tt
 
 after-open-requires : tie.Need-after-open-requires
-after-open-requires c κs = search needs
+after-open-requires c κs = tt
 
 mul-t9 : tie.Need-mul-t9
-mul-t9 c = search needs
+mul-t9 c = omega arith
 
 element-set-from-self : tie.Need-element-set-from-self
-element-set-from-self c = search needs
+element-set-from-self c = omega arith
 
 returns : tie.Need-returns
 unfolding recordsOf

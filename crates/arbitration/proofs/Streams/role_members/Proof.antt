@@ -33,16 +33,16 @@ marks : (c : tie.At-loop Inv-loop μ-loop) → length (c .before .before .before
 marks c = search (needs, length-mapped)
 
 cast-place : tie.Need-cast-place Inv-loop μ-loop
-cast-place c = search needs
+cast-place c = omega arith
 
 mul-read : tie.Need-mul-read Inv-loop μ-loop
-mul-read c = search needs
+mul-read c = omega arith
 
 element-copy-out-read : tie.Need-element-copy-out-read Inv-loop μ-loop
-element-copy-out-read c = search needs
+element-copy-out-read c = omega arith
 
 mark-of-requires : tie.Need-mark-of-requires Inv-loop μ-loop
-mark-of-requires c κs = search needs
+mark-of-requires c κs = tt
 
 loop-holds : tie.Need-loop-holds Inv-loop μ-loop
 loop-holds c =
@@ -56,37 +56,37 @@ loop-holds c =
     )
 
 mul-s : tie.Need-mul-s Inv-loop μ-loop
-mul-s c = search needs
+mul-s c = omega arith
 
 element-copy-out-s : tie.Need-element-copy-out-s Inv-loop μ-loop
-element-copy-out-s c = search needs
+element-copy-out-s c = omega arith
 
 binding-requires : tie.Need-binding-requires Inv-loop μ-loop
-binding-requires c κs = search needs
+binding-requires c κs = tt
 
 cast-members : tie.Need-cast-members Inv-loop μ-loop
-cast-members c = search needs
+cast-members c = omega arith
 
 slice-write-members : tie.Need-slice-write-members Inv-loop μ-loop
-slice-write-members c = search needs
+slice-write-members c = omega arith
 
 in-role-requires : tie.Need-in-role-requires Inv-loop μ-loop
-in-role-requires c κs = search needs
+in-role-requires c κs = tt
 
 add-count : tie.Need-add-count Inv-loop μ-loop
-add-count c = search needs
+add-count c = omega arith
 
 holds-requires : tie.Need-holds-requires Inv-loop μ-loop
-holds-requires c κs = search needs
+holds-requires c κs = tt
 
 first-of-requires : tie.Need-first-of-requires Inv-loop μ-loop
-first-of-requires c κs = search needs
+first-of-requires c κs = tt
 
 add-k : tie.Need-add-k Inv-loop μ-loop
-add-k c = search needs
+add-k c = omega arith
 
 loop-less : tie.Need-loop-less Inv-loop μ-loop
-loop-less c = search needs
+loop-less c = omega arith
 
 loop-again : tie.Need-loop-again Inv-loop μ-loop
 loop-again c =
@@ -120,10 +120,10 @@ loop-again c =
     (c .if1 .came)
 
 primary-of-requires : tie.Need-primary-of-requires Inv-loop μ-loop
-primary-of-requires c κs = search needs
+primary-of-requires c κs = tt
 
 same-length : tie.Need-same-length Inv-loop μ-loop
-same-length c = search needs
+same-length c = omega arith
 
 returns : tie.Need-returns Inv-loop μ-loop
 unfolding primary

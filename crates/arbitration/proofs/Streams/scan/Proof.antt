@@ -29,31 +29,31 @@ marks : (c : tie.At-loop Inv-loop μ-loop) → length (c .before .before .before
 marks c = search (needs, length-mapped)
 
 cast-at : tie.Need-cast-at Inv-loop μ-loop
-cast-at c = search needs
+cast-at c = omega arith
 
 mul-kept : tie.Need-mul-kept Inv-loop μ-loop
-mul-kept c = search needs
+mul-kept c = omega arith
 
 element-copy-out-kept : tie.Need-element-copy-out-kept Inv-loop μ-loop
-element-copy-out-kept c = search needs
+element-copy-out-kept c = omega arith
 
 binding-of-requires : tie.Need-binding-of-requires Inv-loop μ-loop
-binding-of-requires c κs = search needs
+binding-of-requires c κs = tt
 
 role-or-requires : tie.Need-role-or-requires Inv-loop μ-loop
-role-or-requires c κs = search needs
+role-or-requires c κs = tt
 
 cast-place : tie.Need-cast-place Inv-loop μ-loop
-cast-place c = search needs
+cast-place c = omega arith
 
 mul-read : tie.Need-mul-read Inv-loop μ-loop
-mul-read c = search needs
+mul-read c = omega arith
 
 element-copy-out-read : tie.Need-element-copy-out-read Inv-loop μ-loop
-element-copy-out-read c = search needs
+element-copy-out-read c = omega arith
 
 mark-of-requires : tie.Need-mark-of-requires Inv-loop μ-loop
-mark-of-requires c κs = search needs
+mark-of-requires c κs = tt
 
 loop-holds : tie.Need-loop-holds Inv-loop μ-loop
 loop-holds c =
@@ -63,37 +63,37 @@ loop-holds c =
     (search needs, search needs, s)
 
 mul-s : tie.Need-mul-s Inv-loop μ-loop
-mul-s c = search needs
+mul-s c = omega arith
 
 element-copy-out-s : tie.Need-element-copy-out-s Inv-loop μ-loop
-element-copy-out-s c = search needs
+element-copy-out-s c = omega arith
 
 binding-requires : tie.Need-binding-requires Inv-loop μ-loop
-binding-requires c κs = search needs
+binding-requires c κs = tt
 
 in-role-requires : tie.Need-in-role-requires Inv-loop μ-loop
-in-role-requires c κs = search needs
+in-role-requires c κs = tt
 
 one-if-requires : tie.Need-one-if-requires Inv-loop μ-loop
-one-if-requires c κs = search needs
+one-if-requires c κs = tt
 
 add-members : tie.Need-add-members Inv-loop μ-loop
 add-members c = let h = at-most-one (c .before .in-role .result) in omega (arith, c .one-if .ensures, h)
 
 holds-requires : tie.Need-holds-requires Inv-loop μ-loop
-holds-requires c κs = search needs
+holds-requires c κs = tt
 
 and-requires : tie.Need-and-requires Inv-loop μ-loop
-and-requires c κs = search needs
+and-requires c κs = tt
 
 or-requires : tie.Need-or-requires Inv-loop μ-loop
-or-requires c κs = search needs
+or-requires c κs = tt
 
 holds-requires-2 : tie.Need-holds-requires-2 Inv-loop μ-loop
-holds-requires-2 c κs = search needs
+holds-requires-2 c κs = tt
 
 first-of-requires : tie.Need-first-of-requires Inv-loop μ-loop
-first-of-requires c κs = search needs
+first-of-requires c κs = tt
 
 add-k : tie.Need-add-k Inv-loop μ-loop
 add-k c = omega arith
@@ -119,10 +119,10 @@ loop-again c =
     )
 
 is-set-requires : tie.Need-is-set-requires Inv-loop μ-loop
-is-set-requires c κs = search needs
+is-set-requires c κs = tt
 
 and-requires-2 : tie.Need-and-requires-2 Inv-loop μ-loop
-and-requires-2 c κs = search needs
+and-requires-2 c κs = tt
 
 returns : tie.Need-returns Inv-loop μ-loop
 unfolding heldElsewhere

@@ -1,15 +1,14 @@
 -- Right because 16 bytes are the high half followed by the low one. Assumes nothing.
 use native.Mathlib.Omega.{arith}
-use borrow.Author.Needs.{needs}
 use Rattle.numbers.proofs.Bytes.{number-halves}
 use Rattle.numbers.proofs.Number.from_bytes.Statement.{statement}
 use Rattle.numbers.proofs.Number.from_bytes.Tie as tie
 
 integer-requires : tie.Need-integer-requires
-integer-requires c κs = search needs
+integer-requires c κs = omega arith
 
 integer-requires-2 : tie.Need-integer-requires-2
-integer-requires-2 c κs = search needs
+integer-requires-2 c κs = omega arith
 
 returns : tie.Need-returns
 returns c =

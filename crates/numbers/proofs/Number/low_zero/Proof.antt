@@ -6,7 +6,6 @@ use mathlib.Core.Path.{sym, ap, _∙_}
 use lib.Dec.{eqb}
 use lib.Pow.{pow-pos}
 use borrow.Author.Tests.{ne-eqb}
-use borrow.Author.Needs.{needs}
 use Rattle.numbers.specs.Whole.{wholeOf}
 use Rattle.numbers.proofs.EquivalentTests.{eqb-iff}
 use Rattle.numbers.proofs.Halves.{whole-below, high-zero}
@@ -15,7 +14,7 @@ use Rattle.numbers.proofs.Number.low_zero.Statement.{statement}
 use Rattle.numbers.proofs.Number.low_zero.Tie as tie
 
 shl-p : tie.Need-shl-p
-shl-p c = search needs
+shl-p c = omega arith
 
 rem-result : tie.Need-rem-result
 rem-result c = let k : ℕ = c .before .before .args .k in omega (arith, one-shl k (c .before .if1 .taken), pow-pos k)
@@ -40,10 +39,10 @@ returns-3 c =
     ∙ ap (λ (n : ℕ). eqb n 0) (sym (mod-eq-of-lt (whole-below (a .self) (a .k) (omega arith) (omega arith) (omega arith))))
 
 cast-p : tie.Need-cast-p
-cast-p c = search needs
+cast-p c = omega arith
 
 shl-p-2 : tie.Need-shl-p-2
-shl-p-2 c = search needs
+shl-p-2 c = omega arith
 
 rem-result-2 : tie.Need-rem-result-2
 rem-result-2 c =

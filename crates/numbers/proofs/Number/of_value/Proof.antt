@@ -5,29 +5,28 @@ use mathlib.Core.List.{List}
 use mathlib.Core.Path.{_≡_, sym, ap, _∙_}
 use lib.ListN.{getD}
 use denote.Ref.{now}
-use borrow.Author.Needs.{needs}
 use Rattle.rules.specs.Bytes.{int}
 use Rattle.numbers.proofs.Bytes.{int-all, int-front}
 use Rattle.numbers.proofs.Number.of_value.Statement.{statement}
 use Rattle.numbers.proofs.Number.of_value.Tie as tie
 
 shared-slice-read-n : tie.Need-shared-slice-read-n
-shared-slice-read-n c = search needs
+shared-slice-read-n c = omega arith
 
 cast-n : tie.Need-cast-n
 cast-n c = record { fits = omega (arith, c .shared-slice-known2 .given 0) }
 
 sub-from-bytes : tie.Need-sub-from-bytes
-sub-from-bytes c = search needs
+sub-from-bytes c = omega arith
 
 part-from-bytes-start : tie.Need-part-from-bytes-start
-part-from-bytes-start c = search needs
+part-from-bytes-start c = omega arith
 
 part-from-bytes-end : tie.Need-part-from-bytes-end
-part-from-bytes-end c = search needs
+part-from-bytes-end c = omega arith
 
 from-bytes-requires : tie.Need-from-bytes-requires
-from-bytes-requires c κs = search needs
+from-bytes-requires c κs = omega arith
 
 returns : tie.Need-returns
 returns c =
@@ -36,10 +35,10 @@ returns c =
     c .before .from-bytes .ensures ∙ int-all 1 16 (getD s 0 0) s (omega arith) (omega arith)
 
 sub-shift-right-bytes : tie.Need-sub-shift-right-bytes
-sub-shift-right-bytes c = search needs
+sub-shift-right-bytes c = omega arith
 
 shift-right-bytes-requires : tie.Need-shift-right-bytes-requires
-shift-right-bytes-requires c κs = search needs
+shift-right-bytes-requires c κs = omega arith
 
 returns-2 : tie.Need-returns-2
 returns-2 c =

@@ -4,7 +4,6 @@ use native.Mathlib.Nat.{zero-add, div-eq-of-lt}
 use native.Mathlib.Omega.{arith}
 use mathlib.Core.Path.{_≡_, sym, ap, ap₂, subst, _∙_}
 use lib.Pow.{pow-pos, pow-add}
-use borrow.Author.Needs.{needs}
 use Rattle.numbers.specs.Whole.{wholeOf}
 use Rattle.numbers.proofs.Halves.{whole-below}
 use Rattle.numbers.proofs.Bits.{one-shl, byte-bits, more-off, fewer-off, low-room}
@@ -32,10 +31,10 @@ returns c =
     ∙ div-eq-of-lt (whole-below (a .self) (8 * a .k) (omega arith) (omega arith) (omega arith)))
 
 mul-j : tie.Need-mul-j
-mul-j c = search needs
+mul-j c = omega arith
 
 shl-p : tie.Need-shl-p
-shl-p c = search needs
+shl-p c = omega arith
 
 div-t11 : tie.Need-div-t11
 div-t11 c = let a = c .before .before .before .args in shl-some (8 * (a .k - 8)) (omega arith)
@@ -50,16 +49,16 @@ returns-2 c =
     ∙ more-off (a .self .high) (a .self .low) (8 * a .k) (omega arith) (omega arith))
 
 mul-j-2 : tie.Need-mul-j-2
-mul-j-2 c = search needs
+mul-j-2 c = omega arith
 
 shl-p-2 : tie.Need-shl-p-2
-shl-p-2 c = search needs
+shl-p-2 c = omega arith
 
 sub-i : tie.Need-sub-i
-sub-i c = search needs
+sub-i c = omega arith
 
 shl-q : tie.Need-shl-q
-shl-q c = search needs
+shl-q c = omega arith
 
 div-t12 : tie.Need-div-t12
 div-t12 c = let a = c .before .before .before .args in shl-some (8 * a .k) (omega arith)

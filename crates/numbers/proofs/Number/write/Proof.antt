@@ -9,27 +9,26 @@ use Rattle.buffers.proofs.Splice.{rest-after}
 use Rattle.rules.proofs.Sizes.{bytes-length}
 use Rattle.numbers.specs.Whole.{wholeOf}
 use Rattle.numbers.proofs.Bytes.{bytesOf-append}
-use borrow.Author.Needs.{needs}
 use Rattle.numbers.proofs.Number.write.Statement.{statement}
 use Rattle.numbers.proofs.Number.write.Tie as tie
 
 write-word-requires : tie.Need-write-word-requires
-write-word-requires c κs = search needs
+write-word-requires c κs = omega arith
 
 sub-write-word : tie.Need-sub-write-word
-sub-write-word c = search needs
+sub-write-word c = omega arith
 
 part-write-word-start : tie.Need-part-write-word-start
-part-write-word-start c = search needs
+part-write-word-start c = omega arith
 
 part-write-word-end : tie.Need-part-write-word-end
-part-write-word-end c = search needs
+part-write-word-end c = omega arith
 
 write-word-requires-2 : tie.Need-write-word-requires-2
-write-word-requires-2 c κs = search needs
+write-word-requires-2 c κs = omega arith
 
 same-length : tie.Need-same-length
-same-length c = search needs
+same-length c = omega arith
 
 returns : tie.Need-returns
 returns c =

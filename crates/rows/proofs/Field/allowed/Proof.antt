@@ -3,13 +3,12 @@ use Prim.Native.Nat.{ℕ}
 use native.Mathlib.Omega.{arith}
 use mathlib.Core.Bool.{and-false}
 use lib.Dec.{leb}
-use borrow.Author.Needs.{needs}
 use borrow.Author.Tests.{lt-leb}
 use Rattle.rows.proofs.Field.allowed.Statement.{statement}
 use Rattle.rows.proofs.Field.allowed.Tie as tie
 
 width-allowed-requires : tie.Need-width-allowed-requires
-width-allowed-requires c κs = search needs
+width-allowed-requires c κs = tt
 
 returns : tie.Need-returns
 returns c = rw (c .match .keys1)

@@ -1,19 +1,18 @@
 -- Right because the field's bytes are those at its place. Assumes nothing.
 use native.Mathlib.Nat.{add-zero}
 use native.Mathlib.Omega.{arith}
-use borrow.Author.Needs.{needs}
 use Rattle.rules.proofs.Lists.{byte-part}
 use Rattle.rows.proofs.Field.at.Statement.{statement}
 use Rattle.rows.proofs.Field.at.Tie as tie
 
 shared-slice-read-t4 : tie.Need-shared-slice-read-t4
-shared-slice-read-t4 c = search needs
+shared-slice-read-t4 c = omega arith
 
 add-t5 : tie.Need-add-t5
-add-t5 c = search needs
+add-t5 c = omega arith
 
 shared-slice-read-t7 : tie.Need-shared-slice-read-t7
-shared-slice-read-t7 c = search needs
+shared-slice-read-t7 c = omega arith
 
 returns : tie.Need-returns
 returns c =
