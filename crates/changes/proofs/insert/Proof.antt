@@ -1,52 +1,77 @@
--- Right because the entry is written after the last one. Assumes nothing.
-use Prim.Native.Nat.{ℕ, _*_}
+-- Right because the action is written after the key, and the key after the last entry. Assumes nothing.
+use Prim.Native.Nat.{ℕ, _+_, _*_, _≤_}
 use native.Mathlib.Omega.{arith}
-use mathlib.Core.Path.{_≡_}
+use mathlib.Core.Path.{_≡_, ap, _∙_}
 use mathlib.Core.List.{List}
-use lib.ListN.{length}
+use lib.ListN.{length, drop}
 use denote.Ref.{now}
+use Rattle.rules.specs.Key.{shortKey}
 use Rattle.rules.specs.Entry.{shortEntry}
-use Rattle.rules.proofs.Shortest.{entry-length}
-use Rattle.buffers.proofs.Splice.{drop-splice, length-splice, rest-back}
+use Rattle.rules.proofs.Shortest.{key-length, entry-length}
+use Rattle.buffers.specs.Splice.{splice}
+use Rattle.buffers.proofs.Splice.{drop-splice, length-splice, splice-next, rest-back}
+use Rattle.values.proofs.InPlace.{entry-parts}
 use Rattle.store.proofs.Writes.{parts-append}
 use borrow.Author.Needs.{needs}
 use Rattle.changes.proofs.insert.Statement.{statement}
 use Rattle.changes.proofs.insert.Tie as tie
 
+-- an entry in shortest form is its key and then what comes after it
+whole : (e s short keyed after : List ℕ) (at : ℕ) → length e ≡ 220 → at + 220 ≤ length s → short ≡ shortKey e → keyed ≡ splice s at short
+    → after ≡ splice keyed (at + 148) (drop 148 (shortEntry e)) → after ≡ splice s at (shortEntry e)
+whole e s short keyed after at l room k w v =
+    let n : length (shortKey e) ≡ 148 = key-length e (omega arith) in
+    v ∙ ap (λ (x : List ℕ). splice x (at + 148) (drop 148 (shortEntry e))) (w ∙ ap (splice s at) k)
+    ∙ splice-next s at (at + 148) (shortKey e) (drop 148 (shortEntry e)) (omega arith) (omega arith)
+    ∙ ap (splice s at) (entry-parts e l)
+
 mul-at : tie.Need-mul-at
 mul-at c = search needs
 
-sub-shorten-entry : tie.Need-sub-shorten-entry
-sub-shorten-entry c = search needs
+sub-copy : tie.Need-sub-copy
+sub-copy c = search needs
 
-part-shorten-entry-start : tie.Need-part-shorten-entry-start
-part-shorten-entry-start c = search needs
+part-copy-start : tie.Need-part-copy-start
+part-copy-start c = search needs
 
-part-shorten-entry-end : tie.Need-part-shorten-entry-end
-part-shorten-entry-end c = search needs
+part-copy-end : tie.Need-part-copy-end
+part-copy-end c = search needs
 
-shorten-entry-requires : tie.Need-shorten-entry-requires
-shorten-entry-requires c κs = search needs
+-- the key has its 148 bytes
+key-size : (d : tie.After-shared-slice-known2) → length (now (d .before .before .before .args .short)) ≡ 148
+key-size d =
+    let s = d .before .before .before in
+    ap length (s .pre .3) ∙ key-length (now (s .args .entry)) (omega arith)
 
-add-t8 : tie.Need-add-t8
-add-t8 c = search needs
+copy-requires : tie.Need-copy-requires
+copy-requires c κs = omega (arith, key-size (c .before))
+
+write-action-requires : tie.Need-write-action-requires
+write-action-requires c κs = search needs
+
+add-t9 : tie.Need-add-t9
+add-t9 c = search needs
 
 same-length : tie.Need-same-length
 same-length c = search needs
 
 returns : tie.Need-returns
 returns c =
-    let a = c .before .before .before .before .before .before .args in
+    let w = c .before .before in
+    let k = w .before .before .before .before in
+    let d = k .before .before in
+    let a = d .before .before .before .args in
+    let e : List ℕ = now (a .entry) in
     let s : List ℕ = now (a .store) in
     let at : ℕ = 220 * a .tables .count in
-    let new : List ℕ = shortEntry (now (a .entry)) in
-    let l : length new ≡ 220 = entry-length (now (a .entry)) (omega arith) in
-    let w = c .before .before .shorten-entry in
-    rw (rest-back s (w .last .1 .0) new at (w .ensures) (omega arith)) (record {
-      holds = parts-append (a .tables .count) 220 s new (omega arith) l;
+    let l : length (shortEntry e) ≡ 220 = entry-length e (omega arith) in
+    let keyed = rest-back s (k .copy .last .1 .0) (now (a .short)) at (k .copy .ensures) (omega (arith, key-size d)) in
+    rw (whole e s (now (a .short)) _ (w .write-action .last .0) at (omega arith) (omega arith) (d .before .before .before .pre .3) keyed
+    (w .write-action .ensures)) (record {
+      holds = parts-append (a .tables .count) 220 s (shortEntry e) (omega arith) l;
       few = omega arith;
-      room = length-splice s at new (omega arith);
-      beyond = drop-splice 56_320 s at new (omega arith) (omega arith);
+      room = length-splice s at (shortEntry e) (omega arith);
+      beyond = drop-splice 56_320 s at (shortEntry e) (omega arith) (omega arith);
     })
 
 pub insert-spec : {M : Type 1} → statement M
@@ -54,10 +79,11 @@ insert-spec =
     tie.close
     (tie.spec
     mul-at
-    sub-shorten-entry
-    part-shorten-entry-start
-    part-shorten-entry-end
-    shorten-entry-requires
-    add-t8
+    sub-copy
+    part-copy-start
+    part-copy-end
+    copy-requires
+    write-action-requires
+    add-t9
     same-length
     returns)
