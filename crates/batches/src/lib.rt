@@ -92,7 +92,8 @@ fn step(
         (now (log .exit)) ⌝ }
     ensures refused { λ r. ⌜ StepRefused r tables (now (store .entry)) (now (store .exit)) (now (log .entry)) (now (log .exit)) ⌝ }
 {
-    let verdict = judging::judge(rows, count, role, store, tables, update);
+    let mut short = [0; rules::KEY];
+    let verdict = judging::judge(rows, count, role, store, tables, update, &mut short);
     let reason = verdict.reason();
     let at = 2 * i;
     write_pair(reason, &mut answer[at..]);
@@ -100,7 +101,7 @@ fn step(
         return Taken { tables, reason };
     }
     note_update(atomicity, verdict, store, tables, log, i);
-    let left = changes::apply(verdict, store, tables, update);
+    let left = changes::apply(verdict, store, tables, update, &short);
     Taken {
         tables: left,
         reason,

@@ -20,6 +20,9 @@ use borrow.Author.Needs.{needs}
 use Rattle.batches.proofs.step.Statement.{statement}
 use Rattle.batches.proofs.step.Tie as tie
 
+slice-aggregate-judge : tie.Need-slice-aggregate-judge
+slice-aggregate-judge c = search needs
+
 judge-requires : tie.Need-judge-requires
 judge-requires c κs = search needs
 
@@ -48,12 +51,13 @@ same-length-2 : tie.Need-same-length-2
 same-length-2 c = search needs
 
 -- the answer with the pair
-paired : (d : tie.After-write-pair) →
-    let x = now (d .before .before .before .before .before .before .before .before .before .before .args .answer) in
-    let i = d .before .before .before .before .before .before .before .before .before .before .args .i in
+paired : (d : tie.After-write-pair)
+    → let a = d .before .before .before .before .before .before .before .before .before .before .before .before .args in
+    let x = now (a .answer) in
+    let i = a .i in
     putMid (2 * i) (length x - 2 * i) x (d .write-pair .last .1 .0) ≡ splice x (2 * i) (pairOf (d .before .before .reason .result))
 paired d =
-    let a = d .before .before .before .before .before .before .before .before .before .before .args in
+    let a = d .before .before .before .before .before .before .before .before .before .before .before .before .args in
     let x : List ℕ = now (a .answer) in
     part-copied x (d .write-pair .last .1 .0) (pairOf (d .before .before .reason .result)) (2 * a .i) (length x - 2 * a .i) (d .write-pair .ensures)
     (omega arith) (omega arith)
@@ -61,8 +65,8 @@ paired d =
 returns : tie.Need-returns
 returns c =
     let q = c .before .before .before .before .before in
-    let v = q .before in
-    let s = v .before .before .before .before .before .before .before in
+    let v = q .before .before in
+    let s = v .before .before .before .before .before .before .before .before in
     let a = s .args in
     let n = c .if1 .taken in (
       q .reason .ensures ∙ v .judge .ensures .0,
@@ -83,8 +87,17 @@ returns c =
 note-update-requires : tie.Need-note-update-requires
 note-update-requires c κs = search needs
 
+slice-aggregate-apply : tie.Need-slice-aggregate-apply
+slice-aggregate-apply c = search needs
+
 apply-requires : tie.Need-apply-requires
-apply-requires c κs = search needs
+apply-requires c κs =
+    let g = c .before .before .before .before .before .before .before in
+    let q = g .before .before .before .before .before in
+    let v = q .before .before in
+    let p = v .before .before .before .before .before .before .before .before .pre in
+    let possible = v .judge .ensures .1 .1 in
+    (possible .0, p .1 .0, p .1 .1, p .2, possible .1 (sym (q .reason .ensures) ∙ g .if1 .left))
 
 same-length-3 : tie.Need-same-length-3
 same-length-3 c = search needs
@@ -97,15 +110,15 @@ same-length-5 c = search needs
 
 returns-2 : tie.Need-returns-2
 returns-2 c =
-    let w = c .before .before .before .before .before .before .before .before .before .before .before .before in
+    let w = c .before .before .before .before .before .before .before .before .before .before .before .before .before in
     let q = w .before .before in
-    let v = q .before in
-    let s = v .before .before .before .before .before .before .before in
+    let v = q .before .before in
+    let s = v .before .before .before .before .before .before .before .before in
     let a = s .args in
     let u : List ℕ = now (a .update) in
     let es : List (List ℕ) = entriesIn (a .tables) (now (a .store)) in
     let did = c .before .before .apply .ensures in
-    let note = c .before .before .before .before .before .before .note-update .ensures in
+    let note = c .before .before .before .before .before .before .before .note-update .ensures in
     let justified = v .judge .ensures .1 .0 in
     let few : length es ≤ 256 = omega (arith, s .pre .1 .0, parts-count (a .tables .count) 220 (now (a .store))) in (
       q .reason .ensures ∙ v .judge .ensures .0,
@@ -124,7 +137,7 @@ returns-2 c =
                     (undo-after-apply (v .judge .result) (byte 0 u) u es (part (74 * a .i) 74 (now (a .log))) few (s .pre .2)
                     (sym (q .reason .ensures) ∙ z) justified);
               },
-              λ n. absurd (n (c .before .before .before .before .before .before .before .before .before .if1 .left)),
+              λ n. absurd (n (c .before .before .before .before .before .before .before .before .before .before .if1 .left)),
             ),
           ),
         ),
@@ -135,6 +148,7 @@ pub step-spec : {M : Type 1} → statement M
 step-spec =
     tie.close
     (tie.spec
+    slice-aggregate-judge
     judge-requires
     reason-requires
     mul-at
@@ -146,6 +160,7 @@ step-spec =
     same-length-2
     returns
     note-update-requires
+    slice-aggregate-apply
     apply-requires
     same-length-3
     same-length-4
