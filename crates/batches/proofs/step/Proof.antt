@@ -68,21 +68,17 @@ returns c =
     let v = q .before .before in
     let s = v .before .before .before .before .before .before .before .before in
     let a = s .args in
-    let n = c .if1 .taken in (
-      q .reason .ensures ∙ v .judge .ensures .0,
-      (
-        paired (c .before .before .before),
-        (
-          s .pre .1 .0,
-          (
-            λ d.
-                rw (refused (q .reason .result) (updateOf (now (a .update))) (tablesIn (a .tables) (now (a .store))) n)
-                (record { holds = refl; few = s .pre .1 .0; room = refl; beyond = refl }),
-            (λ e z. absurd (n z), λ m. (refl, refl, refl)),
-          ),
-        ),
-      ),
-    )
+    let n = c .if1 .taken in
+    record {
+      reason = q .reason .ensures ∙ v .judge .ensures .0;
+      pair = paired (c .before .before .before);
+      few = s .pre .1 .0;
+      left = λ d.
+          rw (refused (q .reason .result) (updateOf (now (a .update))) (tablesIn (a .tables) (now (a .store))) n)
+          (record { holds = refl; few = s .pre .1 .0; room = refl; beyond = refl });
+      noted = λ e z. absurd (n z);
+      refused = λ m. (refl, refl, refl);
+    }
 
 note-update-requires : tie.Need-note-update-requires
 note-update-requires c κs = search needs
@@ -120,29 +116,22 @@ returns-2 c =
     let did = c .before .before .apply .ensures in
     let note = c .before .before .before .before .before .before .before .note-update .ensures in
     let justified = v .judge .ensures .1 .0 in
-    let few : length es ≤ 256 = omega (arith, s .pre .1 .0, parts-count (a .tables .count) 220 (now (a .store))) in (
-      q .reason .ensures ∙ v .judge .ensures .0,
-      (
-        paired w,
-        (
-          did .0 .few,
-          (
-            λ d. rw (q .reason .ensures) (did .1 d justified),
-            (
-              λ e z. record {
-                note = notedAt (a .i) (v .judge .result) (a .tables) (now (a .store)) (now (a .log));
-                size = note e .0;
-                bytes = note e .1;
-                undoing = rw (did .0 .holds)
-                    (undo-after-apply (v .judge .result) (byte 0 u) u es (part (74 * a .i) 74 (now (a .log))) few (s .pre .2)
-                    (sym (q .reason .ensures) ∙ z) justified);
-              },
-              λ n. absurd (n (c .before .before .before .before .before .before .before .before .before .before .if1 .left)),
-            ),
-          ),
-        ),
-      ),
-    )
+    let few : length es ≤ 256 = omega (arith, s .pre .1 .0, parts-count (a .tables .count) 220 (now (a .store))) in
+    record {
+      reason = q .reason .ensures ∙ v .judge .ensures .0;
+      pair = paired w;
+      few = did .0 .few;
+      left = λ d. rw (q .reason .ensures) (did .1 d justified);
+      noted = λ e z. record {
+        note = notedAt (a .i) (v .judge .result) (a .tables) (now (a .store)) (now (a .log));
+        size = note e .0;
+        bytes = note e .1;
+        undoing = rw (did .0 .holds)
+            (undo-after-apply (v .judge .result) (byte 0 u) u es (part (74 * a .i) 74 (now (a .log))) few (s .pre .2)
+            (sym (q .reason .ensures) ∙ z) justified);
+      };
+      refused = λ n. absurd (n (c .before .before .before .before .before .before .before .before .before .before .if1 .left));
+    }
 
 pub step-spec : {M : Type 1} → statement M
 step-spec =
