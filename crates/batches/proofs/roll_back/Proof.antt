@@ -25,43 +25,43 @@ loop-holds : tie.Need-loop-holds Inv-loop μ-loop
 loop-holds c = (omega arith, omega arith, refl, λ goal u. record { room = refl; beyond = refl; undoes = u })
 
 sub-i : tie.Need-sub-i Inv-loop μ-loop
-sub-i c = search needs
+sub-i c = omega arith
 
 mul-at : tie.Need-mul-at Inv-loop μ-loop
-mul-at c = search needs
+mul-at c = omega arith
 
 add-end : tie.Need-add-end Inv-loop μ-loop
-add-end c = search needs
+add-end c = omega arith
 
 mul-from : tie.Need-mul-from Inv-loop μ-loop
-mul-from c = search needs
+mul-from c = omega arith
 
 add-to : tie.Need-add-to Inv-loop μ-loop
-add-to c = search needs
+add-to c = omega arith
 
 sub-undo : tie.Need-sub-undo Inv-loop μ-loop
-sub-undo c = search needs
+sub-undo c = omega arith
 
 part-undo-start : tie.Need-part-undo-start Inv-loop μ-loop
-part-undo-start c = search needs
+part-undo-start c = omega arith
 
 part-undo-end : tie.Need-part-undo-end Inv-loop μ-loop
-part-undo-end c = search needs
+part-undo-end c = omega arith
 
 sub-undo-2 : tie.Need-sub-undo-2 Inv-loop μ-loop
-sub-undo-2 c = search needs
+sub-undo-2 c = omega arith
 
 part-undo-start-2 : tie.Need-part-undo-start-2 Inv-loop μ-loop
-part-undo-start-2 c = search needs
+part-undo-start-2 c = omega arith
 
 part-undo-end-2 : tie.Need-part-undo-end-2 Inv-loop μ-loop
-part-undo-end-2 c = search needs
+part-undo-end-2 c = omega arith
 
 undo-requires : tie.Need-undo-requires Inv-loop μ-loop
 undo-requires c κs = search needs
 
 loop-less : tie.Need-loop-less Inv-loop μ-loop
-loop-less c = search needs
+loop-less c = omega arith
 
 loop-again : tie.Need-loop-again Inv-loop μ-loop
 loop-again c =
@@ -78,7 +78,7 @@ loop-again c =
     )
 
 same-length : tie.Need-same-length Inv-loop μ-loop
-same-length c = search needs
+same-length c = c .before .loop .inv .2
 
 returns : tie.Need-returns Inv-loop μ-loop
 returns c =

@@ -1,7 +1,7 @@
 -- Right because the update is judged before it is done, noted as it will be done, and its pair says what was judged. Assumes nothing.
 use Prim.Native.Nat.{ℕ, _*_, _-_, _≤_}
 use native.Mathlib.Omega.{arith}
-use mathlib.Core.Path.{_≡_, refl, sym, _∙_}
+use mathlib.Core.Path.{_≡_, refl, sym, ap, _∙_}
 use mathlib.Core.List.{List}
 use lib.ListN.{length}
 use borrow.Rule.Slice.PartMut.{putMid}
@@ -11,7 +11,7 @@ use Rattle.rules.specs.Call.{pairOf}
 use Rattle.rules.specs.Frame.{updateOf}
 use Rattle.rules.proofs.Formed.{parts-count}
 use Rattle.buffers.specs.Splice.{splice}
-use Rattle.buffers.proofs.Splice.{part-copied}
+use Rattle.buffers.proofs.Splice.{length-splice, part-copied}
 use Rattle.store.specs.Store.{entriesIn, tablesIn}
 use Rattle.changes.proofs.Effects.{refused}
 use Rattle.changes.proofs.Undoing.{undo-after-apply}
@@ -44,12 +44,6 @@ part-write-pair-end c = search needs
 write-pair-requires : tie.Need-write-pair-requires
 write-pair-requires c κs = search needs
 
-same-length : tie.Need-same-length
-same-length c = search needs
-
-same-length-2 : tie.Need-same-length-2
-same-length-2 c = search needs
-
 -- the answer with the pair
 paired : (d : tie.After-write-pair)
     → let a = d .before .before .before .before .before .before .before .before .before .before .before .before .args in
@@ -62,6 +56,21 @@ paired d =
     part-copied x (d .write-pair .last .1 .0) (pairOf (d .before .before .reason .result)) (2 * a .i) (length x - 2 * a .i) (d .write-pair .ensures)
     (omega arith) (omega arith)
 
+-- is as long
+answer-kept : (d : tie.After-write-pair)
+    → let a = d .before .before .before .before .before .before .before .before .before .before .before .before .args in
+    let x = now (a .answer) in
+    length (putMid (2 * a .i) (length x - 2 * a .i) x (d .write-pair .last .1 .0)) ≡ length x
+answer-kept d =
+    let a = d .before .before .before .before .before .before .before .before .before .before .before .before .args in
+    ap length (paired d) ∙ length-splice (now (a .answer)) (2 * a .i) (pairOf (d .before .before .reason .result)) (omega arith)
+
+same-length : tie.Need-same-length
+same-length c = refl
+
+same-length-2 : tie.Need-same-length-2
+same-length-2 c = answer-kept (c .before .before .before)
+
 returns : tie.Need-returns
 returns c =
     let q = c .before .before .before .before .before in
@@ -70,7 +79,7 @@ returns c =
     let a = s .args in
     let n = c .if1 .taken in
     record {
-      reason = q .reason .ensures ∙ v .judge .ensures .0;
+      reason = rw (q .reason .ensures) (v .judge .ensures .0);
       pair = paired (c .before .before .before);
       few = s .pre .1 .0;
       left = λ d.
@@ -81,7 +90,10 @@ returns c =
     }
 
 note-update-requires : tie.Need-note-update-requires
-note-update-requires c κs = search needs
+note-update-requires c κs =
+    let v = c .before .before .before .before .before .before .before .before .before in
+    let p = v .before .before .before .before .before .before .before .before .pre in
+    (v .judge .ensures .1 .1 .0, p .1, p .3)
 
 slice-aggregate-apply : tie.Need-slice-aggregate-apply
 slice-aggregate-apply c = search needs
@@ -96,13 +108,14 @@ apply-requires c κs =
     (possible .0, p .1 .0, p .1 .1, p .2, possible .1 (sym (q .reason .ensures) ∙ g .if1 .left))
 
 same-length-3 : tie.Need-same-length-3
-same-length-3 c = search needs
+same-length-3 c = c .before .before .apply .kept .1 .0
 
 same-length-4 : tie.Need-same-length-4
-same-length-4 c = search needs
+same-length-4 c = c .before .before .before .before .before .before .before .note-update .kept .1 .1 .1 .1 .0
 
 same-length-5 : tie.Need-same-length-5
-same-length-5 c = search needs
+same-length-5 c =
+    answer-kept (c .before .before .before .before .before .before .before .before .before .before .before .before .before)
 
 returns-2 : tie.Need-returns-2
 returns-2 c =
@@ -118,7 +131,7 @@ returns-2 c =
     let justified = v .judge .ensures .1 .0 in
     let few : length es ≤ 256 = omega (arith, s .pre .1 .0, parts-count (a .tables .count) 220 (now (a .store))) in
     record {
-      reason = q .reason .ensures ∙ v .judge .ensures .0;
+      reason = rw (q .reason .ensures) (v .judge .ensures .0);
       pair = paired w;
       few = did .0 .few;
       left = λ d. rw (q .reason .ensures) (did .1 d justified);

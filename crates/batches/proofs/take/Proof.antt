@@ -33,25 +33,25 @@ loop-holds c =
     (omega arith, few, refl, refl, refl, refl, taking-start _ _ _ _ _ _ _ _ _ few)
 
 mul-from : tie.Need-mul-from Inv-loop μ-loop
-mul-from c = search needs
+mul-from c = omega arith
 
 add-end : tie.Need-add-end Inv-loop μ-loop
-add-end c = search needs
+add-end c = omega arith
 
 sub-step : tie.Need-sub-step Inv-loop μ-loop
-sub-step c = search needs
+sub-step c = omega arith
 
 part-step-start : tie.Need-part-step-start Inv-loop μ-loop
-part-step-start c = search needs
+part-step-start c = omega arith
 
 part-step-end : tie.Need-part-step-end Inv-loop μ-loop
-part-step-end c = search needs
+part-step-end c = omega arith
 
 step-requires : tie.Need-step-requires Inv-loop μ-loop
 step-requires c κs =
     let l = c .before .before .before .before .before in
     let p = l .before .before .before .before .before .before .pre in
-    (search needs, (l .loop .inv .1, omega arith), search needs, λ e. omega (arith, p .4 e), omega arith)
+    (p .0, (l .loop .inv .1, omega arith), search needs, λ e. omega (arith, p .4 e), omega arith)
 
 -- after a step
 module _ (d : tie.After-step Inv-loop μ-loop) where
@@ -128,7 +128,7 @@ add-i c =
     omega (arith, less d, b d .fits .n)
 
 loop-less : tie.Need-loop-less Inv-loop μ-loop
-loop-less c = search needs
+loop-less c = omega arith
 
 loop-again : tie.Need-loop-again Inv-loop μ-loop
 loop-again c =
@@ -150,13 +150,13 @@ loop-again c =
     )
 
 same-length-4 : tie.Need-same-length-4 Inv-loop μ-loop
-same-length-4 c = search needs
+same-length-4 c = c .before .loop .inv .2
 
 same-length-5 : tie.Need-same-length-5 Inv-loop μ-loop
-same-length-5 c = search needs
+same-length-5 c = c .before .loop .inv .3
 
 same-length-6 : tie.Need-same-length-6 Inv-loop μ-loop
-same-length-6 c = search needs
+same-length-6 c = c .before .loop .inv .4
 
 returns-2 : tie.Need-returns-2 Inv-loop μ-loop
 returns-2 c =
