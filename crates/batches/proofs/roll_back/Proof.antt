@@ -4,6 +4,8 @@ use native.Mathlib.Omega.{arith}
 use mathlib.Core.Path.{_≡_, refl, _∙_}
 use mathlib.Core.List.{List}
 use lib.ListN.{length}
+use denote.Ref.{now}
+use Rattle.buffers.proofs.Splice.{length-window}
 use Rattle.store.specs.Store.{entriesIn}
 use Rattle.batches.specs.Rollback.{Undoes}
 use Rattle.batches.proofs.AllOrNone.{UndoneSoFar, back-next, back-end}
@@ -58,7 +60,18 @@ part-undo-end-2 : tie.Need-part-undo-end-2 Inv-loop μ-loop
 part-undo-end-2 c = omega arith
 
 undo-requires : tie.Need-undo-requires Inv-loop μ-loop
-undo-requires c κs = search needs
+undo-requires c κs =
+    let g = c .before .before .before in
+    let l = g .before .loop in
+    let s = g .before .before .before .before .before in
+    let k : ℕ = l .i - 1 in
+    let e : 74 * k + 74 - 74 * k ≡ 74 = omega arith in
+    let e′ : 221 * k + 221 - 221 * k ≡ 221 = omega arith in (
+      l .inv .1,
+      omega (arith, l .inv .2, s .pre .0 .1),
+      rw e (length-window (74 * k) 74 (now (s .args .log)) (omega arith)),
+      rw e′ (length-window (221 * k) 221 (now (s .args .updates)) (omega arith)),
+    )
 
 loop-less : tie.Need-loop-less Inv-loop μ-loop
 loop-less c = omega arith

@@ -1,17 +1,17 @@
 -- Right because the update is judged before it is done, noted as it will be done, and its pair says what was judged. Assumes nothing.
 use Prim.Native.Nat.{ℕ, _*_, _-_, _≤_}
 use native.Mathlib.Omega.{arith}
-use mathlib.Core.Path.{_≡_, refl, sym, ap, _∙_}
+use mathlib.Core.Path.{_≡_, refl, sym, _∙_}
 use mathlib.Core.List.{List}
 use lib.ListN.{length}
-use borrow.Rule.Slice.PartMut.{putMid}
+use borrow.Rule.Slice.PartMut.{putMid, same-len-mid}
 use denote.Ref.{now}
 use Rattle.rules.specs.Bytes.{byte, part}
 use Rattle.rules.specs.Call.{pairOf}
 use Rattle.rules.specs.Frame.{updateOf}
 use Rattle.rules.proofs.Formed.{parts-count}
 use Rattle.buffers.specs.Splice.{splice}
-use Rattle.buffers.proofs.Splice.{length-splice, part-copied}
+use Rattle.buffers.proofs.Splice.{part-copied}
 use Rattle.store.specs.Store.{entriesIn, tablesIn}
 use Rattle.changes.proofs.Effects.{refused}
 use Rattle.changes.proofs.Undoing.{undo-after-apply}
@@ -63,7 +63,8 @@ answer-kept : (d : tie.After-write-pair)
     length (putMid (2 * a .i) (length x - 2 * a .i) x (d .write-pair .last .1 .0)) ≡ length x
 answer-kept d =
     let a = d .before .before .before .before .before .before .before .before .before .before .before .before .args in
-    ap length (paired d) ∙ length-splice (now (a .answer)) (2 * a .i) (pairOf (d .before .before .reason .result)) (omega arith)
+    let x : List ℕ = now (a .answer) in
+    same-len-mid (2 * a .i) (length x - 2 * a .i) x (d .write-pair .last .1 .0) (d .write-pair .kept .1 .0)
 
 same-length : tie.Need-same-length
 same-length c = refl

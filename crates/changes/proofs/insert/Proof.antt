@@ -4,7 +4,7 @@ use native.Mathlib.Omega.{arith}
 use mathlib.Core.Path.{_≡_, ap, _∙_}
 use mathlib.Core.List.{List}
 use lib.ListN.{length, drop}
-use borrow.Rule.Slice.PartMut.{putMid}
+use borrow.Rule.Slice.PartMut.{putMid, same-len-mid}
 use denote.Ref.{now}
 use Rattle.rules.specs.Key.{shortKey}
 use Rattle.rules.specs.Entry.{shortEntry}
@@ -66,8 +66,8 @@ keyed-long : (k : tie.After-copy)
     length (putMid at (length s - at) s (k .copy .last .1 .0)) ≡ length s
 keyed-long k =
     let a = k .before .before .before .before .before .args in
-    ap length (keyed k)
-    ∙ length-splice (now (a .store)) (220 * a .tables .count) (now (a .short)) (omega (arith, key-size (k .before .before)))
+    let s : List ℕ = now (a .store) in
+    same-len-mid (220 * a .tables .count) (length s - 220 * a .tables .count) s (k .copy .last .1 .0) (k .copy .kept .1 .0)
 
 write-action-requires : tie.Need-write-action-requires
 write-action-requires c κs =
