@@ -140,10 +140,9 @@ fn write_outcomes(n: usize, at: usize, own: u8, answer: &mut [u8])
 
 // ---- a batch
 
-// How many notes the n updates of a batch need.
+// How many notes a batch of n updates needs: with atomicity 1 one for each.
 fn notes(atomicity: u8, n: usize) -> usize
-    ensures few { λ r. ⌜ r ≤ n ⌝ }
-    ensures all { λ r. ⌜ (atomicity ≡ 1 → r ≡ n) ⌝ }
+    ensures { λ r. ⌜ (atomicity ≡ 1 → r ≡ n) ⌝ }
 {
     if atomicity != 1 {
         return 0;
@@ -229,9 +228,9 @@ pub fn batch(
     ensures pairs { λ _. ⌜ Pairs (ruled atomicity (rowsIn count (now (rows .entry))) role n (now (updates .entry))) tables
         (now (store .entry)) (now (answer .entry)) (now (answer .exit)) ⌝ }
 {
-    if notes(atomicity, n) <= 4 {
+    if notes(atomicity, n) <= 3 {
         // the long log would cost so few notes a good part more, being set to zero
-        let mut log = [0; 296];
+        let mut log = [0; 222];
         return take(
             rows,
             count,

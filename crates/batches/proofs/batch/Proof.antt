@@ -14,7 +14,7 @@ take-requires : tie.Need-take-requires
 take-requires c κs =
     let j = c .before .before .before in
     let p = j .before .before .before .before .before .before .pre in
-    (p .0, (p .1, p .2), p .3, p .5, λ e. omega (arith, j .before .notes .ensures .1 e, j .if1 .taken))
+    (p .0, (p .1, p .2), p .3, p .5, λ e. omega (arith, j .before .notes .ensures e, j .if1 .taken))
 
 same-length : tie.Need-same-length
 same-length c = c .before .before .before .before .before .take .kept .1 .1 .1 .1 .0

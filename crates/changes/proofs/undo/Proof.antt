@@ -52,12 +52,14 @@ same-length c = c .before .before .replace-action .kept .0
 
 returns-2 : tie.Need-returns-2
 returns-2 c =
-    let a = c .before .before .before .before .before .before .before .before .before .before .before .before .before .before .args in
+    let v = c .before .before .before .before .before .before .before .before in
+    let b = v .before .before .before .before .before .before in
+    let a = b .args in
     let note : List ℕ = now (a .note) in
     let s : List ℕ = now (a .store) in
-    let w = c .before .before .before .before .before .before .before .before .wide .ensures .0 in
+    let w = v .wide .ensures .0 in
     let e : byte 0 note ≡ 2 = c .before .before .before .before .before .before .if2 .taken in
-    let l : length note ≡ 74 = c .before .before .before .before .before .before .before .before .before .before .before .before .before .before .pre .2 in
+    let l : length note ≡ 74 = b .pre .2 in
     let r = c .before .before .replace-action in
     (omega arith, back-two note (now (a .update)) s (r .last .0) (a .tables) (a .tables) w l e (λ h. r .ensures) (λ n. absurd (n (omega arith))))
 
