@@ -1,5 +1,5 @@
 -- A batch with atomicity 1: the notes of its log, one written after the others or the last of them undone; the batch before its
--- update i, all earlier ones having taken effect; and what a batch comes to. Assumes nothing.
+-- update i, all earlier ones having taken effect; and what one comes to that an update stopped. Assumes nothing.
 use Prim.Native.Nat.{ℕ, zero, suc, _+_, _*_, _≤_, _<_}
 use native.Mathlib.Omega.{arith}
 use native.Mathlib.Numerals.{add-one}
@@ -24,9 +24,9 @@ use Rattle.buffers.proofs.Splice.{part-before, splice-front, window-splice}
 use Rattle.store.specs.Store.{entriesIn, tablesIn, Holds}
 use Rattle.store.specs.declared.Tables.{Tables as Held}
 use Rattle.changes.specs.Undo.{noteOf, undone, Undoable, Undoing}
-use Rattle.batches.specs.Batch.{updatesIn, writtenOf, BatchApplied}
-use Rattle.batches.specs.Rollback.{noteAt, Noted, Undoes, Stopped}
-use Rattle.batches.specs.declared.Progress.{Progress}
+use Rattle.batches.specs.Batch.{updatesIn, BatchApplied}
+use Rattle.batches.specs.Rollback.{noteAt, Noted, Undoes}
+use Rattle.batches.specs.declared.Written.{Written}
 
 -- ---- the notes
 
@@ -144,19 +144,26 @@ module _ (rows : List Row) (role : ℕ) where
           }
 
       -- one that fails
-      pub passed-stop : {reason : ℕ} → reason ≡ judge rows role (tablesIn held store) u → (reason ≡ 0 → ⊥)
-          → Stopped rows role tables n us start store log (record { tables = held; done = i; reason = reason })
-      passed-stop {reason} e f =
+      pub passed-fails : {reason : ℕ} → reason ≡ judge rows role (tablesIn held store) u → (reason ≡ 0 → ⊥)
+          → failure rows role (tablesIn tables start) (updatesIn n us) ≡ some (i, reason)
+      passed-fails {reason} e f =
           let t : Tables = tablesIn tables start in
           let fails : judge rows role (eachAlone rows role t (b .earlier) .tables) u ≡ 0 → ⊥ = λ z. f (e ∙ rw now-is z) in
-          record {
-            own = f;
-            failed = rw (b .split, failure-at rows role t (b .earlier) u later (b .passed) fails, b .many, ← now-is, e) refl;
-            left = rw (b .split, take-at (b .earlier) (u ∷ later) i (b .many)) (b .left);
-            undoes = b .undoes;
-          }
+          rw (b .split, failure-at rows role t (b .earlier) u later (b .passed) fails, b .many, ← now-is, e) refl
 
 -- ---- what the batch comes to
+
+pairs-long : (rs : List ℕ) → length (concat (map pairOf rs)) ≡ 2 * length rs
+pairs-long [] = refl
+pairs-long (r ∷ rs) = omega (arith, pairs-long rs)
+
+-- n pairs, written over what changed no byte after them
+pairs-anew : (n : ℕ) (rs before mid : List ℕ) → length rs ≡ n → drop (2 * n) mid ≡ drop (2 * n) before
+    → splice mid 0 (concat (map pairOf rs)) ≡ splice before 0 (concat (map pairOf rs))
+pairs-anew n rs before mid l e =
+    let ps : List ℕ = concat (map pairOf rs) in
+    let k : length ps ≡ 2 * n = pairs-long rs ∙ ap (λ (m : ℕ). 2 * m) l in
+    splice-front mid ps ∙ rw k (ap (λ (x : List ℕ). ps ++ x) e) ∙ sym (splice-front before ps)
 
 pub rolled-count : (n at own : ℕ) → length (rolledBack n (at, own)) ≡ n
 rolled-count n at own = length-set (replicate n 25) at own ∙ length-replicate n 25
@@ -168,47 +175,47 @@ module _ (rows : List Row) (role : ℕ) (tables : Held) (n : ℕ) (us before : L
   abbrev all : ℕ → Batch
   all atomicity = batch atomicity rows role (tablesIn tables before) (updatesIn n us)
 
-  module _ (atomicity : ℕ) (a : Progress) where
-    -- a batch that came to its end, with atomicity 1 without a failure
-    pub ended : {after : List ℕ} → BatchApplied each before after (writtenOf a) → (atomicity ≡ 1 → a .reason ≡ 0)
-        → all atomicity ≡ each
+  -- a batch that came to its end, with atomicity 1 without a failure
+  pub ended : {atomicity : ℕ} {after : List ℕ} {w : Written} → BatchApplied each before after w → (atomicity ≡ 1 → w .failed ≡ false)
+      → all atomicity ≡ each
+  unfolding batch allOrNone
+  ended {atomicity} {w = w} a z = go (eqb atomicity 1) refl
+    where
+      passed : (p : Bool) → false ≡ not p → p ≡ true
+      passed true e = refl
+      passed false e = e
+
+      go : (x : Bool) → eqb atomicity 1 ≡ x → (if x then allOrNone rows role (tablesIn tables before) (updatesIn n us) else each) ≡ each
+      go false q = refl
+      go true q =
+          let e : false ≡ not (every (eqb 0) (each .reasons)) = rw (z (eqb-true atomicity 1 q)) at (a .failed) in
+          rw (no-failure rows role (tablesIn tables before) (updatesIn n us) (passed _ e)) refl
+
+  -- one that update `at` stopped with a reason of its own
+  module _ {atomicity at own : ℕ} (one : atomicity ≡ 1)
+      (f : failure rows role (tablesIn tables before) (updatesIn n us) ≡ some (at, own)) where
+    all-rolled : all atomicity ≡ unlessFailed (some (at, own)) (tablesIn tables before) (updatesIn n us) each
     unfolding batch allOrNone
-    ended w z = go (eqb atomicity 1) refl
-      where
-        passed : (p : Bool) → false ≡ not p → p ≡ true
-        passed true e = refl
-        passed false e = e
+    all-rolled = rw (one, f) refl
 
-        go : (x : Bool) → eqb atomicity 1 ≡ x → (if x then allOrNone rows role (tablesIn tables before) (updatesIn n us) else each) ≡ each
-        go false q = refl
-        go true q =
-            let e : false ≡ not (every (eqb 0) (each .reasons)) = rw (z (eqb-true atomicity 1 q)) at (w .failed) in
-            rw (no-failure rows role (tablesIn tables before) (updatesIn n us) (passed _ e)) refl
+    failing : every (eqb 0) (rolledBack (length (updatesIn n us)) (at, own)) ≡ false
+    failing = (rw f at (told rows role (tablesIn tables before) (updatesIn n us))) .1
 
-    module _ {mid log : List ℕ} (one : atomicity ≡ 1) (h : Stopped rows role tables n us before mid log a) where
-      all-rolled : all atomicity ≡ unlessFailed (some (a .done, a .reason)) (tablesIn tables before) (updatesIn n us) each
-      unfolding batch allOrNone
-      all-rolled = rw (one, h .failed) refl
+    pub rolled : {after : List ℕ} {m : Held} → Holds before after m (entriesIn tables before)
+        → BatchApplied (all atomicity) before after (record { tables = m; failed = true })
+    rolled h = rw all-rolled (record { failed = rw failing refl; left = h })
 
-      failing : every (eqb 0) (rolledBack (length (updatesIn n us)) (a .done, a .reason)) ≡ false
-      failing = (rw (h .failed) at (told rows role (tablesIn tables before) (updatesIn n us))) .1
+    rolled-reasons : all atomicity .reasons ≡ rolledBack n (at, own)
+    rolled-reasons =
+        let k : length (updatesIn n us) ≡ n = length-map (parts n 221 us) updateOf ∙ parts-count n 221 us in
+        rw (all-rolled, k) refl
 
-      pub rolled : {after : List ℕ} {m : Held}
-          → ((goal : List (List ℕ)) → Undoes (a .done) log us (entriesIn (a .tables) mid) goal → Holds mid after m goal)
-          → BatchApplied (all atomicity) before after (record { tables = m; failed = not (eqb (a .reason) 0) })
-      rolled back =
-          let u = back (entriesIn tables before) (h .undoes) in
-          rw all-rolled (record {
-            failed = rw (ne-eqb (a .reason) 0 (h .own), failing) refl;
-            left = record { holds = u .holds; few = u .few; room = u .room ∙ h .left .room; beyond = u .beyond ∙ h .left .beyond };
-          })
+    -- its pairs, written over what changed no byte after them
+    pub rolled-pairs : (out mid : List ℕ) {answer : List ℕ} → answer ≡ splice mid 0 (concat (map pairOf (rolledBack n (at, own))))
+        → drop (2 * n) mid ≡ drop (2 * n) out → answer ≡ splice out 0 (concat (map pairOf (all atomicity .reasons)))
+    rolled-pairs out mid w e = rw rolled-reasons (w ∙ pairs-anew n (rolledBack n (at, own)) out mid (rolled-count n at own) e)
 
-      pub rolled-reasons : all atomicity .reasons ≡ rolledBack n (a .done, a .reason)
-      rolled-reasons =
-          let k : length (updatesIn n us) ≡ n = length-map (parts n 221 us) updateOf ∙ parts-count n 221 us in
-          rw (all-rolled, k) refl
-
--- ---- the pairs
+-- ---- the pairs of a batch that was stopped
 
 -- the reasons from i on
 pub outcomes-from : (n at own i : ℕ) → i < n
@@ -223,15 +230,3 @@ outcomes-from n at own i h =
         let m : length {A = ℕ} (replicate n 25) ≡ n = length-replicate n 25 in
         rw (eqb-true i at q) (getD-set-same (replicate n 25) at own 0 (omega (arith, eqb-true i at q)))
     go false q = getD-set-other (replicate n 25) at i own 0 (eqb-false i at q) ∙ getD-replicate n i 25 0 h
-
-pairs-long : (rs : List ℕ) → length (concat (map pairOf rs)) ≡ 2 * length rs
-pairs-long [] = refl
-pairs-long (r ∷ rs) = omega (arith, pairs-long rs)
-
--- n pairs, written over what changed no byte after them
-pub pairs-anew : (n : ℕ) (rs before mid : List ℕ) → length rs ≡ n → drop (2 * n) mid ≡ drop (2 * n) before
-    → splice mid 0 (concat (map pairOf rs)) ≡ splice before 0 (concat (map pairOf rs))
-pairs-anew n rs before mid l e =
-    let ps : List ℕ = concat (map pairOf rs) in
-    let k : length ps ≡ 2 * n = pairs-long rs ∙ ap (λ (m : ℕ). 2 * m) l in
-    splice-front mid ps ∙ rw k (ap (λ (x : List ℕ). ps ++ x) e) ∙ sym (splice-front before ps)

@@ -20,7 +20,6 @@ use Rattle.store.specs.declared.Tables.{Tables as Held}
 use Rattle.buffers.specs.Splice.{splice}
 use Rattle.buffers.proofs.Written.{Written as Pairs, written-none, written-next, written-all}
 use Rattle.store.specs.Store.{entriesIn, tablesIn, Holds}
-use Rattle.judging.proofs.Order.{judged-by-rows}
 use Rattle.changes.proofs.Effects.{still-distinct}
 use Rattle.batches.specs.Batch.{BatchApplied}
 

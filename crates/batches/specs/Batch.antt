@@ -13,23 +13,15 @@ use Rattle.rules.specs.Sound.{Distinct}
 use Rattle.buffers.specs.Splice.{splice}
 use Rattle.store.specs.declared.Tables.{Tables}
 use Rattle.store.specs.Store.{entriesIn, tablesIn, Holds}
-use Rattle.batches.specs.declared.Progress.{Progress}
 use Rattle.batches.specs.declared.Written.{Written}
 
 -- the updates of a batch, 221 bytes each
 abbrev pub updatesIn : ℕ → List ℕ → List Update
 updatesIn n us = map updateOf (parts n updateSize us)
 
--- what the rules make of n updates, by the tables before them: each alone, or by the atomicity
-abbrev pub alone : List Row → ℕ → ℕ → List ℕ → rules.Tables → rules.Batch
-alone rows role n us t = rules.eachAlone rows role t (updatesIn n us)
-
+-- what the rules make of n updates by the atomicity, and by the tables before them
 abbrev pub ruled : ℕ → List Row → ℕ → ℕ → List ℕ → rules.Tables → rules.Batch
 ruled atomicity rows role n us t = rules.batch atomicity rows role t (updatesIn n us)
-
--- what a batch that came to its end leaves
-abbrev pub writtenOf : Progress → Written
-writtenOf a = record { tables = a .tables; failed = not (eqb (a .reason) 0) }
 
 -- the store holds what the batch leaves, in its order; free bytes may be any
 pub record BatchApplied (b : rules.Batch) (before after : List ℕ) (w : Written) : Type 0 where

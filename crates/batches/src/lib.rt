@@ -3,7 +3,7 @@ ghost use mathlib.Core.Path.{_≡_};
 ghost use mathlib.Core.List.{map};
 ghost use Prim.Native.Nat.{_+_, _*_, _≤_};
 ghost use lib.Dec.{eqb};
-ghost use lib.ListN.{length, drop};
+ghost use lib.ListN.{length};
 ghost use Rattle.rules.specs.Frame.{updateSize};
 ghost use Rattle.rules.specs.Bytes.{if_then_else_, concat};
 ghost use Rattle.rules.specs.Update.{rolledBack};
@@ -11,9 +11,9 @@ ghost use Rattle.rules.specs.Call.{pairOf};
 ghost use Rattle.buffers.specs.Splice.{splice};
 ghost use Rattle.rows.specs.Meaning.{rowsSize, rowsIn};
 ghost use Rattle.judging.specs.Verdict.{Possible};
-ghost use Rattle.batches.specs.Batch.{alone, ruled, writtenOf, StoreLeft, Pairs};
-ghost use Rattle.batches.specs.Rollback.{NotesFit, NotedAt, RolledBack, StoppedEarly};
-ghost use Rattle.batches.specs.Step.{Sized, StepJudged, StepLeft, StepNoted, StepRefused};
+ghost use Rattle.batches.specs.Batch.{ruled, StoreLeft, Pairs};
+ghost use Rattle.batches.specs.Rollback.{NotesFit, NotedAt, RolledBack};
+ghost use Rattle.batches.specs.Step.{Sized, Stepped};
 use judging::Verdict;
 use store::Tables;
 
@@ -23,21 +23,13 @@ pub struct Written {
     pub failed: bool,
 }
 
-// How far a batch came: what it leaves, how many updates were taken before the one that stopped it (all n where none did), and the
-// reason of the last one that failed (0: none did).
-struct Progress {
-    tables: Tables,
-    done: usize,
-    reason: u8,
-}
-
 // What one update leaves, and its reason.
 struct Taken {
     tables: Tables,
     reason: u8,
 }
 
-// ---- the updates in order
+// ---- one update
 
 // Writes the pair of an update: a record of 2 bytes.
 fn write_pair(reason: u8, out: &mut [u8])
@@ -84,15 +76,11 @@ fn step(
 ) -> Taken
     requires { ⌜ (length (now rows) ≡ rowsSize) × Sized tables (now store) × (length (now update) ≡ updateSize)
         × NotesFit atomicity (i + 1) (now log) × (2 * i + 2 ≤ length (now answer)) ⌝ }
-    ensures reason { λ r. ⌜ StepJudged r (rowsIn count (now (rows .entry))) role tables (now (store .entry)) (now (update .entry)) ⌝ }
-    ensures pair { λ r. ⌜ now (answer .exit) ≡ splice (now (answer .entry)) (2 * i) (pairOf (r .reason)) ⌝ }
-    ensures few { λ r. ⌜ r .tables .count ≤ 256 ⌝ }
-    ensures left { λ r. ⌜ StepLeft r (now (update .entry)) tables (now (store .entry)) (now (store .exit)) ⌝ }
-    ensures log { λ r. ⌜ StepNoted atomicity r i (now (update .entry)) tables (now (store .entry)) (now (store .exit)) (now (log .entry))
-        (now (log .exit)) ⌝ }
-    ensures refused { λ r. ⌜ StepRefused r tables (now (store .entry)) (now (store .exit)) (now (log .entry)) (now (log .exit)) ⌝ }
+    ensures { λ r. ⌜ Stepped (rowsIn count (now (rows .entry))) role atomicity i (now (update .entry)) tables (now (store .entry))
+        (now (store .exit)) (now (log .entry)) (now (log .exit)) (now (answer .entry)) (now (answer .exit)) r ⌝ }
 {
-    let verdict = judging::judge(rows, count, role, store, tables, update);
+    let mut short = [0; rules::KEY];
+    let verdict = judging::judge(rows, count, role, store, tables, update, &mut short);
     let reason = verdict.reason();
     let at = 2 * i;
     write_pair(reason, &mut answer[at..]);
@@ -100,75 +88,10 @@ fn step(
         return Taken { tables, reason };
     }
     note_update(atomicity, verdict, store, tables, log, i);
-    let left = changes::apply(verdict, store, tables, update);
+    let left = changes::apply(verdict, store, tables, update, &short);
     Taken {
         tables: left,
         reason,
-    }
-}
-
-// Takes the n updates in order. With atomicity 1 the first that fails stops the batch.
-fn take(
-    rows: &[u8],
-    count: u8,
-    role: u8,
-    atomicity: u8,
-    store: &mut [u8],
-    tables: Tables,
-    updates: &[u8],
-    n: usize,
-    log: &mut [u8],
-    answer: &mut [u8],
-) -> Progress
-    requires { ⌜ (length (now rows) ≡ rowsSize) × Sized tables (now store) × (length (now updates) ≡ updateSize * n)
-        × (2 * n ≤ length (now answer)) × NotesFit atomicity n (now log) ⌝ }
-    ensures bound { λ r. ⌜ (r .tables .count ≤ 256) × (r .done ≤ n) ⌝ }
-    ensures none { λ r. ⌜ (atomicity ≡ 1 → r .done ≡ n → r .reason ≡ 0) ⌝ }
-    ensures left { λ r. ⌜ (r .done ≡ n
-        → StoreLeft (alone (rowsIn count (now (rows .entry))) role n (now (updates .entry)))
-        tables (now (store .entry)) (now (store .exit)) (writtenOf r)) ⌝ }
-    ensures pairs { λ r. ⌜ (r .done ≡ n
-        → Pairs (alone (rowsIn count (now (rows .entry))) role n (now (updates .entry)))
-        tables (now (store .entry)) (now (answer .entry)) (now (answer .exit))) ⌝ }
-    ensures stopped { λ r. ⌜ StoppedEarly atomicity (rowsIn count (now (rows .entry))) role tables n (now (updates .entry))
-        (now (store .entry)) (now (store .exit)) (now (log .exit)) r ⌝ }
-    ensures beyond { λ _. ⌜ drop (2 * n) (now (answer .exit)) ≡ drop (2 * n) (now (answer .entry)) ⌝ }
-{
-    let mut held = tables;
-    let mut failure: u8 = 0;
-    let mut i: usize = 0;
-    while i < n {
-        let from = rules::UPDATE * i;
-        let end = from + rules::UPDATE;
-        let taken = step(
-            rows,
-            count,
-            role,
-            atomicity,
-            store,
-            held,
-            &updates[from..end],
-            log,
-            i,
-            answer,
-        );
-        held = taken.tables;
-        if taken.reason != 0 {
-            failure = taken.reason;
-            if atomicity == 1 {
-                return Progress {
-                    tables: held,
-                    done: i,
-                    reason: failure,
-                };
-            }
-        }
-        i += 1;
-    }
-    Progress {
-        tables: held,
-        done: n,
-        reason: failure,
     }
 }
 
@@ -217,8 +140,19 @@ fn write_outcomes(n: usize, at: usize, own: u8, answer: &mut [u8])
 
 // ---- a batch
 
-// The n updates of a batch by its atomicity, each pair written; what is left. With atomicity 1 the log has room for n notes.
-fn batch_in(
+// How many notes a batch of n updates needs: with atomicity 1 one for each.
+fn notes(atomicity: u8, n: usize) -> usize
+    ensures { λ r. ⌜ (atomicity ≡ 1 → r ≡ n) ⌝ }
+{
+    if atomicity != 1 {
+        return 0;
+    }
+    n
+}
+
+// Takes the n updates in order, each pair written; what is left. With atomicity 1 the log has room for n notes, and the first update
+// that fails stops the batch: all pairs are written anew, and what the updates before it did is undone.
+fn take(
     rows: &[u8],
     count: u8,
     role: u8,
@@ -237,26 +171,41 @@ fn batch_in(
     ensures pairs { λ _. ⌜ Pairs (ruled atomicity (rowsIn count (now (rows .entry))) role n (now (updates .entry))) tables
         (now (store .entry)) (now (answer .entry)) (now (answer .exit)) ⌝ }
 {
-    let came = take(
-        rows,
-        count,
-        role,
-        atomicity,
-        store,
-        tables,
-        updates,
-        n,
-        log,
-        answer,
-    );
-    let mut held = came.tables;
-    if came.done < n {
-        write_outcomes(n, came.done, came.reason, answer);
-        held = roll_back(log, updates, came.done, store, held);
+    let mut held = tables;
+    let mut failed = false;
+    let mut i: usize = 0;
+    while i < n {
+        let from = rules::UPDATE * i;
+        let end = from + rules::UPDATE;
+        let taken = step(
+            rows,
+            count,
+            role,
+            atomicity,
+            store,
+            held,
+            &updates[from..end],
+            log,
+            i,
+            answer,
+        );
+        held = taken.tables;
+        if taken.reason != 0 {
+            failed = true;
+            if atomicity == 1 {
+                write_outcomes(n, i, taken.reason, answer);
+                held = roll_back(log, updates, i, store, held);
+                return Written {
+                    tables: held,
+                    failed,
+                };
+            }
+        }
+        i += 1;
     }
     Written {
         tables: held,
-        failed: came.reason != 0,
+        failed,
     }
 }
 
@@ -279,10 +228,10 @@ pub fn batch(
     ensures pairs { λ _. ⌜ Pairs (ruled atomicity (rowsIn count (now (rows .entry))) role n (now (updates .entry))) tables
         (now (store .entry)) (now (answer .entry)) (now (answer .exit)) ⌝ }
 {
-    if atomicity != 1 {
-        // nothing is noted
-        let mut none = [0; 1];
-        return batch_in(
+    if notes(atomicity, n) <= 3 {
+        // the long log would cost so few notes a good part more, being set to zero
+        let mut log = [0; 222];
+        return take(
             rows,
             count,
             role,
@@ -291,32 +240,16 @@ pub fn batch(
             tables,
             updates,
             n,
-            &mut none,
-            answer,
-        );
-    }
-    if n <= 4 {
-        // the long log would cost so few updates a good part more, being set to zero
-        let mut short = [0; 296];
-        return batch_in(
-            rows,
-            count,
-            role,
-            1,
-            store,
-            tables,
-            updates,
-            n,
-            &mut short,
+            &mut log,
             answer,
         );
     }
     let mut log = [0; 4736];
-    batch_in(
+    take(
         rows,
         count,
         role,
-        1,
+        atomicity,
         store,
         tables,
         updates,

@@ -6,57 +6,70 @@ ghost use Prim.Native.Nat.{_+_, _*_, _≤_, _<_};
 ghost use lib.ListN.{length, drop};
 ghost use Rattle.rules.specs.Frame.{entrySize, keySize, updateSize};
 ghost use Rattle.rules.specs.Bytes.{part};
+ghost use Rattle.rules.specs.Key.{shortKey};
+ghost use Rattle.rules.specs.Entry.{shortEntry};
+ghost use Rattle.buffers.specs.Splice.{splice};
 ghost use Rattle.store.specs.Store.{entriesIn};
 ghost use Rattle.judging.specs.Verdict.{Possible};
-ghost use Rattle.judging.specs.declared.Verdict.the-variants.{Insert, Modify};
+ghost use Rattle.judging.specs.declared.Verdict.the-variants.{Insert};
 ghost use Rattle.changes.specs.Effect.{Done, Ruled};
 ghost use Rattle.changes.specs.Undo.{noted, Undone, deletedEntry, PutBack};
 use judging::Verdict;
 use store::Tables;
 
-// Writes an entry after the last one, in shortest form.
-fn insert(store: &mut [u8], tables: Tables, entry: &[u8]) -> Tables
-    requires { ⌜ (tables .count < 256) × (56320 ≤ length (now store)) × (length (now entry) ≡ entrySize) ⌝ }
-    ensures { λ r. ⌜ Done Insert (now (entry .entry)) tables (now (store .entry)) (now (store .exit)) r ⌝ }
-{
-    let count = tables.count;
-    let at = rules::ENTRY * count;
-    values::shorten_entry(entry, &mut store[at..]);
-    Tables { count: count + 1 }
-}
-
-// Writes the action and parameters of an entry over those of entry i, in shortest form.
-fn modify(store: &mut [u8], tables: Tables, i: usize, entry: &[u8])
-    requires { ⌜ (i < tables .count) × (tables .count ≤ 256) × (56320 ≤ length (now store)) × (length (now entry) ≡ entrySize) ⌝ }
-    ensures { λ _. ⌜ Done (Modify i) (now (entry .entry)) tables (now (store .entry)) (now (store .exit)) tables ⌝ }
+// Writes the action and parameters of an entry, in shortest form, after the key of entry i.
+fn write_action(store: &mut [u8], i: usize, entry: &[u8])
+    requires { ⌜ (i < 256) × (56320 ≤ length (now store)) × (length (now entry) ≡ entrySize) ⌝ }
+    ensures { λ _. ⌜ now (store .exit) ≡ splice (now (store .entry)) (entrySize * i + keySize) (drop keySize (shortEntry (now (entry .entry)))) ⌝ }
 {
     let at = rules::ENTRY * i + rules::KEY;
     values::shorten_action(entry, &mut store[at..]);
 }
 
-// Does what a verdict says with an entry.
-fn perform(verdict: Verdict, store: &mut [u8], tables: Tables, entry: &[u8]) -> Tables
-    requires { ⌜ Possible verdict tables × (tables .count ≤ 256) × (56320 ≤ length (now store)) × (length (now entry) ≡ entrySize) ⌝ }
+// Writes an entry after the last one, in shortest form, which its key has already.
+fn insert(store: &mut [u8], tables: Tables, entry: &[u8], short: &[u8]) -> Tables
+    requires { ⌜ (tables .count < 256) × (56320 ≤ length (now store)) × (length (now entry) ≡ entrySize)
+        × (now short ≡ shortKey (now entry)) ⌝ }
+    ensures { λ r. ⌜ Done Insert (now (entry .entry)) tables (now (store .entry)) (now (store .exit)) r ⌝ }
+{
+    let count = tables.count;
+    let at = rules::ENTRY * count;
+    buffers::copy(short, &mut store[at..]);
+    write_action(store, count, entry);
+    Tables { count: count + 1 }
+}
+
+// Does what a verdict says with an entry, whose key in shortest form is `short`.
+fn perform(verdict: Verdict, store: &mut [u8], tables: Tables, entry: &[u8], short: &[u8]) -> Tables
+    requires { ⌜ Possible verdict tables × (tables .count ≤ 256) × (56320 ≤ length (now store)) × (length (now entry) ≡ entrySize)
+        × (now short ≡ shortKey (now entry)) ⌝ }
     ensures { λ r. ⌜ Done verdict (now (entry .entry)) tables (now (store .entry)) (now (store .exit)) r ⌝ }
 {
     match verdict {
         Verdict::Refused(_) => tables,
-        Verdict::Insert => insert(store, tables, entry),
+        Verdict::Insert => insert(store, tables, entry, short),
         Verdict::Modify(i) => {
-            modify(store, tables, i, entry);
+            write_action(store, i, entry);
             tables
         }
         Verdict::Delete(i) => store::remove(store, tables, i),
     }
 }
 
-// Does what was judged of an update of 221 bytes.
-pub fn apply(verdict: Verdict, store: &mut [u8], tables: Tables, update: &[u8]) -> Tables
-    requires { ⌜ Possible verdict tables × (tables .count ≤ 256) × (56320 ≤ length (now store)) × (length (now update) ≡ updateSize) ⌝ }
+// Does what was judged of an update of 221 bytes, whose key in shortest form is `short`.
+pub fn apply(
+    verdict: Verdict,
+    store: &mut [u8],
+    tables: Tables,
+    update: &[u8],
+    short: &[u8],
+) -> Tables
+    requires { ⌜ Possible verdict tables × (tables .count ≤ 256) × (56320 ≤ length (now store)) × (length (now update) ≡ updateSize)
+        × (now short ≡ shortKey (drop 1 (now update))) ⌝ }
     ensures done { λ r. ⌜ Done verdict (drop 1 (now (update .entry))) tables (now (store .entry)) (now (store .exit)) r ⌝ }
     ensures left { λ r. ⌜ Ruled verdict (now (update .entry)) tables (now (store .entry)) (now (store .exit)) r ⌝ }
 {
-    perform(verdict, store, tables, &update[1..])
+    perform(verdict, store, tables, &update[1..], short)
 }
 
 // ---- undoing

@@ -45,24 +45,25 @@ module _ (isKnown : Bool) (row : Row) (role : ℕ) where
     pub row-refused : {r : ℕ} → r ≡ first byRow → (r ≡ 0 → ⊥) → r ≡ judgeBy isKnown row role t (updateOf u)
     row-refused {r} q n = sym (in-turn ∙ (rw (← q, ne-eqb r 0 n)))
 
-    -- of the type and the entry as they are lent
-    pub place-judged : {r : ℕ} (type : ℕ) (e : List ℕ) → type ≡ byte 0 u → e ≡ drop 1 u → 0 ≡ first byRow
-        → r ≡ first (placeOrder row type e t) → r ≡ judgeBy isKnown row role t (updateOf u)
-    place-judged type e k w q p = rw (k, w) at p ∙ sym (in-turn ∙ (rw (← q)))
+    -- of the type as it was read
+    pub place-judged : {r : ℕ} (type : ℕ) → type ≡ byte 0 u → 0 ≡ first byRow
+        → r ≡ first (placeOrder row type (drop 1 u) t) → r ≡ judgeBy isKnown row role t (updateOf u)
+    place-judged type k q p = rw k at p ∙ sym (in-turn ∙ (rw (← q)))
 
--- what is right of the type and the entry as they are lent is right of the update's
-pub place-justified : (u : List ℕ) (es : List (List ℕ)) {type : ℕ} {e : List ℕ} (v : Verdict) → type ≡ byte 0 u → e ≡ drop 1 u
-    → Justified v type e es → Justified v (byte 0 u) (drop 1 u) es
-place-justified u es v k w j = rw (k, w) at j
+-- what is right of the type as it was read is right of the update's
+pub place-justified : (u : List ℕ) (es : List (List ℕ)) {type : ℕ} (v : Verdict) → type ≡ byte 0 u
+    → Justified v type (drop 1 u) es → Justified v (byte 0 u) (drop 1 u) es
+place-justified u es v k j = rw k at j
 
 -- by the rows in force: whether the table is known there, and its row where it is; one that is not known is refused, whatever row is lent
-pub judged-by-rows : (rows : List Row) (role : ℕ) (t : Tables) (u : Update) {isKnown : Bool} {row : Row}
-    → isKnown ≡ known (tableOf (u .entry)) rows → (isKnown ≡ true → row ≡ rowFor (tableOf (u .entry)) rows)
-    → judgeBy isKnown row role t u ≡ judge rows role t u
+pub judged-by-rows : (rows : List Row) (role : ℕ) (t : Tables) (u : Update) {r : ℕ} {isKnown : Bool} {row : Row}
+    → r ≡ judgeBy isKnown row role t u → isKnown ≡ known (tableOf (u .entry)) rows → (isKnown ≡ true → row ≡ rowFor (tableOf (u .entry)) rows)
+    → r ≡ judge rows role t u
 unfolding judge judgeBy first
-judged-by-rows rows role t u {isKnown} {row} e its = go isKnown e its
+judged-by-rows rows role t u {r} {isKnown} {row} j e its = go isKnown e its j
   where
     go : (k : Bool) → k ≡ known (tableOf (u .entry)) rows → (k ≡ true → row ≡ rowFor (tableOf (u .entry)) rows)
-        → judgeBy k row role t u ≡ judgeBy (known (tableOf (u .entry)) rows) (rowFor (tableOf (u .entry)) rows) role t u
-    go true e its = rw (← e, its refl)
-    go false e its = rw (← e)
+        → r ≡ judgeBy k row role t u
+        → r ≡ judgeBy (known (tableOf (u .entry)) rows) (rowFor (tableOf (u .entry)) rows) role t u
+    go true e its j = rw (← e, ← its refl) j
+    go false e its j = rw (← e) j

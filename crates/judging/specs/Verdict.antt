@@ -4,13 +4,16 @@ use mathlib.Core.Bool.{Bool, true, false, not}
 use mathlib.Core.List.{List, _∷_, _++_}
 use mathlib.Core.Option.{some}
 use Prim.Native.Nat.{ℕ, _<_}
+use lib.ListN.{drop}
 use Rattle.rules.specs.Bytes.{between}
+use Rattle.rules.specs.Reason.{first}
 use Rattle.rules.specs.Frame.{Update, updateOf}
 use Rattle.rules.specs.Row.{Row, tableOrder}
 use Rattle.rules.specs.Key.{shortKey}
-use Rattle.rules.specs.Update.{isInsert, isModify, entryOrder, judge}
+use Rattle.rules.specs.Update.{isInsert, isModify, entryOrder, placeOrder, judge}
 use Rattle.store.specs.declared.Tables.{Tables}
-use Rattle.store.specs.Store.{tablesIn, place}
+use Rattle.store.specs.declared.Found.{Found}
+use Rattle.store.specs.Store.{tablesIn, place, placeOf}
 use Rattle.judging.specs.declared.Verdict.{Verdict}
 use Rattle.judging.specs.declared.Verdict.the-variants.{Refused, Insert, Modify, Delete}
 
@@ -44,3 +47,13 @@ Possible (Refused r) tables = Unit {0}
 Possible Insert tables = tables .count < 256
 Possible (Modify i) tables = i < tables .count
 Possible (Delete i) tables = i < tables .count
+
+-- A verdict on an update of a type, of a table that the row describes, is right of every entry e whose key was found so among es.
+abbrev pub PlaceJudged : Verdict → Found → Row → ℕ → List (List ℕ) → Type 0
+PlaceJudged v found row type es =
+    (e : List ℕ) → placeOf found ≡ place (shortKey e) es
+    → (reasonOf v ≡ first (placeOrder row type e (record { entries = es }))) × Justified v type e es
+
+-- where an update of 221 bytes takes effect, its key in shortest form
+abbrev pub Shortened : Verdict → List ℕ → List ℕ → Type 0
+Shortened v u short = reasonOf v ≡ 0 → short ≡ shortKey (drop 1 u)

@@ -1,16 +1,19 @@
 // Judging one update: why it is refused, or what is to be done (document 01, "The maker of an update"; document 02, request One).
 ghost use mathlib.Core.Path.{_≡_};
 ghost use mathlib.Core.Bool.{false};
+ghost use mathlib.Core.List.{List};
+ghost use Prim.Native.Nat.{ℕ};
 ghost use lib.ListN.{length, drop};
 ghost use Rattle.rules.specs.Bytes.{byte};
 ghost use Rattle.rules.specs.Reason.{first};
-ghost use Rattle.rules.specs.Frame.{entrySize, keySize, rowSize, updateSize, updateOf};
+ghost use Rattle.rules.specs.Frame.{keySize, rowSize, updateSize, updateOf};
 ghost use Rattle.rules.specs.Row as rules;
 ghost use Rattle.rules.specs.Key.{shortKey};
-ghost use Rattle.rules.specs.Update.{isInsert, placeOrder, judgeBy};
+ghost use Rattle.rules.specs.Update.{isInsert, judgeBy};
 ghost use Rattle.rows.specs.Meaning.{rowOf, rowsSize, rowsIn};
+ghost use Rattle.store.specs.declared.Tables as stored;
 ghost use Rattle.store.specs.Store.{entriesIn, tablesIn, InStore, InRange, place, placeOf};
-ghost use Rattle.judging.specs.Verdict.{rowOrder, reasonOf, judged, Justified, Possible};
+ghost use Rattle.judging.specs.Verdict.{rowOrder, reasonOf, judged, Justified, Possible, PlaceJudged, Shortened};
 use numbers::integer;
 use store::Found;
 use store::Tables;
@@ -42,30 +45,18 @@ fn look_up(store: &[u8], tables: Tables, key: &[u8], short: &mut [u8]) -> Found
     requires { ⌜ InStore tables (now store) × (length (now key) ≡ keySize) × (length (now short) ≡ keySize) ⌝ }
     ensures place { λ r. ⌜ placeOf r ≡ place (shortKey (now (key .entry))) (entriesIn tables (now (store .entry))) ⌝ }
     ensures range { λ r. ⌜ InRange r tables ⌝ }
+    ensures short { λ _. ⌜ now (short .exit) ≡ shortKey (now (key .entry)) ⌝ }
 {
     values::shorten_key(key, short);
     store::find(store, tables, short)
 }
 
-// Where the entry of an update's key is.
-fn locate(store: &[u8], tables: Tables, entry: &[u8]) -> Found
-    requires { ⌜ InStore tables (now store) × (length (now entry) ≡ entrySize) ⌝ }
-    ensures place { λ r. ⌜ placeOf r ≡ place (shortKey (now (entry .entry))) (entriesIn tables (now (store .entry))) ⌝ }
-    ensures range { λ r. ⌜ InRange r tables ⌝ }
-{
-    let mut short = [0; rules::KEY];
-    look_up(store, tables, &entry[0..rules::KEY], &mut short)
-}
-
-// 20, 22 and 24 of an INSERT.
-fn judge_insert(row: &[u8], store: &[u8], tables: Tables, entry: &[u8]) -> Verdict
-    requires { ⌜ (length (now row) ≡ rowSize) × InStore tables (now store) × (length (now entry) ≡ entrySize) ⌝ }
-    ensures reason { λ r. ⌜ reasonOf r ≡ first
-        (placeOrder (rowOf (now (row .entry))) 1 (now (entry .entry)) (tablesIn tables (now (store .entry)))) ⌝ }
-    ensures justified { λ r. ⌜ Justified r 1 (now (entry .entry)) (entriesIn tables (now (store .entry))) ⌝ }
+// 20, 22 and 24 of an INSERT, by where its key was found.
+fn judge_insert(found: Found, row: &[u8], store: &[u8], tables: Tables) -> Verdict
+    requires { ⌜ (length (now row) ≡ rowSize) × InStore tables (now store) ⌝ }
+    ensures judged { λ r. ⌜ PlaceJudged r found (rowOf (now (row .entry))) 1 (entriesIn tables (now (store .entry))) ⌝ }
     ensures possible { λ r. ⌜ Possible r tables ⌝ }
 {
-    let found = locate(store, tables, entry);
     match found {
         Found::At(_) => Verdict::Refused(20),
         Found::Absent => {
@@ -85,15 +76,12 @@ fn judge_insert(row: &[u8], store: &[u8], tables: Tables, entry: &[u8]) -> Verdi
     }
 }
 
-// 21 of a MODIFY or a DELETE.
-fn judge_change(kind: u8, store: &[u8], tables: Tables, entry: &[u8]) -> Verdict
-    requires { ⌜ InStore tables (now store) × (length (now entry) ≡ entrySize) × (isInsert kind ≡ false) ⌝ }
-    ensures reason { λ r. ⌜
-        ((row : rules.Row) → reasonOf r ≡ first (placeOrder row kind (now (entry .entry)) (tablesIn tables (now (store .entry))))) ⌝ }
-    ensures justified { λ r. ⌜ Justified r kind (now (entry .entry)) (entriesIn tables (now (store .entry))) ⌝ }
-    ensures possible { λ r. ⌜ Possible r tables ⌝ }
+// 21 of a MODIFY or a DELETE, by where its key was found.
+fn judge_change(found: Found, kind: u8) -> Verdict
+    requires { ⌜ isInsert kind ≡ false ⌝ }
+    ensures judged { λ r. ⌜ ((row : rules.Row) (es : List (List ℕ)) → PlaceJudged r found row kind es) ⌝ }
+    ensures possible { λ r. ⌜ ((tables : stored.Tables) → InRange found tables → Possible r tables) ⌝ }
 {
-    let found = locate(store, tables, entry);
     match found {
         Found::At(i) => {
             if kind == 2 {
@@ -124,7 +112,8 @@ fn row_reason(known: bool, row: &[u8], role: u8, update: &[u8]) -> u8
     checks::entry_reason(row, kind, &update[1..])
 }
 
-// Judges an update of 221 bytes by whether its table is known, the table's row, the role and the entries stored.
+// Judges an update of 221 bytes by whether its table is known, the table's row, the role and the entries stored. Its key is brought
+// into shortest form at `short` when it is searched for.
 fn judge_by(
     known: bool,
     row: &[u8],
@@ -132,25 +121,30 @@ fn judge_by(
     store: &[u8],
     tables: Tables,
     update: &[u8],
+    short: &mut [u8],
 ) -> Verdict
-    requires { ⌜ (length (now row) ≡ rowSize) × InStore tables (now store) × (length (now update) ≡ updateSize) ⌝ }
+    requires { ⌜ (length (now row) ≡ rowSize) × InStore tables (now store) × (length (now update) ≡ updateSize)
+        × (length (now short) ≡ keySize) ⌝ }
     ensures reason { λ r. ⌜ reasonOf r ≡ judgeBy known (rowOf (now (row .entry))) role (tablesIn tables (now (store .entry)))
         (updateOf (now (update .entry))) ⌝ }
     ensures justified { λ r. ⌜ Justified r (byte 0 (now (update .entry))) (drop 1 (now (update .entry))) (entriesIn tables (now (store .entry))) ⌝ }
     ensures possible { λ r. ⌜ Possible r tables ⌝ }
+    ensures short { λ r. ⌜ Shortened r (now (update .entry)) (now (short .exit)) ⌝ }
 {
     let wrong = row_reason(known, row, role, update);
     if wrong != 0 {
         return Verdict::Refused(wrong);
     }
+    let found = look_up(store, tables, &update[1..149], short);
     let kind = update[0];
     if kind == 1 {
-        return judge_insert(row, store, tables, &update[1..]);
+        return judge_insert(found, row, store, tables);
     }
-    judge_change(kind, store, tables, &update[1..])
+    judge_change(found, kind)
 }
 
 // Judges an update of 221 bytes by the rows in force, the role and the entries stored. The row of its table is looked up once, and lent.
+// Where the update takes effect, `short` is its key in shortest form.
 pub fn judge(
     rows: &[u8],
     count: u8,
@@ -158,14 +152,25 @@ pub fn judge(
     store: &[u8],
     tables: Tables,
     update: &[u8],
+    short: &mut [u8],
 ) -> Verdict
-    requires { ⌜ (length (now rows) ≡ rowsSize) × InStore tables (now store) × (length (now update) ≡ updateSize) ⌝ }
+    requires { ⌜ (length (now rows) ≡ rowsSize) × InStore tables (now store) × (length (now update) ≡ updateSize)
+        × (length (now short) ≡ keySize) ⌝ }
     ensures reason { λ r. ⌜ reasonOf r ≡ judged (rowsIn count (now (rows .entry))) role tables (now (store .entry)) (now (update .entry)) ⌝ }
     ensures justified { λ r. ⌜ Justified r (byte 0 (now (update .entry))) (drop 1 (now (update .entry))) (entriesIn tables (now (store .entry))) ⌝ }
     ensures possible { λ r. ⌜ Possible r tables ⌝ }
+    ensures short { λ r. ⌜ Shortened r (now (update .entry)) (now (short .exit)) ⌝ }
 {
     let found = rows::find(rows, count, integer(update, 1, 4));
     let at = found.at;
     let end = at + rules::ROW;
-    judge_by(found.known, &rows[at..end], role, store, tables, update)
+    judge_by(
+        found.known,
+        &rows[at..end],
+        role,
+        store,
+        tables,
+        update,
+        short,
+    )
 }

@@ -130,12 +130,3 @@ pub fn shorten_action(entry: &[u8], dst: &mut [u8])
         shorten_at(dst, 17 * i + 4);
     }
 }
-
-// Writes an entry of 220 bytes in shortest form.
-pub fn shorten_entry(entry: &[u8], dst: &mut [u8])
-    requires { ⌜ (length (now entry) ≡ entrySize) × (entrySize ≤ length (now dst)) ⌝ }
-    ensures { λ _. ⌜ now (dst .exit) ≡ splice (now (dst .entry)) 0 (shortEntry (now (entry .entry))) ⌝ }
-{
-    shorten_key(entry, dst);
-    shorten_action(entry, &mut dst[rules::KEY..]);
-}

@@ -1,75 +1,59 @@
 -- Right because the log has room for the notes that the atomicity asks for. Assumes nothing.
+use native.Mathlib.Omega.{arith}
 use borrow.Author.Needs.{needs}
 use Rattle.batches.proofs.batch.Statement.{statement}
 use Rattle.batches.proofs.batch.Tie as tie
 
-slice-aggregate-batch-in : tie.Need-slice-aggregate-batch-in
-slice-aggregate-batch-in c = search needs
+notes-requires : tie.Need-notes-requires
+notes-requires c κs = search needs
 
-batch-in-requires : tie.Need-batch-in-requires
-batch-in-requires c κs = search needs
+slice-aggregate-take : tie.Need-slice-aggregate-take
+slice-aggregate-take c = search needs
+
+take-requires : tie.Need-take-requires
+take-requires c κs =
+    let j = c .before .before .before in
+    let p = j .before .before .before .before .before .before .pre in
+    (p .0, (p .1, p .2), p .3, p .5, λ e. omega (arith, j .before .notes .ensures e, j .if1 .taken))
 
 same-length : tie.Need-same-length
-same-length c = search needs
+same-length c = c .before .before .before .before .before .take .kept .1 .1 .1 .1 .0
 
 same-length-2 : tie.Need-same-length-2
-same-length-2 c = search needs
+same-length-2 c = c .before .before .before .before .before .take .kept .1 .1 .1 .1 .1 .1 .1 .1 .1 .0
 
 returns : tie.Need-returns
-returns c = search needs
+returns c = c .before .before .before .before .before .take .ensures
 
-slice-aggregate-batch-in-2 : tie.Need-slice-aggregate-batch-in-2
-slice-aggregate-batch-in-2 c = search needs
+slice-aggregate-take-2 : tie.Need-slice-aggregate-take-2
+slice-aggregate-take-2 c = search needs
 
-batch-in-requires-2 : tie.Need-batch-in-requires-2
-batch-in-requires-2 c κs = search needs
+take-requires-2 : tie.Need-take-requires-2
+take-requires-2 c κs =
+    let p = c .before .before .before .before .before .before .before .before .before .pre in
+    (p .0, (p .1, p .2), p .3, p .5, λ e. omega (arith, p .4))
 
 same-length-3 : tie.Need-same-length-3
-same-length-3 c = search needs
+same-length-3 c = c .before .before .before .before .before .take2 .kept .1 .1 .1 .1 .0
 
 same-length-4 : tie.Need-same-length-4
-same-length-4 c = search needs
+same-length-4 c = c .before .before .before .before .before .take2 .kept .1 .1 .1 .1 .1 .1 .1 .1 .1 .0
 
 returns-2 : tie.Need-returns-2
-returns-2 c =
-    let e = c .before .before .before .before .before .batch-in2 .ensures in
-    let one = c .before .before .before .before .before .before .before .before .before .before .if1 .left in
-    (λ t. rw one (e .0 t), λ t. rw one (e .1 t))
-
-slice-aggregate-batch-in-3 : tie.Need-slice-aggregate-batch-in-3
-slice-aggregate-batch-in-3 c = search needs
-
-batch-in-requires-3 : tie.Need-batch-in-requires-3
-batch-in-requires-3 c κs = search needs
-
-same-length-5 : tie.Need-same-length-5
-same-length-5 c = search needs
-
-same-length-6 : tie.Need-same-length-6
-same-length-6 c = search needs
-
-returns-3 : tie.Need-returns-3
-returns-3 c =
-    let e = c .before .before .before .before .before .batch-in3 .ensures in
-    let one = c .before .before .before .before .before .before .before .before .before .before .if1 .left in
-    (λ t. rw one (e .0 t), λ t. rw one (e .1 t))
+returns-2 c = c .before .before .before .before .before .take2 .ensures
 
 pub batch-spec : {M : Type 1} → statement M
 batch-spec =
     tie.close
     (tie.spec
-    slice-aggregate-batch-in
-    batch-in-requires
+    notes-requires
+    slice-aggregate-take
+    take-requires
     same-length
     same-length-2
     returns
-    slice-aggregate-batch-in-2
-    batch-in-requires-2
+    slice-aggregate-take-2
+    take-requires-2
     same-length-3
     same-length-4
-    returns-2
-    slice-aggregate-batch-in-3
-    batch-in-requires-3
-    same-length-5
-    same-length-6
-    returns-3)
+    returns-2)

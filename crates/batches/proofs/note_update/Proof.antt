@@ -4,6 +4,7 @@ use native.Mathlib.Omega.{arith}
 use mathlib.Core.Path.{_≡_, sym, ap, _∙_}
 use mathlib.Core.List.{List}
 use lib.ListN.{length}
+use borrow.Rule.Slice.PartMut.{same-len-mid}
 use denote.Ref.{now}
 use Rattle.buffers.proofs.Splice.{length-window, part-replaced}
 use borrow.Author.Needs.{needs}
@@ -20,25 +21,32 @@ room : (c : tie.Else1)
 room c = omega (arith, c .before .before .before .pre .2 (c .if1 .left))
 
 mul-at : tie.Need-mul-at
-mul-at c = search (needs, room c)
+mul-at c = omega (arith, room c)
 
 add-end : tie.Need-add-end
-add-end c = search (needs, room c)
+add-end c = omega (arith, room c)
 
 sub-note : tie.Need-sub-note
-sub-note c = search needs
+sub-note c = omega arith
 
 part-note-start : tie.Need-part-note-start
-part-note-start c = search needs
+part-note-start c = omega arith
 
 part-note-end : tie.Need-part-note-end
-part-note-end c = search (needs, room c)
+part-note-end c = omega (arith, room c)
 
 note-requires : tie.Need-note-requires
-note-requires c κs = search needs
+note-requires c κs =
+    let o = c .before in
+    let s = o .before .before .before in
+    let k : 74 * s .args .i + 74 - 74 * s .args .i ≡ 74 = omega arith in
+    (s .pre .0, s .pre .1 .0, s .pre .1 .1, rw k (length-window (74 * s .args .i) 74 (now (s .args .log)) (room o)))
 
 same-length : tie.Need-same-length
-same-length c = search needs
+same-length c =
+    let m = c .before .before .note in
+    let a = c .before .before .before .before .before .before .before .args in
+    same-len-mid (74 * a .i) (74 * a .i + 74 - 74 * a .i) (now (a .log)) (m .last .1 .1 .1 .0) (m .kept .1 .1 .1 .0)
 
 returns-2 : tie.Need-returns-2
 returns-2 c =

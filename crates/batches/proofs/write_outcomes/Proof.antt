@@ -28,28 +28,28 @@ loop-holds : tie.Need-loop-holds Inv-loop μ-loop
 loop-holds c = (written-none 2 _ _, omega arith, refl)
 
 mul-to : tie.Need-mul-to Inv-loop μ-loop
-mul-to c = search needs
+mul-to c = omega arith
 
 outcome-requires : tie.Need-outcome-requires Inv-loop μ-loop
 outcome-requires c κs = search needs
 
 sub-write-pair : tie.Need-sub-write-pair Inv-loop μ-loop
-sub-write-pair c = search needs
+sub-write-pair c = omega arith
 
 part-write-pair-start : tie.Need-part-write-pair-start Inv-loop μ-loop
-part-write-pair-start c = search needs
+part-write-pair-start c = omega arith
 
 part-write-pair-end : tie.Need-part-write-pair-end Inv-loop μ-loop
-part-write-pair-end c = search needs
+part-write-pair-end c = omega arith
 
 write-pair-requires : tie.Need-write-pair-requires Inv-loop μ-loop
 write-pair-requires c κs = search needs
 
 add-k : tie.Need-add-k Inv-loop μ-loop
-add-k c = search needs
+add-k c = omega arith
 
 loop-less : tie.Need-loop-less Inv-loop μ-loop
-loop-less c = search needs
+loop-less c = omega arith
 
 loop-again : tie.Need-loop-again Inv-loop μ-loop
 loop-again c =
@@ -70,7 +70,7 @@ loop-again c =
     )
 
 same-length : tie.Need-same-length Inv-loop μ-loop
-same-length c = search needs
+same-length c = c .before .loop .inv .2
 
 returns : tie.Need-returns Inv-loop μ-loop
 returns c =

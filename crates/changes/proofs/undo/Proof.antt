@@ -28,7 +28,7 @@ returns c =
     let a = c .before .before .before .before .before .before .before .before .args in
     let note : List ℕ = now (a .note) in
     let s : List ℕ = now (a .store) in
-    let e : byte 0 note ≡ 1 = search needs in
+    let e : byte 0 note ≡ 1 = c .before .if1 .taken in
     let w = c .without-last in (
       omega arith,
       back-one note (now (a .update)) s s (a .tables) (w .result) e
@@ -36,28 +36,30 @@ returns c =
     )
 
 sub-replace-action : tie.Need-sub-replace-action
-sub-replace-action c = search needs
+sub-replace-action c = omega arith
 
 part-replace-action-start : tie.Need-part-replace-action-start
-part-replace-action-start c = search needs
+part-replace-action-start c = omega arith
 
 part-replace-action-end : tie.Need-part-replace-action-end
-part-replace-action-end c = search needs
+part-replace-action-end c = omega arith
 
 replace-action-requires : tie.Need-replace-action-requires
 replace-action-requires c κs = search needs
 
 same-length : tie.Need-same-length
-same-length c = search needs
+same-length c = c .before .before .replace-action .kept .0
 
 returns-2 : tie.Need-returns-2
 returns-2 c =
-    let a = c .before .before .before .before .before .before .before .before .before .before .before .before .before .before .args in
+    let v = c .before .before .before .before .before .before .before .before in
+    let b = v .before .before .before .before .before .before in
+    let a = b .args in
     let note : List ℕ = now (a .note) in
     let s : List ℕ = now (a .store) in
-    let w = c .before .before .before .before .before .before .before .before .wide .ensures .0 in
-    let e : byte 0 note ≡ 2 = search needs in
-    let l : length note ≡ 74 = search needs in
+    let w = v .wide .ensures .0 in
+    let e : byte 0 note ≡ 2 = c .before .before .before .before .before .before .if2 .taken in
+    let l : length note ≡ 74 = b .pre .2 in
     let r = c .before .before .replace-action in
     (omega arith, back-two note (now (a .update)) s (r .last .0) (a .tables) (a .tables) w l e (λ h. r .ensures) (λ n. absurd (n (omega arith))))
 
@@ -67,8 +69,8 @@ returns-3 c =
     let note : List ℕ = now (a .note) in
     let s : List ℕ = now (a .store) in
     let w = c .before .before .before .wide .ensures .0 in
-    let e : byte 0 note ≡ 2 = search needs in
-    let l : length note ≡ 74 = search needs in
+    let e : byte 0 note ≡ 2 = c .before .if2 .taken in
+    let l : length note ≡ 74 = c .before .before .before .before .before .before .before .before .before .pre .2 in
     (omega arith, back-two note (now (a .update)) s s (a .tables) (a .tables) w l e (λ h. absurd (omega arith)) (λ n. (refl, refl)))
 
 returns-4 : tie.Need-returns-4
@@ -77,8 +79,8 @@ returns-4 c =
     let note : List ℕ = now (a .note) in
     let s : List ℕ = now (a .store) in
     let w = c .before .before .before .wide .ensures .0 in
-    let n : byte 0 note ≡ 1 → ⊥ = search needs in
-    let m : byte 0 note ≡ 2 → ⊥ = search needs in
+    let n : byte 0 note ≡ 1 → ⊥ = c .before .before .if1 .left in
+    let m : byte 0 note ≡ 2 → ⊥ = c .before .if2 .left in
     (omega arith, back-other note (now (a .update)) s s (a .tables) (a .tables) w n m (λ h g. absurd (omega arith)) (λ k. (refl, refl)))
 
 returns-5 : tie.Need-returns-5
@@ -87,15 +89,15 @@ returns-5 c =
     let note : List ℕ = now (a .note) in
     let s : List ℕ = now (a .store) in
     let w = c .before .before .before .before .wide .ensures .0 in
-    let n : byte 0 note ≡ 1 → ⊥ = search needs in
-    let m : byte 0 note ≡ 2 → ⊥ = search needs in
+    let n : byte 0 note ≡ 1 → ⊥ = c .before .before .before .if1 .left in
+    let m : byte 0 note ≡ 2 → ⊥ = c .before .before .if2 .left in
     (omega arith, back-other note (now (a .update)) s s (a .tables) (a .tables) w n m (λ h g. absurd (omega arith)) (λ k. (refl, refl)))
 
 put-back-requires : tie.Need-put-back-requires
 put-back-requires c κs = search needs
 
 same-length-2 : tie.Need-same-length-2
-same-length-2 c = search needs
+same-length-2 c = c .before .before .put-back .kept .1 .1 .0
 
 returns-6 : tie.Need-returns-6
 returns-6 c =
@@ -104,8 +106,8 @@ returns-6 c =
     let s : List ℕ = now (a .store) in
     let w = c .before .before .before .before .before .before .before .before .wide .ensures .0 in
     let p = c .before .before .put-back in
-    let n : byte 0 note ≡ 1 → ⊥ = search needs in
-    let m : byte 0 note ≡ 2 → ⊥ = search needs in (
+    let n : byte 0 note ≡ 1 → ⊥ = c .before .before .before .before .before .before .before .if1 .left in
+    let m : byte 0 note ≡ 2 → ⊥ = c .before .before .before .before .before .before .if2 .left in (
       p .ensures .few,
       back-other note (now (a .update)) s (p .last .1 .1 .0) (a .tables) (p .result) w n m (λ h g. p .ensures)
           (λ k. absurd (k (omega arith, omega arith))),

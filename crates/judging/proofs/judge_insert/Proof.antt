@@ -1,24 +1,19 @@
 -- Right because the tests are made in the order of the reasons. Assumes nothing.
 use native.Mathlib.Omega.{arith}
 use mathlib.Core.Path.{_≡_, refl, sym, ap, _∙_}
-use mathlib.Core.Option.{none}
 use mathlib.Core.Bool.{false}
 use lib.Dec.{leb}
 use lib.ListN.{length}
 use denote.Ref.{now}
 use borrow.Author.Tests.{leb-false}
-use Rattle.rules.specs.Key.{shortKey}
 use Rattle.rules.proofs.Formed.{parts-count}
 use Rattle.rows.specs.Meaning.{rowOf}
 use Rattle.rules.specs.Update.{held}
-use Rattle.store.specs.Store.{entriesIn, tablesIn, place, placeOf}
+use Rattle.store.specs.Store.{entriesIn, tablesIn, placeOf}
 use Rattle.judging.proofs.Place.{insert-present, insert-table-full, insert-store-full, insert-absent}
 use borrow.Author.Needs.{needs}
 use Rattle.judging.proofs.judge_insert.Statement.{statement}
 use Rattle.judging.proofs.judge_insert.Tie as tie
-
-locate-requires : tie.Need-locate-requires
-locate-requires c κs = search needs
 
 enum-told : tie.Need-enum-told
 enum-told c = search needs
@@ -35,15 +30,9 @@ integer-requires-2 c κs = search needs
 holds-requires : tie.Need-holds-requires
 holds-requires c κs = search needs
 
--- no entry with the key was found
-absent : (h : tie.After-holds) →
-    let a = h .before .before .before .before .before .before .before .before .before .args in
-    place (shortKey (now (a .entry))) (entriesIn (a .tables) (now (a .store))) ≡ none
-absent h = sym (h .before .before .before .before .before .locate .ensures .0) ∙ ap placeOf (h .before .before .before .enum-told2 .given .1)
-
 -- the table's entries are counted against its size
 counted : (h : tie.After-holds) →
-    let a = h .before .before .before .before .before .before .before .before .before .args in
+    let a = h .before .before .before .before .before .before .before .args in
     let row = rowOf (now (a .row)) in
     h .holds .result ≡ leb (row .size) (held (row .table) (tablesIn (a .tables) (now (a .store))))
 unfolding rowOf
@@ -52,9 +41,14 @@ counted h = rw (h .before .before .integer .ensures, h .before .integer2 .ensure
 returns : tie.Need-returns
 returns c =
     let h = c .before in
-    let a = h .before .before .before .before .before .before .before .before .before .args in
-    let es = entriesIn (a .tables) (now (a .store)) in
-    (sym (insert-table-full (rowOf (now (a .row))) (now (a .entry)) es (absent h) (sym (counted h) ∙ c .if1 .taken)), (omega arith, tt))
+    let a = h .before .before .before .before .before .before .before .args in
+    let none = ap placeOf (h .before .before .before .enum-told2 .given .1) in (
+      λ e p. (
+        sym (insert-table-full (rowOf (now (a .row))) e _ (sym p ∙ none) (sym (counted h) ∙ c .if1 .taken)),
+        omega arith,
+      ),
+      tt,
+    )
 
 are-full-requires : tie.Need-are-full-requires
 are-full-requires c κs = search needs
@@ -63,39 +57,40 @@ returns-2 : tie.Need-returns-2
 returns-2 c =
     let g = c .before .before in
     let h = g .before in
-    let a = h .before .before .before .before .before .before .before .before .before .args in
-    let s = now (a .store) in
-    let f = c .before .are-full in (
-      sym (insert-store-full (rowOf (now (a .row))) (now (a .entry)) (entriesIn (a .tables) s) (absent h) (sym (counted h) ∙ g .if1 .left)
-          (sym (f .ensures s) ∙ c .if2 .taken)),
-      (omega arith, tt),
+    let a = h .before .before .before .before .before .before .before .args in
+    let none = ap placeOf (h .before .before .before .enum-told2 .given .1) in
+    let full = sym (c .before .are-full .ensures (now (a .store))) ∙ c .if2 .taken in (
+      λ e p. (
+        sym (insert-store-full (rowOf (now (a .row))) e _ (sym p ∙ none) (sym (counted h) ∙ g .if1 .left) full),
+        omega arith,
+      ),
+      tt,
     )
 
 returns-3 : tie.Need-returns-3
 returns-3 c =
-    let d = c .before .before in
-    let a = d .before .before .before .before .args in
-    let p = sym (d .locate .ensures .0) ∙ ap placeOf (c .enum-told .given .1) in
-    (sym (insert-present (rowOf (now (a .row))) (now (a .entry)) (entriesIn (a .tables) (now (a .store))) _ p), (omega arith, tt))
+    let a = c .before .before .before .before .args in
+    let some = ap placeOf (c .enum-told .given .1) in
+    (λ e p. (sym (insert-present (rowOf (now (a .row))) e _ _ (sym p ∙ some)), omega arith), tt)
 
 returns-4 : tie.Need-returns-4
 returns-4 c =
     let g = c .before .before in
     let h = g .before in
-    let a = h .before .before .before .before .before .before .before .before .before .args in
-    let s = now (a .store) in
-    let es = entriesIn (a .tables) s in
-    let f = c .before .are-full in
-    let more : leb 256 (length es) ≡ false = sym (f .ensures s) ∙ c .if2 .left in
+    let a = h .before .before .before .before .before .before .before .args in
+    let es = entriesIn (a .tables) (now (a .store)) in
+    let none = ap placeOf (h .before .before .before .enum-told2 .given .1) in
+    let more : leb 256 (length es) ≡ false = sym (c .before .are-full .ensures (now (a .store))) ∙ c .if2 .left in
     let few = leb-false 256 (length es) more in
-    let m : length es ≡ a .tables .count = parts-count (a .tables .count) 220 s in
-    (sym (insert-absent (rowOf (now (a .row))) (now (a .entry)) es (absent h) (sym (counted h) ∙ g .if1 .left) more), (refl, omega arith))
+    let m : length es ≡ a .tables .count = parts-count (a .tables .count) 220 (now (a .store)) in (
+      λ e p. (sym (insert-absent (rowOf (now (a .row))) e es (sym p ∙ none) (sym (counted h) ∙ g .if1 .left) more), refl),
+      omega arith,
+    )
 
 pub judge-insert-spec : {M : Type 1} → statement M
 judge-insert-spec =
     tie.close
     (tie.spec
-    locate-requires
     enum-told
     enum-told-2
     integer-requires

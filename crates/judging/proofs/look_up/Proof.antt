@@ -9,18 +9,22 @@ use Rattle.rules.proofs.Shortest.{key-length}
 use Rattle.buffers.specs.Splice.{splice}
 use Rattle.buffers.proofs.Splice.{splice-end}
 use Rattle.store.specs.declared.Tables.{Tables}
-use Rattle.store.specs.Store.{entriesIn, place, placeOf}
 use Rattle.store.specs.declared.Found.{Found}
+use Rattle.store.specs.Store.{entriesIn, place, placeOf}
 use borrow.Author.Needs.{needs}
 use Rattle.judging.proofs.look_up.Statement.{statement}
 use Rattle.judging.proofs.look_up.Tie as tie
 
--- what was found of a key in shortest form was found of the key
+-- a key in shortest form fills what it is written to
+filled : (k before short : List ℕ) → short ≡ splice before 0 (shortKey k) → length k ≡ 148 → length before ≡ 148 → short ≡ shortKey k
+filled k before short w l m =
+    let n : length (shortKey k) ≡ 148 = key-length k (omega arith) in
+    w ∙ splice-end before 0 (shortKey k) (omega arith)
+
+-- and what was found of it was found of the key
 short-found : (r : Found) (k before short : List ℕ) (tables : Tables) (s : List ℕ) → short ≡ splice before 0 (shortKey k) → length k ≡ 148
     → length before ≡ 148 → placeOf r ≡ place short (entriesIn tables s) → placeOf r ≡ place (shortKey k) (entriesIn tables s)
-short-found r k before short tables s w l m p =
-    let n : length (shortKey k) ≡ 148 = key-length k (omega arith) in
-    p ∙ ap (λ (y : List ℕ). place y (entriesIn tables s)) (w ∙ splice-end before 0 (shortKey k) (omega arith))
+short-found r k before short tables s w l m p = p ∙ ap (λ (y : List ℕ). place y (entriesIn tables s)) (filled k before short w l m)
 
 shorten-key-requires : tie.Need-shorten-key-requires
 shorten-key-requires c κs = search needs
@@ -32,7 +36,7 @@ same-length : tie.Need-same-length
 same-length c = search needs
 
 returns : tie.Need-returns
-returns c = (search (needs, short-found), c .find .ensures .1)
+returns c = (search (needs, short-found), (c .find .ensures .1, search (needs, filled)))
 
 pub look-up-spec : {M : Type 1} → statement M
 look-up-spec = tie.close (tie.spec shorten-key-requires find-requires same-length returns)

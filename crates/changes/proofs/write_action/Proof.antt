@@ -8,10 +8,9 @@ use denote.Ref.{now}
 use Rattle.rules.specs.Entry.{shortEntry}
 use Rattle.rules.proofs.Shortest.{entry-length}
 use Rattle.buffers.proofs.Splice.{rest-back}
-use Rattle.store.proofs.Writes.{action-over}
 use borrow.Author.Needs.{needs}
-use Rattle.changes.proofs.modify.Statement.{statement}
-use Rattle.changes.proofs.modify.Tie as tie
+use Rattle.changes.proofs.write_action.Statement.{statement}
+use Rattle.changes.proofs.write_action.Tie as tie
 
 mul-at : tie.Need-mul-at
 mul-at c = search needs
@@ -37,16 +36,13 @@ same-length c = search needs
 returns : tie.Need-returns
 returns c =
     let a = c .before .before .before .before .before .before .args in
-    let s : List ℕ = now (a .store) in
     let e : List ℕ = shortEntry (now (a .entry)) in
-    let new : List ℕ = drop 148 e in
-    let l : length new ≡ 72 = length-drop 148 e ∙ ap (λ (n : ℕ). n - 148) (entry-length (now (a .entry)) (omega arith)) in
+    let l : length (drop 148 e) ≡ 72 = length-drop 148 e ∙ ap (λ (n : ℕ). n - 148) (entry-length (now (a .entry)) (omega arith)) in
     let w = c .before .before .shorten-action in
-    rw (rest-back s (w .last .1 .0) new (220 * a .i + 148) (w .ensures) (omega arith))
-    (action-over (a .i) (a .tables) s new (omega arith) (omega arith) (omega arith) l)
+    rest-back (now (a .store)) (w .last .1 .0) (drop 148 e) (220 * a .i + 148) (w .ensures) (omega arith)
 
-pub modify-spec : {M : Type 1} → statement M
-modify-spec =
+pub write-action-spec : {M : Type 1} → statement M
+write-action-spec =
     tie.close
     (tie.spec
     mul-at
