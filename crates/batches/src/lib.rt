@@ -140,16 +140,6 @@ fn write_outcomes(n: usize, at: usize, own: u8, answer: &mut [u8])
 
 // ---- a batch
 
-// How many notes a batch of n updates needs: with atomicity 1 one for each.
-fn notes(atomicity: u8, n: usize) -> usize
-    ensures { λ r. ⌜ (atomicity ≡ 1 → r ≡ n) ⌝ }
-{
-    if atomicity != 1 {
-        return 0;
-    }
-    n
-}
-
 // Takes the n updates in order, each pair written; what is left. With atomicity 1 the log has room for n notes, and the first update
 // that fails stops the batch: all pairs are written anew, and what the updates before it did is undone.
 fn take(
@@ -209,52 +199,46 @@ fn take(
     }
 }
 
-// The n updates of a batch by its atomicity, each pair written; what is left.
+// The n updates of a batch by its atomicity, each pair written; what is left. Of the t rows each update is judged by its own.
 pub fn batch(
     rows: &[u8],
-    count: u8,
+    t: u8,
     role: u8,
     atomicity: u8,
     store: &mut [u8],
-    tables: Tables,
+    held: Tables,
     updates: &[u8],
     n: usize,
     answer: &mut [u8],
 ) -> Written
-    requires { ⌜ (length (now rows) ≡ rowsSize) × (tables .count ≤ 256) × (56320 ≤ length (now store))
+    requires { ⌜ (length (now rows) ≡ rowsSize) × (held .count ≤ 256) × (56320 ≤ length (now store))
         × (length (now updates) ≡ updateSize * n) × (n ≤ 64) × (2 * n ≤ length (now answer)) ⌝ }
-    ensures left { λ r. ⌜ StoreLeft (ruled atomicity (rowsIn count (now (rows .entry))) role n (now (updates .entry))) tables
+    ensures left { λ r. ⌜ StoreLeft (ruled atomicity (rowsIn t (now (rows .entry))) role n (now (updates .entry))) held
         (now (store .entry)) (now (store .exit)) r ⌝ }
-    ensures pairs { λ _. ⌜ Pairs (ruled atomicity (rowsIn count (now (rows .entry))) role n (now (updates .entry))) tables
+    ensures pairs { λ _. ⌜ Pairs (ruled atomicity (rowsIn t (now (rows .entry))) role n (now (updates .entry))) held
         (now (store .entry)) (now (answer .entry)) (now (answer .exit)) ⌝ }
 {
-    if notes(atomicity, n) <= 3 {
-        // the long log would cost so few notes a good part more, being set to zero
-        let mut log = [0; 222];
+    if atomicity != 1 {
+        // nothing is noted
+        let mut log = [0; 1];
         return take(
             rows,
-            count,
+            t,
             role,
             atomicity,
             store,
-            tables,
+            held,
             updates,
             n,
             &mut log,
             answer,
         );
     }
+    if n <= 3 {
+        // the long log would cost so few updates a good part more, being set to zero
+        let mut log = [0; 222];
+        return take(rows, t, role, 1, store, held, updates, n, &mut log, answer);
+    }
     let mut log = [0; 4736];
-    take(
-        rows,
-        count,
-        role,
-        atomicity,
-        store,
-        tables,
-        updates,
-        n,
-        &mut log,
-        answer,
-    )
+    take(rows, t, role, 1, store, held, updates, n, &mut log, answer)
 }
