@@ -199,7 +199,7 @@ fn take(
     }
 }
 
-// The n updates of a batch by its atomicity, each pair written; what is left. Of the t rows each update is judged by its own.
+// The n updates of a batch by its atomicity, each pair written; what is left. The rows in force are the first t.
 pub fn batch(
     rows: &[u8],
     t: u8,
