@@ -27,7 +27,7 @@ orders = record {
   write-atomic = refl;
   read = refl;
   update = each owned (judged ∷ []) on-owned 0;
-  store-full = (refl, refl, refl);
+  store-full = (refl, refl, refl, refl, refl);
 }
 
 pub witnesses : Witnesses

@@ -12,6 +12,7 @@ use Rattle.rules.specs.Update.{stored, held, entryFormed, entryFits, jud
 use Rattle.rules.specs.Answer.{answerBytes, replyOf}
 use Rattle.rules.specs.Call.{fresh, configureReason, writeReason, readReason, refusal}
 use Rattle.rules.specs.Call.{nextControl, nextTables, next, shown, answer, commandOf, reply, run}
+use Rattle.rules.specs.Full.{judgeFullBy, judgeFull, reply24}
 
 unfoldable pub computing : Unit {0}
 unfolding parts numberFrom bytesOf first pairs codeOf streamFormed arbitrateFormed configureFormed writeFormed readFormed configureOf writeOf
@@ -19,5 +20,5 @@ unfolding parts numberFrom bytesOf first pairs codeOf streamFormed arbitrateForm
     arbitrate actionOf rowOf rowAllowed rowsAllowed unusedZero configurationAllowed rowFor isValue fits short slotFormed slotFits bitsWithin slotRule
     keyFormed keyFits priorityRule keyRules shortSlot shortKey actionFormed actionFits shortEntry stored held entryFormed entryFits judge judgeBy
     perform apply eachAlone failure allOrNone batch answerBytes replyOf fresh configureReason writeReason readReason refusal nextControl nextTables
-    next shown answer commandOf reply run
+    next shown answer commandOf reply run judgeFullBy judgeFull reply24
 computing = tt

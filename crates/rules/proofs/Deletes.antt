@@ -80,24 +80,24 @@ module _ (rows : List Row) (role : ℕ) where
   judged-left : (t : Tables) (u v : Update) → Alike u v → apply (judge rows role t u) u t ≡ apply (judge rows role t v) v t
   judged-left t u v a = alike-left (judge rows role t u) t u v a ∙ ap (λ (r : ℕ). apply r v t) (alike-reason rows role t u v a)
 
-  each-alone : (t : Tables) (us vs : List Update) → Pointwise Alike us vs → eachAlone rows role t us ≡ eachAlone rows role t vs
+  each-alone : (t : Tables) (us vs : List Update) → Pointwise Alike us vs → eachAlone (judge rows role) t us ≡ eachAlone (judge rows role) t vs
   unfolding eachAlone
   each-alone t [] [] a = refl
   each-alone t [] (v ∷ vs) a = absurd a
   each-alone t (u ∷ us) [] a = absurd a
   each-alone t (u ∷ us) (v ∷ vs) a =
       let rest = each-alone (apply (judge rows role t u) u t) us vs (a .1)
-      ∙ ap (λ (x : Tables). eachAlone rows role x vs) (judged-left t u v (a .0)) in
+      ∙ ap (λ (x : Tables). eachAlone (judge rows role) x vs) (judged-left t u v (a .0)) in
       ap₂ (λ (r : ℕ) (b : Batch). record { tables = b .tables; reasons = r ∷ b .reasons }) (alike-reason rows role t u v (a .0)) rest
 
-  one-failure : (t : Tables) (us vs : List Update) → Pointwise Alike us vs → failure rows role t us ≡ failure rows role t vs
+  one-failure : (t : Tables) (us vs : List Update) → Pointwise Alike us vs → failure (judge rows role) t us ≡ failure (judge rows role) t vs
   unfolding failure
   one-failure t [] [] a = refl
   one-failure t [] (v ∷ vs) a = absurd a
   one-failure t (u ∷ us) [] a = absurd a
   one-failure t (u ∷ us) (v ∷ vs) a =
       let rest = one-failure (apply (judge rows role t u) u t) us vs (a .1)
-      ∙ ap (λ (x : Tables). failure rows role x vs) (judged-left t u v (a .0)) in
+      ∙ ap (λ (x : Tables). failure (judge rows role) x vs) (judged-left t u v (a .0)) in
       ap₂ (λ (r : ℕ) (o : Option (ℕ × ℕ)). if eqb r 0 then oneFurther o else some (0, r)) (alike-reason rows role t u v (a .0)) rest
 
 alike-length : (us vs : List Update) → Pointwise Alike us vs → length us ≡ length vs
@@ -107,7 +107,7 @@ alike-length (u ∷ us) [] a = absurd a
 alike-length (u ∷ us) (v ∷ vs) a = ap suc (alike-length us vs (a .1))
 
 alike-batch : (atomicity : ℕ) (rows : List Row) (role : ℕ) (t : Tables) (us vs : List Update) → Pointwise Alike us vs
-    → batch atomicity rows role t us ≡ batch atomicity rows role t vs
+    → batch atomicity (judge rows role) t us ≡ batch atomicity (judge rows role) t vs
 unfolding batch allOrNone
 alike-batch atomicity rows role t us vs a =
     ap₂ (λ (x y : Batch). if eqb atomicity 1 then x else y) whole (each-alone rows role t us vs a)
@@ -116,10 +116,10 @@ alike-batch atomicity rows role t us vs a =
     undone none b = refl
     undone (some f) b = rw (alike-length us vs a)
 
-    whole : unlessFailed (failure rows role t us) t us (eachAlone rows role t us)
-        ≡ unlessFailed (failure rows role t vs) t vs (eachAlone rows role t vs)
+    whole : unlessFailed (failure (judge rows role) t us) t us (eachAlone (judge rows role) t us)
+        ≡ unlessFailed (failure (judge rows role) t vs) t vs (eachAlone (judge rows role) t vs)
     whole =
-        undone (failure rows role t us) (eachAlone rows role t us)
+        undone (failure (judge rows role) t us) (eachAlone (judge rows role) t us)
         ∙ ap₂ (λ (o : Option (ℕ × ℕ)) (b : Batch). unlessFailed o t vs b) (one-failure rows role t us vs a) (each-alone rows role t us vs a)
 
 -- ---- calls

@@ -3,7 +3,7 @@
 use Prim.Native.Nat.{ℕ, zero, suc, _+_, _-_, _*_, _≤_}
 use mathlib.Core.Path.{_≡_, refl, ap}
 use mathlib.Core.Bool.{Bool, true, false, _&&_, _||_, not, false≢true}
-use mathlib.Core.List.{List, [], _∷_, map}
+use mathlib.Core.List.{List, [], _∷_, _++_, map}
 use native.Mathlib.Omega.{arith}
 use lib.Dec.{eqb}
 use lib.ListN.{length, drop, length-take, length-drop, length-append, length-map}
@@ -26,6 +26,11 @@ EveryLength n (x ∷ xs) = (length x ≡ n) × EveryLength n xs
 abbrev pub Whole : List Update → Type 0
 Whole [] = Unit {0}
 Whole (u ∷ us) = (length (u .entry) ≡ 220) × Whole us
+
+pub whole-place : (earlier : List Update) (u : Update) (later : List Update) → Whole (earlier ++ u ∷ later)
+    → Whole earlier × (length (u .entry) ≡ 220)
+whole-place [] u later w = (tt, w .0)
+whole-place (v ∷ earlier) u later w = let r = whole-place earlier u later (w .1) in ((w .0, r .0), r .1)
 
 -- what the reader tests
 abbrev pub Formed : Command → Type 0

@@ -24,11 +24,11 @@ use Rattle.rules.specs.Sound.{Stored, EveryStored, Distinct, SoundTables
 use Rattle.rules.specs.Keys.{SameKey, Compared, KeysAsNumbers}
 use Rattle.rules.proofs.Tests.{contradiction, fails, and-true, and-false, same-true, eq-same, every-split, every-take}
 use Rattle.rules.proofs.Orders.{first-clear, first-avoids, first-passes, first-more}
-use Rattle.rules.proofs.Formed.{Whole, Formed, call-formed}
+use Rattle.rules.proofs.Formed.{Whole, Formed, call-formed, whole-place}
 use Rattle.rules.proofs.Shortest.{key-of-key, slots-of-key, priority-of-key, formed-of-key, table-of-key, table-of-short-key, key-of-short}
 use Rattle.rules.proofs.Numbers.{keys-same}
 use Rattle.rules.proofs.Tables.{alone-every, alone-sound}
-use Rattle.rules.proofs.Sound.{ids-distinct, sound}
+use Rattle.rules.proofs.Sound.{sound}
 use Rattle.rules.proofs.LookBack.{alone-shows, noted-control, shown-seen, fresh-shows}
 use Rattle.rules.proofs.OneKey.{one-key}
 use Rattle.rules.proofs.Members.{in-every, in-some, some-in, in-keep, keep-in}
@@ -128,32 +128,30 @@ module _ (rows : List Row) (t : Tables) (ok : SoundTables rows t) (bytes : AllSt
 
 -- ---- 20 and 21
 
--- what is asked of an update after 15 to 19: whether it is an INSERT, its key is found, its table is full, the store is full
-abbrev late : Bool → Bool → Bool → Bool → List (Bool × ℕ)
-late ins found full all = (ins && found, 20) ∷ (not ins && not found, 21) ∷ (ins && full, 22) ∷ (ins && all, 24) ∷ []
+-- what is asked of an update after 15 to 19: whether it is an INSERT, its key is found, its table is full
+abbrev late : Bool → Bool → Bool → List (Bool × ℕ)
+late ins found full = (ins && found, 20) ∷ (not ins && not found, 21) ∷ (ins && full, 22) ∷ []
 
-late-20 : (ins found full all : Bool) → (first (late ins found full all) ≡ 20) ↔ ((ins ≡ true) × (found ≡ true))
+late-20 : (ins found full : Bool) → (first (late ins found full) ≡ 20) ↔ ((ins ≡ true) × (found ≡ true))
 unfolding first
-late-20 true true full all = (λ e. (refl, refl), λ h. refl)
-late-20 true false full all =
-    (λ e. absurd (first-avoids 20 ((full, 22) ∷ (all, 24) ∷ []) (omega arith) refl e), λ h. absurd (false≢true (h .1)))
-late-20 false true full all = (λ e. absurd (omega arith), λ h. absurd (false≢true (h .0)))
-late-20 false false full all = (λ e. absurd (omega arith), λ h. absurd (false≢true (h .0)))
+late-20 true true full = (λ e. (refl, refl), λ h. refl)
+late-20 true false full = (λ e. absurd (first-avoids 20 ((full, 22) ∷ []) (omega arith) refl e), λ h. absurd (false≢true (h .1)))
+late-20 false true full = (λ e. absurd (omega arith), λ h. absurd (false≢true (h .0)))
+late-20 false false full = (λ e. absurd (omega arith), λ h. absurd (false≢true (h .0)))
 
-late-21 : (ins found full all : Bool) → (first (late ins found full all) ≡ 21) ↔ ((ins ≡ false) × (found ≡ false))
+late-21 : (ins found full : Bool) → (first (late ins found full) ≡ 21) ↔ ((ins ≡ false) × (found ≡ false))
 unfolding first
-late-21 true true full all = (λ e. absurd (omega arith), λ h. absurd (true≢false (h .0)))
-late-21 true false full all =
-    (λ e. absurd (first-avoids 21 ((full, 22) ∷ (all, 24) ∷ []) (omega arith) refl e), λ h. absurd (true≢false (h .0)))
-late-21 false true full all = (λ e. absurd (omega arith), λ h. absurd (true≢false (h .1)))
-late-21 false false full all = (λ e. (refl, refl), λ h. refl)
+late-21 true true full = (λ e. absurd (omega arith), λ h. absurd (true≢false (h .0)))
+late-21 true false full = (λ e. absurd (first-avoids 21 ((full, 22) ∷ []) (omega arith) refl e), λ h. absurd (true≢false (h .0)))
+late-21 false true full = (λ e. absurd (omega arith), λ h. absurd (true≢false (h .1)))
+late-21 false false full = (λ e. (refl, refl), λ h. refl)
 
 -- an update that none of 15 to 19 refuses: its key passed 17, and the late tests decide
 decided : (rows : List Row) (role : ℕ) (t : Tables) (u : Update) → between 15 19 (judge rows role t u) ≡ false →
     let row = rowFor (tableOf (u .entry)) rows in
     (keyFormed row (u .entry) ≡ true)
     × (judge rows role t u
-    ≡ first (late (isInsert (u .type)) (stored (shortKey (u .entry)) t) (leb (row .size) (held (row .table) t)) (leb 256 (length (t .entries)))))
+    ≡ first (late (isInsert (u .type)) (stored (shortKey (u .entry)) t) (leb (row .size) (held (row .table) t))))
 unfolding judge judgeBy entryFormed
 decided rows role t u n = go (eqb (first early) 0) refl
   where
@@ -174,7 +172,7 @@ decided rows role t u n = go (eqb (first early) 0) refl
         ∷ []
 
     rest : List (Bool × ℕ)
-    rest = late (isInsert (u .type)) (stored (shortKey e) t) (leb (row .size) (held (row .table) t)) (leb 256 (length (t .entries)))
+    rest = late (isInsert (u .type)) (stored (shortKey e) t) (leb (row .size) (held (row .table) t))
 
     parted : first (early ++ rest) ≡ (if eqb (first early) 0 then first rest else first early)
     parted = first-more early rest refl
@@ -219,7 +217,7 @@ compared p role u l b ok bytes = record {
         → (judge rows role t u ≡ 20) ↔ ((u .type ≡ 1) × SameKey e (t .entries))
     twenty n =
         let d = decided rows role t u n in
-        let r = late-20 (isInsert (u .type)) (stored (shortKey e) t) _ _ in (
+        let r = late-20 (isInsert (u .type)) (stored (shortKey e) t) _ in (
           λ q. let h = r .0 (sym (d .1) ∙ q) in (eqb-true (u .type) 1 (h .0), some (d .0) .0 (h .1)),
           λ h. d .1 ∙ r .1 (eq-eqb (u .type) 1 (h .0), some (d .0) .1 (h .1)),
         )
@@ -228,17 +226,12 @@ compared p role u l b ok bytes = record {
         → (judge rows role t u ≡ 21) ↔ ((u .type ≡ 1 → ⊥) × (SameKey e (t .entries) → ⊥))
     twenty-one n =
         let d = decided rows role t u n in
-        let r = late-21 (isInsert (u .type)) (stored (shortKey e) t) _ _ in (
+        let r = late-21 (isInsert (u .type)) (stored (shortKey e) t) _ in (
           λ q. let h = r .0 (sym (d .1) ∙ q) in (eqb-false (u .type) 1 (h .0), λ k. contradiction (some (d .0) .1 k) (h .1)),
           λ h. d .1 ∙ r .1 (ne-eqb (u .type) 1 (h .0), fails (stored (shortKey e) t) (λ k. h .1 (some (d .0) .0 k))),
         )
 
 -- ---- the claim
-
-whole-place : (earlier : List Update) (u : Update) (later : List Update) → Whole (earlier ++ u ∷ later)
-    → Whole earlier × (length (u .entry) ≡ 220)
-whole-place [] u later w = (tt, w .0)
-whole-place (v ∷ earlier) u later w = let r = whole-place earlier u later (w .1) in ((w .0, r .0), r .1)
 
 -- the key of an accepted READ of one key passed 17
 read-formed : (s : State) (q : Query) → tableOf (q .key) ≡ q .table → q .only ≡ 1 → accepted s (onTables (READ q)) ≡ true
@@ -277,7 +270,7 @@ keys-as-numbers room device before c bs b = record {
         → SoundTables (withUpdates p role us .control .rows) (stateSeen (withUpdates p role us) .tables)
     noted-sound role us w =
         rw (noted-control p role us, ← alone-shows p role us)
-        (alone-sound rows (ids-distinct rows (ok .rows)) role (stateSeen p .tables) us w (ok .tables))
+        (alone-sound rows (ok .rows) role (stateSeen p .tables) us w (ok .tables))
 
     noted-bytes : (role : ℕ) (us : List Update) → every entryOfBytes us ≡ true → AllStored (stateSeen (withUpdates p role us) .tables)
     noted-bytes role us d =

@@ -18,6 +18,7 @@ pub mod Shortest
 pub mod Numbers
 pub mod Checked
 pub mod Rollback
+pub mod Counting
 pub mod Tables
 pub mod Sound
 pub mod Refused
@@ -25,6 +26,7 @@ pub mod Sizes
 pub mod Effects
 pub mod PairsAndEffects
 pub mod LookBack
+pub mod Full
 pub mod Deletes
 pub mod Replies
 pub mod OneKey

@@ -1,6 +1,6 @@
 -- The rules and looking back agree: the entries stored are at each call the entries present, and so is every answer.
 -- Assumes nothing.
-use Prim.Native.Nat.{ℕ, _+_}
+use Prim.Native.Nat.{ℕ, _+_, _≤_}
 use mathlib.Core.Path.{_≡_, refl, sym, _∙_, ap, ap₂, fun-ext, subst}
 use mathlib.Core.Bool.{Bool, true, false, _&&_, _||_, not, and-true, or-false as or-none}
 use mathlib.Core.Logic.{_⊎_, inl, inr, ⊎-elim, _↔_}
@@ -18,7 +18,7 @@ use Rattle.rules.specs.Streams.{Stream, closed, unbound, bound, orderOf,
 use Rattle.rules.specs.Row.{Row, mayWrite}
 use Rattle.rules.specs.Key.{keyOf, hasKey, shortKey, tableOf}
 use Rattle.rules.specs.Entry.{shortEntry}
-use Rattle.rules.specs.Update.{Tables, noEntries, inTable, perform, apply, eachAlone}
+use Rattle.rules.specs.Update.{Tables, noEntries, inTable, judge, perform, apply, eachAlone}
 use Rattle.rules.specs.Update.{oneFurther, failure, rolledBack, unlessFailed, allOrNone, batch}
 use Rattle.rules.specs.Answer.{Answer, replyOf}
 use Rattle.rules.specs.Call.{State, Call, fresh, configureReason, writeReason, readReason, refusal, accepted, nextControl, nextTables}
@@ -29,7 +29,7 @@ use Rattle.rules.specs.LookBack.{lookBack, pairsAlone, pairsRolledBack, 
 use Rattle.rules.specs.Agreement.{commandsOf, replyAfter, historyOf, pairAt, Agreement}
 use Rattle.rules.proofs.Tests.{same-sym}
 use Rattle.rules.proofs.Rollback.{eqb-sym, rollback}
-use Rattle.rules.proofs.Orders.{first-avoids}
+use Rattle.rules.proofs.Orders.{first-most}
 use Rattle.rules.proofs.Effects.{takeEffect, present-snoc}
 use Rattle.rules.proofs.PairsAndEffects.{seen-at, pair-zero, update-pair}
 
@@ -87,9 +87,9 @@ module _ (role : ℕ) where
   -- each update alone
   abbrev Alone : History → Tables → List Update → Type 0
   Alone p t us =
-      (eachAlone (rowsOf p) role t us .tables ≡ stateSeen (withUpdates p role us) .tables)
-      × (map pairOf (eachAlone (rowsOf p) role t us .reasons) ≡ pairsAlone p role us)
-      × (every (eqb 0) (eachAlone (rowsOf p) role t us .reasons) ≡ not (someFails p role us))
+      (eachAlone (judge (rowsOf p) role) t us .tables ≡ stateSeen (withUpdates p role us) .tables)
+      × (map pairOf (eachAlone (judge (rowsOf p) role) t us .reasons) ≡ pairsAlone p role us)
+      × (every (eqb 0) (eachAlone (judge (rowsOf p) role) t us .reasons) ≡ not (someFails p role us))
 
   alone : (p : History) (us : List Update) → Alone p (stateSeen p .tables) us
   unfolding eachAlone withUpdates pairsAlone someFails reasonAt succeeds withUpdate
@@ -124,12 +124,12 @@ module _ (role : ℕ) where
     unfolding someFails pairsRolledBack
     first-failing e = rw e (refl, refl)
 
-  failing : (p : History) (us : List Update) → Failing (failure (rowsOf p) role (stateSeen p .tables) us) p us
+  failing : (p : History) (us : List Update) → Failing (failure (judge (rowsOf p) role) (stateSeen p .tables) us) p us
   unfolding failure someFails pairsRolledBack reasonAt succeeds withUpdate
   failing p [] = refl
   failing p (u ∷ us) =
-      go (eqb r 0) refl (failure (rowsOf p) role (apply r u (stateSeen p .tables)) us)
-      (subst (λ (t : Tables). Failing (failure (rowsOf p) role t us) q us) (noted-update p role u) (failing q us))
+      go (eqb r 0) refl (failure (judge (rowsOf p) role) (apply r u (stateSeen p .tables)) us)
+      (subst (λ (t : Tables). Failing (failure (judge (rowsOf p) role) t us) q us) (noted-update p role u) (failing q us))
     where
       r : ℕ
       r = reasonAt p role u
@@ -149,19 +149,19 @@ module _ (role : ℕ) where
   -- a batch of either atomicity
   abbrev Batched : History → ℕ → List Update → Type 0
   Batched p atomicity us =
-      (batch atomicity (rowsOf p) role (stateSeen p .tables) us .tables ≡ stateSeen (withBatch p role atomicity us) .tables)
-      × (map pairOf (batch atomicity (rowsOf p) role (stateSeen p .tables) us .reasons) ≡ pairsSeen p role atomicity us)
-      × (every (eqb 0) (batch atomicity (rowsOf p) role (stateSeen p .tables) us .reasons) ≡ not (someFails p role us))
+      (batch atomicity (judge (rowsOf p) role) (stateSeen p .tables) us .tables ≡ stateSeen (withBatch p role atomicity us) .tables)
+      × (map pairOf (batch atomicity (judge (rowsOf p) role) (stateSeen p .tables) us .reasons) ≡ pairsSeen p role atomicity us)
+      × (every (eqb 0) (batch atomicity (judge (rowsOf p) role) (stateSeen p .tables) us .reasons) ≡ not (someFails p role us))
 
   batched : (p : History) (atomicity : ℕ) (us : List Update) → Batched p atomicity us
   unfolding batch allOrNone withBatch pairsSeen
-  batched p atomicity us = go (eqb atomicity 1) (failure (rowsOf p) role t us) (failing p us)
+  batched p atomicity us = go (eqb atomicity 1) (failure (judge (rowsOf p) role) t us) (failing p us)
     where
       t : Tables
       t = stateSeen p .tables
 
       go : (b : Bool) (o : Option (ℕ × ℕ)) → Failing o p us →
-          let x = if b then unlessFailed o t us (eachAlone (rowsOf p) role t us) else eachAlone (rowsOf p) role t us in
+          let x = if b then unlessFailed o t us (eachAlone (judge (rowsOf p) role) t us) else eachAlone (judge (rowsOf p) role) t us in
           (x .tables ≡ stateSeen (if b && someFails p role us then p else withUpdates p role us) .tables)
           × (map pairOf (x .reasons) ≡ (if b && someFails p role us then pairsRolledBack p role us else pairsAlone p role us))
           × (every (eqb 0) (x .reasons) ≡ not (someFails p role us))
@@ -170,7 +170,7 @@ module _ (role : ℕ) where
       go false o h = alone p us
 
 pub alone-shows : (p : History) (role : ℕ) (us : List Update)
-    → eachAlone (p .control .rows) role (stateSeen p .tables) us .tables ≡ stateSeen (withUpdates p role us) .tables
+    → eachAlone (judge (p .control .rows) role) (stateSeen p .tables) us .tables ≡ stateSeen (withUpdates p role us) .tables
 alone-shows p role us = alone role p us .0
 
 -- an update changes no row
@@ -310,7 +310,7 @@ tables-agree p (onPipeline (CONFIGURE h rows)) = go (accepted (stateSeen p) (onP
     go false = refl
 tables-agree p (onTables (WRITE h atomicity us)) = go (accepted (stateSeen p) (onTables (WRITE h atomicity us)))
   where
-    go : (b : Bool) → (if b then batch atomicity (p .control .rows) (h .role) (stateSeen p .tables) us .tables else stateSeen p .tables) .entries
+    go : (b : Bool) → (if b then batch atomicity (judge (p .control .rows) (h .role)) (stateSeen p .tables) us .tables else stateSeen p .tables) .entries
         ≡ present (if b then withBatch p (h .role) atomicity us .effects else p .effects)
     go true = ap (λ t. t .entries) (batched (h .role) p atomicity us .0)
     go false = refl
@@ -332,27 +332,27 @@ fresh-shows device cs = run-shows (nothing device) cs
 
 -- ---- what is returned
 
--- 23 is no refusal
-not-23 : (s : State) (c : Command) → refusal s c ≡ 23 → ⊥
+-- a call is refused under a reason up to 19
+pub at-most-19 : (s : State) (c : Command) → refusal s c ≤ 19
 unfolding refusal configureReason writeReason readReason openStream closeStream arbitrate arbitrateReason
-not-23 s tooShort e = omega arith
-not-23 s malformed e = omega arith
-not-23 s (onStreams (OPEN n)) e = first-avoids 23 _ (omega arith) refl e
-not-23 s (onStreams (CLOSE n)) e = first-avoids 23 _ (omega arith) refl e
-not-23 s (onStreams (ARBITRATE n h)) e = by-state (streamAt (s .control .streams) n) e
+at-most-19 s tooShort = omega arith
+at-most-19 s malformed = omega arith
+at-most-19 s (onStreams (OPEN n)) = first-most 19 _ refl
+at-most-19 s (onStreams (CLOSE n)) = first-most 19 _ refl
+at-most-19 s (onStreams (ARBITRATE n h)) = by-state (streamAt (s .control .streams) n)
   where
-    by-state : (x : Stream) → first (orderOf (s .control .device) (s .control .streams) n h x) ≡ 23 → ⊥
-    by-state closed q = first-avoids 23 _ (omega arith) refl q
-    by-state unbound q = first-avoids 23 _ (omega arith) refl q
-    by-state (bound r i) q = first-avoids 23 _ (omega arith) refl q
-not-23 s (onPipeline (CONFIGURE h rows)) e = first-avoids 23 _ (omega arith) refl e
-not-23 s (onTables (WRITE h atomicity us)) e = first-avoids 23 _ (omega arith) refl e
-not-23 s (onTables (READ q)) e = first-avoids 23 _ (omega arith) refl e
+    by-state : (x : Stream) → first (orderOf (s .control .device) (s .control .streams) n h x) ≤ 19
+    by-state closed = first-most 19 _ refl
+    by-state unbound = first-most 19 _ refl
+    by-state (bound r i) = first-most 19 _ refl
+at-most-19 s (onPipeline (CONFIGURE h rows)) = first-most 19 _ refl
+at-most-19 s (onTables (WRITE h atomicity us)) = first-most 19 _ refl
+at-most-19 s (onTables (READ q)) = first-most 19 _ refl
 
 -- a call that answers its own reason
 its-reason : (s : State) (c : Command) (r : ℕ) → r ≡ refusal s c → ((r ≡ 0) ⊎ (r ≡ 23)) ↔ (accepted s c ≡ true)
 its-reason s c r q = (
-  λ h. ⊎-elim (λ e. eq-eqb (refusal s c) 0 (sym q ∙ e)) (λ e. absurd (not-23 s c (sym q ∙ e))) h,
+  λ h. ⊎-elim (λ e. eq-eqb (refusal s c) 0 (sym q ∙ e)) (λ e. absurd (omega (arith, at-most-19 s c))) h,
   λ h. inl (q ∙ eqb-true (refusal s c) 0 h),
 )
 
@@ -373,7 +373,7 @@ returned-accepted s (onStreams (ARBITRATE n h)) = its-reason s (onStreams (ARBIT
 returned-accepted s (onPipeline (CONFIGURE h rows)) = its-reason s (onPipeline (CONFIGURE h rows)) _ refl
 returned-accepted s (onTables (WRITE h atomicity us)) =
     one-of-two s (onTables (WRITE h atomicity us)) _
-    (head-reason (every (eqb 0) (batch atomicity (s .control .rows) (h .role) (s .tables) us .reasons)))
+    (head-reason (every (eqb 0) (batch atomicity (judge (s .control .rows) (h .role)) (s .tables) us .reasons)))
     (accepted s (onTables (WRITE h atomicity us))) refl
   where
     head-reason : (b : Bool) → _≡_ {A = ℕ} (if b then 0 else 23) 0 ⊎ _≡_ {A = ℕ} (if b then 0 else 23) 23

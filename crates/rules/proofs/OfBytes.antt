@@ -14,7 +14,7 @@ use Rattle.rules.specs.Frame.{READ, updateOf, writeOf, configureOf, read
 use Rattle.rules.specs.Value.{stripped, short}
 use Rattle.rules.specs.Key.{value1, value2, slots, shortSlot, shortKey}
 use Rattle.rules.specs.Entry.{parameters, shortEntry}
-use Rattle.rules.specs.Update.{Tables, noEntries}
+use Rattle.rules.specs.Update.{Tables, noEntries, judge}
 use Rattle.rules.specs.Call.{State, Call, refusal, accepted, batchOf, nextTables, next, commandOf, run}
 use Rattle.rules.specs.Agreement.{commandsOf}
 use Rattle.rules.specs.Keys.{ofBytes}
@@ -137,7 +137,7 @@ next-bytes s (onTables (WRITE e atomicity us)) b h = go (accepted s (onTables (W
   where
     go : (a : Bool) → AllStored (if a then batchOf s e atomicity us .tables else s .tables)
     go true =
-        left-either AllStored atomicity (s .control .rows) (e .role) (s .tables) us h
+        left-either AllStored atomicity (judge (s .control .rows) (e .role)) (s .tables) us h
         (alone-every allBytes (s .control .rows) (e .role) (s .tables) us (entries-bytes us b) h)
     go false = h
 next-bytes s (onTables (READ q)) b h = h

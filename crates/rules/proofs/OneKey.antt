@@ -19,7 +19,7 @@ use Rattle.rules.proofs.Orders.{first-clear}
 use Rattle.rules.proofs.Formed.{Formed}
 use Rattle.rules.proofs.Shortest.{table-of-key, table-of-short-key}
 use Rattle.rules.proofs.Tables.{others, row-table}
-use Rattle.rules.proofs.Sound.{ids-distinct}
+use Rattle.rules.proofs.Counting.{ids-distinct}
 use Rattle.rules.proofs.LookBack.{keep-keep}
 
 -- the entries of a key are in its table

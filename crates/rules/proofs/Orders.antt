@@ -1,13 +1,13 @@
 -- Laws of an order of refusals: one serves where a call is accepted, one where a reason cannot be given, and some where the order is
 -- taken in two parts.
 -- Assumes nothing.
-use Prim.Native.Nat.{ℕ, _<_}
+use Prim.Native.Nat.{ℕ, _≤_, _<_}
 use mathlib.Core.Path.{_≡_, refl, sym, _∙_}
 use mathlib.Core.Bool.{Bool, true, false, _&&_, not, true≢false}
 use mathlib.Core.List.{List, [], _∷_, _++_}
 use native.Mathlib.Omega.{arith}
-use lib.Dec.{eqb, ltb}
-use borrow.Author.Tests.{eqb-false, eq-eqb, ne-eqb, ltb-true, not-true}
+use lib.Dec.{eqb, leb, ltb}
+use borrow.Author.Tests.{eqb-false, eq-eqb, ne-eqb, leb-true, ltb-true, not-true}
 use Rattle.rules.specs.Bytes.{if_then_else_, every}
 use Rattle.rules.specs.Reason.{first}
 use Rattle.rules.proofs.Tests.{and-true}
@@ -62,6 +62,18 @@ first-passes p (c ∷ cs) h n =
         → (eqb (first cs) 0 ≡ false → p (first cs) ≡ true) → p (if b then c .1 else first cs) ≡ true
     go true m t ih = t
     go false m t ih = ih m
+
+-- no reason of the order is above n
+pub first-most : (n : ℕ) (cs : List (Bool × ℕ)) → every (λ (c : Bool × ℕ). leb (c .1) n) cs ≡ true → first cs ≤ n
+unfolding first
+first-most n [] h = omega arith
+first-most n (c ∷ cs) h =
+    let q = and-true (leb (c .1) n) (every (λ (c : Bool × ℕ). leb (c .1) n) cs) h in
+    go (c .0) (leb-true (c .1) n (q .0)) (first-most n cs (q .1))
+  where
+    go : (b : Bool) → c .1 ≤ n → first cs ≤ n → (if b then c .1 else first cs) ≤ n
+    go true m ih = m
+    go false m ih = ih
 
 -- the later conditions are asked where none of the earlier ones holds
 pub first-more : (cs ds : List (Bool × ℕ)) → positive cs ≡ true → first (cs ++ ds) ≡ (if eqb (first cs) 0 then first ds else first cs)

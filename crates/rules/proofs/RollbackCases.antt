@@ -55,23 +55,23 @@ computed a = refl
 module _ (rows : List Row) (role : ℕ) where
   -- an update that takes effect, before a failure
   one-more : (t t′ : Tables) (u : Update) (us : List Update) (n r : ℕ) → judge rows role t u ≡ 0 → apply 0 u t ≡ t′
-      → failure rows role t′ us ≡ some (n, r) → failure rows role t (u ∷ us) ≡ some (suc n, r)
+      → failure (judge rows role) t′ us ≡ some (n, r) → failure (judge rows role) t (u ∷ us) ≡ some (suc n, r)
   unfolding failure
   one-more t t′ u us n r j a f =
-      (λ i. if eqb (j i) 0 then oneFurther (failure rows role (apply (j i) u t) us) else some (0, j i))
-      ∙ ap (λ (x : Tables). oneFurther (failure rows role x us)) a
+      (λ i. if eqb (j i) 0 then oneFurther (failure (judge rows role) (apply (j i) u t) us) else some (0, j i))
+      ∙ ap (λ (x : Tables). oneFurther (failure (judge rows role) x us)) a
       ∙ ap oneFurther f
 
   -- and n of one that leaves the tables as they are
   many-more : (t : Tables) (u : Update) (us : List Update) (r : ℕ) → judge rows role t u ≡ 0 → apply 0 u t ≡ t
-      → failure rows role t us ≡ some (0, r) → (n : ℕ) → failure rows role t (replicate n u ++ us) ≡ some (n, r)
+      → failure (judge rows role) t us ≡ some (0, r) → (n : ℕ) → failure (judge rows role) t (replicate n u ++ us) ≡ some (n, r)
   many-more t u us r j a f zero = f
   many-more t u us r j a f (suc n) = one-more t t u (replicate n u ++ us) n r j a (many-more t u us r j a f n)
 
 -- an atomic WRITE by its reason and its first failure
 module _ (s : State) (h : Head) (us : List Update) where
   abbrev batchBy : Option (ℕ × ℕ) → Batch
-  batchBy o = unlessFailed o (s .tables) us (eachAlone (s .control .rows) (h .role) (s .tables) us)
+  batchBy o = unlessFailed o (s .tables) us (eachAlone (judge (s .control .rows) (h .role)) (s .tables) us)
 
   abbrev outcome : ℕ → Option (ℕ × ℕ) → TableOutcome
   outcome r o = record {
@@ -81,7 +81,7 @@ module _ (s : State) (h : Head) (us : List Update) where
         if eqb r 0 then record { reason = headReason (batchBy o .reasons); records = map pairOf (batchBy o .reasons) } else plain r;
   }
 
-  outcome-is : (o : Option (ℕ × ℕ)) → writeReason (s .control) h 1 ≡ 0 → failure (s .control .rows) (h .role) (s .tables) us ≡ o
+  outcome-is : (o : Option (ℕ × ℕ)) → writeReason (s .control) h 1 ≡ 0 → failure (judge (s .control .rows) (h .role)) (s .tables) us ≡ o
       → tableCommand s (WRITE h 1 us) ≡ outcome 0 o
   unfolding batch allOrNone
   outcome-is o e f = λ i. outcome (e i) (f i)
@@ -148,13 +148,13 @@ next-keeps : apply 0 alters altered ≡ altered
 unfolding computing
 next-keeps = computed (apply 0 alters altered)
 
-last-is-refused : failure rows 0 altered (fails ∷ []) ≡ some (0, 20)
+last-is-refused : failure (judge rows 0) altered (fails ∷ []) ≡ some (0, 20)
 unfolding computing
-last-is-refused = computed (failure rows 0 altered (fails ∷ []))
+last-is-refused = computed (failure (judge rows 0) altered (fails ∷ []))
 
-failure-is : failure (agent .control .rows) 0 (agent .tables) updates ≡ some (63, 20)
+failure-is : failure (judge (agent .control .rows) 0) (agent .tables) updates ≡ some (63, 20)
 failure-is =
-    (λ i. failure (rows-are i) 0 (tables-are i) updates)
+    (λ i. failure (judge (rows-are i) 0) (tables-are i) updates)
     ∙ one-more rows 0 before altered alters (replicate 62 alters ++ (fails ∷ [])) 62 20 first-passes first-alters
     (many-more rows 0 altered alters (fails ∷ []) 20 next-passes next-keeps last-is-refused 62)
 

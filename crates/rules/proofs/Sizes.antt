@@ -26,7 +26,8 @@ use Rattle.rules.specs.Sound.{EveryStored, Within, Sound}
 use Rattle.rules.specs.Sizes.{AnswerFits}
 use Rattle.rules.proofs.Formed.{EveryLength, Formed, call-formed}
 use Rattle.rules.proofs.Tables.{keep-fewer}
-use Rattle.rules.proofs.Sound.{sizes-fit, sound}
+use Rattle.rules.proofs.Counting.{sizes-fit}
+use Rattle.rules.proofs.Sound.{sound}
 
 -- ---- lists of records of one length
 
@@ -108,18 +109,18 @@ bind-sized e s h l =
 
 -- ---- pairs
 
-alone-count : (rows : List Row) (role : ℕ) (t : Tables) (us : List Update) → length (eachAlone rows role t us .reasons) ≡ length us
+alone-count : (rows : List Row) (role : ℕ) (t : Tables) (us : List Update) → length (eachAlone (judge rows role) t us .reasons) ≡ length us
 unfolding eachAlone
 alone-count rows role t [] = refl
 alone-count rows role t (u ∷ us) = omega (arith, alone-count rows role (apply (judge rows role t u) u t) us)
 
 pub reasons-count : (atomicity : ℕ) (rows : List Row) (role : ℕ) (t : Tables) (us : List Update)
-    → length (batch atomicity rows role t us .reasons) ≡ length us
+    → length (batch atomicity (judge rows role) t us .reasons) ≡ length us
 unfolding batch allOrNone
-reasons-count atomicity rows role t us = go (eqb atomicity 1) (failure rows role t us)
+reasons-count atomicity rows role t us = go (eqb atomicity 1) (failure (judge rows role) t us)
   where
     go : (b : Bool) (o : Option (ℕ × ℕ))
-        → length ((if b then unlessFailed o t us (eachAlone rows role t us) else eachAlone rows role t us) .reasons) ≡ length us
+        → length ((if b then unlessFailed o t us (eachAlone (judge rows role) t us) else eachAlone (judge rows role) t us) .reasons) ≡ length us
     go true none = alone-count rows role t us
     go true (some f) = length-set (replicate (length us) 25) (f .0) (f .1) ∙ length-replicate (length us) 25
     go false o = alone-count rows role t us

@@ -10,7 +10,7 @@ use Rattle.rules.specs.Frame.{Head, Update, Command, tooShort, malformed
 use Rattle.rules.specs.Frame.{CONFIGURE, WRITE, READ, onStreams, onPipeline, onTables}
 use Rattle.rules.specs.Streams.{markOf}
 use Rattle.rules.specs.Row.{Row, rowOf, rowAllowed, rowsAllowed, configurationAllowed, unusedZero}
-use Rattle.rules.specs.Update.{noEntries}
+use Rattle.rules.specs.Update.{noEntries, judge}
 use Rattle.rules.specs.Call.{State, Call, fresh, configureReason, refusal, accepted, withRows, nextControl, batchOf, nextTables, next, run}
 use Rattle.rules.specs.Agreement.{commandsOf}
 use Rattle.rules.specs.Sound.{SoundTables, Sound}
@@ -22,18 +22,7 @@ use Rattle.rules.proofs.Tables.{alone-sound, none-sound}
 use Rattle.rules.proofs.Rollback.{left-either}
 use Rattle.rules.proofs.Primary.{next-streams, next-mark}
 
--- ---- rows that 14 allows
-
-abbrev ids : List Row → List ℕ
-ids rows = map (λ (r : Row). r .table) rows
-
-pub ids-distinct : (rows : List Row) → rowsAllowed rows ≡ true → distinct (ids rows) ≡ true
-unfolding rowsAllowed
-ids-distinct rows h = and-true (every rowAllowed rows) (distinct (ids rows)) (and-true (every rowAllowed rows && distinct (ids rows)) _ h .0) .1
-
-pub sizes-fit : (rows : List Row) → rowsAllowed rows ≡ true → sum (map (λ (r : Row). r .size) rows) ≤ 256
-unfolding rowsAllowed
-sizes-fit rows h = leb-true _ 256 (and-true (every rowAllowed rows && distinct (ids rows)) _ h .1)
+-- ---- a call
 
 -- an accepted CONFIGURE passed 14
 passed-14 : (s : State) (h : Head) (rows : List (List ℕ)) → accepted s (onPipeline (CONFIGURE h rows)) ≡ true → rowsAllowed (map rowOf rows) ≡ true
@@ -41,8 +30,6 @@ unfolding refusal configureReason configurationAllowed
 passed-14 s h rows a =
     let c = first-clear _ refl (eqb-true _ _ a) in
     and-true (rowsAllowed (map rowOf rows)) (every unusedZero rows) (not-false _ (c .1 .1 .1 .1 .0)) .0
-
--- ---- a call
 
 configure-sound : (s : State) (h : Head) (rows : List (List ℕ)) → Sound s
     → (rowsAllowed (nextControl s (onPipeline (CONFIGURE h rows)) .rows) ≡ true)
@@ -63,8 +50,8 @@ write-sound s h atomicity us w ok = go (accepted s (onTables (WRITE h atomicity 
   where
     go : (b : Bool) → SoundTables (s .control .rows) (if b then batchOf s h atomicity us .tables else s .tables)
     go true =
-        left-either (SoundTables (s .control .rows)) atomicity (s .control .rows) (h .role) (s .tables) us (ok .tables)
-        (alone-sound (s .control .rows) (ids-distinct (s .control .rows) (ok .rows)) (h .role) (s .tables) us w (ok .tables))
+        left-either (SoundTables (s .control .rows)) atomicity (judge (s .control .rows) (h .role)) (s .tables) us (ok .tables)
+        (alone-sound (s .control .rows) (ok .rows) (h .role) (s .tables) us w (ok .tables))
     go false = ok .tables
 
 pub next-sound : (s : State) (c : Command) → Formed c → Sound s → Sound (next s c)

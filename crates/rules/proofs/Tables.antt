@@ -1,16 +1,16 @@
--- No update breaks what is sound of the entries: an INSERT passes 15, 20, 22 and 24, a MODIFY keeps every key, both store what
--- passed 17 to 19, and a DELETE only takes away. Assumes nothing.
+-- No update breaks what is sound of the entries: an INSERT passes 15, 20 and 22, a MODIFY keeps every key, both store what passed 17
+-- to 19, and a DELETE only takes away. Assumes nothing.
 use Prim.Native.Nat.{ℕ, suc, _+_, _≤_, _<_}
 use mathlib.Core.Path.{_≡_, refl, sym, _∙_, ap}
 use mathlib.Core.Bool.{Bool, true, false, _&&_, _||_, not, false≢true}
 use mathlib.Core.List.{List, [], _∷_, _++_, map}
 use native.Mathlib.Omega.{arith}
 use lib.Dec.{eqb, leb}
-use lib.ListN.{length, length-append, length-map}
+use lib.ListN.{length, length-map}
 use borrow.Author.Tests.{eqb-true, eqb-false, eq-eqb, ne-eqb, leb-false, not-false}
 use Rattle.rules.specs.Bytes.{if_then_else_, keep, every, some-of, distinct}
 use Rattle.rules.specs.Frame.{Update}
-use Rattle.rules.specs.Row.{Row, known, rowFor}
+use Rattle.rules.specs.Row.{Row, rowsAllowed, known, rowFor}
 use Rattle.rules.specs.Key.{tableOf, keyFormed, keyFits, keyRules, keyOf, hasKey, shortKey}
 use Rattle.rules.specs.Entry.{actionFormed, actionFits, passes, shortEntry}
 use Rattle.rules.specs.Update.{Tables, noEntries, inTable, stored, held, isInsert, isModify, isDelete}
@@ -21,6 +21,7 @@ use Rattle.rules.proofs.Orders.{first-clear}
 use Rattle.rules.proofs.Formed.{Whole}
 use Rattle.rules.proofs.Shortest.{entry-length, entry-again, key-of-short, table-of-short, table-of-key}
 use Rattle.rules.proofs.Checked.{short-passes}
+use Rattle.rules.proofs.Counting.{ids-distinct, sizes-fit, entries-fit}
 
 abbrev of : List (List ℕ) → Tables
 of es = record { entries = es }
@@ -165,7 +166,7 @@ module _ (p : List ℕ → Bool) where
 
   pub alone-every : (rows : List Row) (role : ℕ) (t : Tables) (us : List Update)
       → every (λ (u : Update). p (shortEntry (u .entry))) us ≡ true → every p (t .entries) ≡ true
-      → every p (eachAlone rows role t us .tables .entries) ≡ true
+      → every p (eachAlone (judge rows role) t us .tables .entries) ≡ true
   unfolding eachAlone
   alone-every rows role t [] q h = h
   alone-every rows role t (u ∷ us) q h =
@@ -305,7 +306,7 @@ short-passed rows role t u l d j = rw (table-of-short (u .entry) l) (short-passe
 no-delete : (type n : ℕ) → eqb type n ≡ true → eqb n 3 ≡ false → isDelete type ≡ false
 no-delete type n e d = rw (eqb-true type n e) d
 
-module _ (rows : List Row) (apart : distinct (map (λ (r : Row). r .table) rows) ≡ true) where
+module _ (rows : List Row) (allowed : rowsAllowed rows ≡ true) where
   -- an INSERT that is refused under no reason
   insert-sound : (role : ℕ) (t : Tables) (u : Update) → length (u .entry) ≡ 220 → judge rows role t u ≡ 0 → isInsert (u .type) ≡ true
       → SoundTables rows t → SoundTables rows (of (t .entries ++ (shortEntry (u .entry) ∷ [])))
@@ -319,14 +320,17 @@ module _ (rows : List Row) (apart : distinct (map (λ (r : Row). r .table) rows)
       let full : leb (rowFor (tableOf e) rows .size) (held (rowFor (tableOf e) rows .table) t) ≡ false =
       and-false _ _ (c .1 .1 .1 .1 .1 .1 .1 .1 .0) i in
       let room : held (rowFor (tableOf e) rows .table) t < rowFor (tableOf e) rows .size = leb-false _ _ full in
-      let more : leb 256 (length (t .entries)) ≡ false = and-false _ _ (c .1 .1 .1 .1 .1 .1 .1 .1 .1 .0) i in
+      let after : Tables = of (t .entries ++ (shortEntry e ∷ [])) in
+      let tables-known : every (λ (x : List ℕ). known (tableOf x) rows) (after .entries) ≡ true =
+      every-snoc _ (t .entries) (shortEntry e) (ok .known-tables) (rw in-table has-row) in
+      let no-more : Within rows after = within-snoc rows (t .entries) (shortEntry e) (ids-distinct rows allowed) (rw in-table has-row)
+      (rw in-table (rw (row-table (tableOf e) rows has-row) at room)) (ok .within) in
       record {
-        few = omega (arith, length-append (t .entries) (shortEntry e ∷ []), leb-false 256 (length (t .entries)) more);
+        few = omega (arith, entries-fit rows after tables-known no-more, sizes-fit rows allowed);
         shortest = stored-snoc (t .entries) (shortEntry e) (ok .shortest) (short-stored e l);
         distinct = distinct-snoc (t .entries) (shortEntry e) (ok .distinct) (rw (key-of-short e l) free);
-        known-tables = every-snoc _ (t .entries) (shortEntry e) (ok .known-tables) (rw in-table has-row);
-        within = within-snoc rows (t .entries) (shortEntry e) apart (rw in-table has-row)
-            (rw in-table (rw (row-table (tableOf e) rows has-row) at room)) (ok .within);
+        known-tables = tables-known;
+        within = no-more;
         checked = every-snoc _ (t .entries) (shortEntry e) (ok .checked) (short-passed rows role t u l (no-delete (u .type) 1 i refl) j);
       }
 
@@ -375,7 +379,7 @@ module _ (rows : List Row) (apart : distinct (map (λ (r : Row). r .table) rows)
       go true false false p q m = delete-sound t _ ok
       go false b c p q m = ok
 
-  pub alone-sound : (role : ℕ) (t : Tables) (us : List Update) → Whole us → SoundTables rows t → SoundTables rows (eachAlone rows role t us .tables)
+  pub alone-sound : (role : ℕ) (t : Tables) (us : List Update) → Whole us → SoundTables rows t → SoundTables rows (eachAlone (judge rows role) t us .tables)
   unfolding eachAlone
   alone-sound role t [] h ok = ok
   alone-sound role t (u ∷ us) h ok = alone-sound role (apply (judge rows role t u) u t) us (h .1) (apply-sound role t u (h .0) ok)

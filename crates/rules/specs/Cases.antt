@@ -4,9 +4,11 @@ use mathlib.Core.Path.{_≡_}
 use mathlib.Core.List.{List, [], _∷_, _++_, map}
 use Prim.Native.Nat.{ℕ}
 use lib.ListN.{set, replicate}
+use Rattle.rules.specs.Frame.{Command}
 use Rattle.rules.specs.Key.{exact, range}
 use Rattle.rules.specs.Answer.{Reply}
-use Rattle.rules.specs.Call.{fresh, commandOf, reply}
+use Rattle.rules.specs.Call.{State, fresh, commandOf, reply}
+use Rattle.rules.specs.Full.{reply24}
 use Rattle.rules.specs.Sample.{table#, by, unset, headBy, open!, close!, arbitrate!, configure!, write!, read!, readFrom}
 use Rattle.rules.specs.Sample.{readAll!, readOne, field, action, rowWith, row, sizeless, val1, val2, key, low}
 use Rattle.rules.specs.Sample.{high, key19, key18, key17, entryWith, item, insert!, modify!, delete!, leading, two}
@@ -84,11 +86,18 @@ abbrev stray : List (List ℕ)
 stray = insert! (item 9 7 1) ∷ []
 
 -- the answer to an INSERT into table 1, which is of a size and has one entry; beside it the store has n entries of table 2
-abbrev crowded : ℕ → ℕ → Reply
-crowded size n =
-    reply
+abbrev crowdedBy : (State → Command → Reply) → ℕ → ℕ → Reply
+crowdedBy replies size n =
+    replies
     (holding (row 1 0 size exact 8 ∷ row 2 0 254 exact 8 ∷ []) (item 1 1 1 ∷ replicate n (item 2 1 1)))
     (commandIn (write! (by 0 5) 0 (insert! (item 1 2 1) ∷ [])))
+
+abbrev crowded : ℕ → ℕ → Reply
+crowded = crowdedBy reply
+
+-- and as the agent of document 01 answers it, which has 24
+abbrev crowded24 : ℕ → ℕ → Reply
+crowded24 = crowdedBy reply24
 
 -- what a call gets where the store and the answer buffer are of these lengths
 abbrev lent : ℕ → ℕ → List ℕ → Reply
@@ -189,10 +198,11 @@ pub record Orders : Type 0 where
       ∷ (readFrom 0 (table# 1), ok)
       ∷ [])
   pub update : Each owned judged
-  -- No list of calls comes to 24: the sizes add to 256 at most, so 22 comes before it. Of tables that no list leaves: 22 (the table
-  -- holds its size, and the store 256), 24 (the store alone); with 255 in the store the entry is stored.
-  pub store-full : (crowded 1 255 ≡ bytes 23 2 1 ((22 ∷ 8 ∷ []) ∷ [])) × (crowded 2 255 ≡ bytes 23 2 1 ((24 ∷ 8 ∷ []) ∷ []))
-      × (crowded 2 254 ≡ bytes 0 0 1 (done ∷ []))
+  -- The store holds 256 entries: 22, where the table holds its size too. Where only the store is full, which no list of calls leaves
+  -- (`Full`), document 01 has 24, and the rules store the entry; with 255 in the store both do.
+  pub store-full : (crowded 1 255 ≡ bytes 23 2 1 ((22 ∷ 8 ∷ []) ∷ [])) × (crowded 2 255 ≡ bytes 0 0 1 (done ∷ []))
+      × (crowded24 1 255 ≡ bytes 23 2 1 ((22 ∷ 8 ∷ []) ∷ [])) × (crowded24 2 255 ≡ bytes 23 2 1 ((24 ∷ 8 ∷ []) ∷ []))
+      × (crowded24 2 254 ≡ bytes 0 0 1 (done ∷ []))
 
 -- ---- all of them
 

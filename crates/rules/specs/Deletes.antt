@@ -46,7 +46,7 @@ pub record KeyAlone : Type 0 where
   pub left : (r : ℕ) (t : Tables) (u v : Update) → Alike u v → apply r u t ≡ apply r v t
   -- also in batches, of either atomicity
   pub batches : (atomicity : ℕ) (rows : List Row) (role : ℕ) (t : Tables) (us vs : List Update) → Pointwise Alike us vs
-      → batch atomicity rows role t us ≡ batch atomicity rows role t vs
+      → batch atomicity (judge rows role) t us ≡ batch atomicity (judge rows role) t vs
   -- and so calls have one answer, and leave the same state
   pub answers : (s : State) (c d : Command) → AlikeCommands c d → reply s c ≡ reply s d
   pub states : (s : State) (c d : Command) → AlikeCommands c d → next s c ≡ next s d

@@ -17,6 +17,7 @@ pub mod Authority
 pub mod Keys
 pub mod Sizes
 pub mod Sound
+pub mod Full
 pub mod Refused
 pub mod Rollback
 pub mod Deletes

@@ -16,10 +16,10 @@ use Rattle.rules.specs.LookBack.{Effect, History, stateSeen, effectOf, s
 -- of batches by a role under these rows, the tables before them being t
 module _ (rows : List Row) (role : ℕ) (t : Tables) where
   abbrev pub alone : List Update → Batch
-  alone us = batch 0 rows role t us
+  alone us = batch 0 (judge rows role) t us
 
   abbrev pub atomic : List Update → Batch
-  atomic us = batch 1 rows role t us
+  atomic us = batch 1 (judge rows role) t us
 
   abbrev pub noneFails : List Update → Bool
   noneFails us = every (eqb 0) (alone us .reasons)

@@ -1,0 +1,96 @@
+-- The full store (document 02, request Five: "Table sizes add up to at most 256, so 22 always comes first. Show that no list of calls
+-- from a fresh agent reaches 24, then remove the number and its test. Answers to all lists are those given before."). The rules of
+-- document 01 that still have 24, and what is claimed of them beside the rules without it. Assumes nothing.
+use mathlib.Core.Path.{_≡_}
+use mathlib.Core.Bool.{Bool, true, _&&_, not}
+use mathlib.Core.List.{List, [], _∷_, _++_}
+use Prim.Native.Nat.{ℕ}
+use lib.Dec.{eqb, leb}
+use lib.ListN.{length}
+use Rattle.rules.specs.Bytes.{every}
+use Rattle.rules.specs.Reason.{first, pairs, codeIn}
+use Rattle.rules.specs.Frame.{Head, Update, TableCommand, WRITE, READ, Command, tooShort, malformed, onStreams, onPipeline, onTables}
+use Rattle.rules.specs.Row.{Row, known, rowFor}
+use Rattle.rules.specs.Key.{tableOf}
+use Rattle.rules.specs.Update.{Judge, isInsert, updateOrder, judge, eachAlone, batch}
+use Rattle.rules.specs.Answer.{Reply, replyOf}
+use Rattle.rules.specs.Call.{Call, State, fresh, TableOutcome, writeBatch, read, batchOf, commandOf, next, reply, run}
+use Rattle.rules.specs.Agreement.{commandsOf, replyAfter}
+
+-- ---- judges that test for a full store
+
+-- The order of an update with one condition more, at its end: INSERT while the store holds 256 entries. It is refused under a reason
+-- that may be any: document 01 has 24, and the code has its own for a record that no list of calls leaves (`judging`).
+unfoldable pub judgeFullBy : ℕ → Bool → Row → ℕ → Judge
+judgeFullBy reason isKnown row role t u =
+    first (updateOrder isKnown row role t u ++ (isInsert (u .type) && leb 256 (length (t .entries)), reason) ∷ [])
+
+unfoldable pub judgeFull : ℕ → List Row → ℕ → Judge
+judgeFull reason rows role t u = judgeFullBy reason (known (tableOf (u .entry)) rows) (rowFor (tableOf (u .entry)) rows) role t u
+
+-- ---- the agent of document 01: 24 (8)
+
+abbrev pub judge24 : List Row → ℕ → Judge
+judge24 rows role = judgeFull 24 rows role
+
+abbrev pub pair24 : ℕ → List ℕ
+pair24 reason = reason ∷ codeIn ((24, 8) ∷ pairs) reason ∷ []
+
+-- only a WRITE judges updates
+abbrev pub tableCommand24 : State → TableCommand → TableOutcome
+tableCommand24 s (WRITE h atomicity us) =
+    writeBatch pair24 s h atomicity (batch atomicity (judge24 (s .control .rows) (h .role)) (s .tables) us)
+tableCommand24 s (READ q) = read s q
+
+unfoldable pub next24 : State → Command → State
+next24 s tooShort = next s tooShort
+next24 s malformed = next s malformed
+next24 s (onStreams x) = next s (onStreams x)
+next24 s (onPipeline x) = next s (onPipeline x)
+next24 s (onTables x) = record { control = s .control; tables = tableCommand24 s x .tables }
+
+unfoldable pub reply24 : State → Command → Reply
+reply24 s tooShort = reply s tooShort
+reply24 s malformed = reply s malformed
+reply24 s (onStreams x) = reply s (onStreams x)
+reply24 s (onPipeline x) = reply s (onPipeline x)
+reply24 s (onTables x) = replyOf (tableCommand24 s x .answer)
+
+unfoldable pub run24 : State → List Command → State
+run24 s [] = s
+run24 s (c ∷ cs) = run24 (next24 s c) cs
+
+-- that agent after the calls `before`, and what a call then returns and writes
+abbrev pub after24 : ℕ → ℕ → List Call → State
+after24 room device before = run24 (fresh device) (commandsOf room before)
+
+unfoldable pub replyAfter24 : ℕ → ℕ → List Call → Call → Reply
+replyAfter24 room device before c = reply24 (after24 room device before) (commandOf room c)
+
+-- ---- the claim
+
+-- Of the judge that has 24, beside the one that does not, for an update u of a batch after the earlier ones. With atomicity 1 it is
+-- judged where the earlier ones succeed, by the same tables.
+pub record Unreached (s : State) (role : ℕ) (earlier : List Update) (u : Update) : Type 0 where
+  pub never : judge24 (s .control .rows) role (eachAlone (judge24 (s .control .rows) role) (s .tables) earlier .tables) u ≡ 24 → ⊥
+  pub same :
+      let t = eachAlone (judge24 (s .control .rows) role) (s .tables) earlier .tables in
+      judge24 (s .control .rows) role t u ≡ judge (s .control .rows) role t u
+
+-- Of a call c after the calls `before`, from a fresh agent and with a store of `room` bytes:
+pub record NoFullStore (room device : ℕ) (before : List Call) (c : Call) : Type 0 where
+  -- no update of a WRITE is refused with 24, and each comes to the same reason without it,
+  pub updates : (h : Head) (atomicity : ℕ) (earlier : List Update) (u : Update) (later : List Update)
+      → commandOf room c ≡ onTables (WRITE h atomicity (earlier ++ u ∷ later))
+      → Unreached (after24 room device before) (h .role) earlier u
+  -- so the call returns and writes the same, and the agent after the calls is the same:
+  pub replies : replyAfter24 room device before c ≡ replyAfter room device before c
+  pub state : after24 room device before ≡ run (fresh device) (commandsOf room before)
+  -- The number is free: no call is answered with it, and no update.
+  pub no-head : replyAfter room device before c .returned ≡ 24 → ⊥
+  pub no-pair : (h : Head) (atomicity : ℕ) (us : List Update)
+      → every (λ (reason : ℕ). not (eqb reason 24)) (batchOf (run (fresh device) (commandsOf room before)) h atomicity us .reasons) ≡ true
+
+-- after every list of calls, refused ones included
+abbrev pub NeverFull : Type 0
+NeverFull = (room device : ℕ) (before : List Call) (c : Call) → NoFullStore room device before c
