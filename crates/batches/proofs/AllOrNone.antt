@@ -15,7 +15,7 @@ use Rattle.rules.specs.Bytes.{if_then_else_, every, concat, part, parts}
 use Rattle.rules.specs.Call.{pairOf}
 use Rattle.rules.specs.Frame.{Update, updateOf}
 use Rattle.rules.specs.Row.{Row}
-use Rattle.rules.specs.Update.{Tables, Batch, judge, apply, eachAlone, failure, rolledBack, unlessFailed, allOrNone, batch}
+use Rattle.rules.specs.Update.{Tables, Batch, apply, eachAlone, failure, rolledBack, unlessFailed, allOrNone, batch}
 use Rattle.rules.proofs.Formed.{parts-count}
 use Rattle.rules.proofs.Rollback.{Told, told, failure-at, alone-snoc}
 use Rattle.rules.proofs.Tests.{contradiction, every-append}
@@ -24,6 +24,7 @@ use Rattle.buffers.proofs.Splice.{part-before, splice-front, window-splice}
 use Rattle.store.specs.Store.{entriesIn, tablesIn, Holds}
 use Rattle.store.specs.declared.Tables.{Tables as Held}
 use Rattle.changes.specs.Undo.{noteOf, undone, Undoable, Undoing}
+use Rattle.judging.specs.Verdict.{judgeIn}
 use Rattle.batches.specs.Batch.{updatesIn, BatchApplied}
 use Rattle.batches.specs.Rollback.{noteAt, Noted, Undoes}
 use Rattle.batches.specs.declared.Written.{Written}
@@ -77,12 +78,12 @@ module _ {goal : List (List ℕ)} {log us start store : List ℕ} {held : Held} 
 
 module _ (rows : List Row) (role : ℕ) where
   abbrev passes : Tables → List Update → Bool
-  passes t us = every (eqb 0) (eachAlone rows role t us .reasons)
+  passes t us = every (eqb 0) (eachAlone (judgeIn rows role) t us .reasons)
 
-  no-failure : (t : Tables) (us : List Update) → passes t us ≡ true → failure rows role t us ≡ none
-  no-failure t us e = go (failure rows role t us) (told rows role t us)
+  no-failure : (t : Tables) (us : List Update) → passes t us ≡ true → failure (judgeIn rows role) t us ≡ none
+  no-failure t us e = go (failure (judgeIn rows role) t us) (told (judgeIn rows role) t us)
     where
-      go : (o : Option (ℕ × ℕ)) → Told rows role o t us → o ≡ none
+      go : (o : Option (ℕ × ℕ)) → Told (judgeIn rows role) o t us → o ≡ none
       go none h = refl
       go (some f) h = contradiction e (h .0)
 
@@ -93,7 +94,7 @@ module _ (rows : List Row) (role : ℕ) where
     pub split : updatesIn n us ≡ earlier ++ later
     pub many : length earlier ≡ i
     pub passed : passes (tablesIn tables start) earlier ≡ true
-    pub left : Holds start store held (eachAlone rows role (tablesIn tables start) earlier .tables .entries)
+    pub left : Holds start store held (eachAlone (judgeIn rows role) (tablesIn tables start) earlier .tables .entries)
     pub undoes : Undoes i log us (entriesIn held store) (entriesIn tables start)
 
   pub passed-start : (tables : Held) (n : ℕ) (us start log : List ℕ) → tables .count ≤ 256
@@ -111,27 +112,27 @@ module _ (rows : List Row) (role : ℕ) where
   module _ {tables : Held} {n : ℕ} {us start store log : List ℕ} {held : Held} {i : ℕ} where
     module _ {u : Update} {later : List Update} (b : PassedSoFar tables n us start (u ∷ later) store log held i) where
       -- the tables now
-      now-is : tablesIn held store ≡ eachAlone rows role (tablesIn tables start) (b .earlier) .tables
+      now-is : tablesIn held store ≡ eachAlone (judgeIn rows role) (tablesIn tables start) (b .earlier) .tables
       now-is = ap (λ (es : List (List ℕ)). let x : Tables = record { entries = es } in x) (b .left .holds)
 
       -- an update that takes effect
-      pub passed-next : {after log′ : List ℕ} {reason : ℕ} {m : Held} → reason ≡ judge rows role (tablesIn held store) u → reason ≡ 0
+      pub passed-next : {after log′ : List ℕ} {reason : ℕ} {m : Held} → reason ≡ judgeIn rows role (tablesIn held store) u → reason ≡ 0
           → Holds store after m (apply reason u (tablesIn held store) .entries) → 74 * i + 74 ≤ length log
           → Noted i (part (221 * i) 221 us) (entriesIn held store) (entriesIn m after) log log′
           → PassedSoFar tables n us start later after log′ m (i + 1)
       passed-next {after} {m = m} e z a h d =
           let t : Tables = tablesIn tables start in
-          let snoc : eachAlone rows role t (b .earlier ++ (u ∷ []))
+          let snoc : eachAlone (judgeIn rows role) t (b .earlier ++ (u ∷ []))
           ≡ (let x : Batch = record {
-            tables = apply (judge rows role (tablesIn held store) u) u (tablesIn held store);
-            reasons = eachAlone rows role t (b .earlier) .reasons ++ (judge rows role (tablesIn held store) u ∷ []);
+            tables = apply (judgeIn rows role (tablesIn held store) u) u (tablesIn held store);
+            reasons = eachAlone (judgeIn rows role) t (b .earlier) .reasons ++ (judgeIn rows role (tablesIn held store) u ∷ []);
           } in x) =
-          rw now-is (alone-snoc rows role t (b .earlier) u) in
+          rw now-is (alone-snoc (judgeIn rows role) t (b .earlier) u) in
           record {
             earlier = b .earlier ++ (u ∷ []);
             split = b .split ∙ sym (append-assoc (b .earlier) (u ∷ []) later);
             many = length-append (b .earlier) (u ∷ []) ∙ ap (λ (k : ℕ). k + 1) (b .many);
-            passed = rw (snoc, ← e, z) (every-append (eqb 0) (eachAlone rows role t (b .earlier) .reasons) (0 ∷ []) (b .passed) refl);
+            passed = rw (snoc, ← e, z) (every-append (eqb 0) (eachAlone (judgeIn rows role) t (b .earlier) .reasons) (0 ∷ []) (b .passed) refl);
             left = record {
               holds = rw (snoc, ← e) (a .holds);
               few = a .few;
@@ -144,12 +145,12 @@ module _ (rows : List Row) (role : ℕ) where
           }
 
       -- one that fails
-      pub passed-fails : {reason : ℕ} → reason ≡ judge rows role (tablesIn held store) u → (reason ≡ 0 → ⊥)
-          → failure rows role (tablesIn tables start) (updatesIn n us) ≡ some (i, reason)
+      pub passed-fails : {reason : ℕ} → reason ≡ judgeIn rows role (tablesIn held store) u → (reason ≡ 0 → ⊥)
+          → failure (judgeIn rows role) (tablesIn tables start) (updatesIn n us) ≡ some (i, reason)
       passed-fails {reason} e f =
           let t : Tables = tablesIn tables start in
-          let fails : judge rows role (eachAlone rows role t (b .earlier) .tables) u ≡ 0 → ⊥ = λ z. f (e ∙ rw now-is z) in
-          rw (b .split, failure-at rows role t (b .earlier) u later (b .passed) fails, b .many, ← now-is, e) refl
+          let fails : judgeIn rows role (eachAlone (judgeIn rows role) t (b .earlier) .tables) u ≡ 0 → ⊥ = λ z. f (e ∙ rw now-is z) in
+          rw (b .split, failure-at (judgeIn rows role) t (b .earlier) u later (b .passed) fails, b .many, ← now-is, e) refl
 
 -- ---- what the batch comes to
 
@@ -170,10 +171,10 @@ rolled-count n at own = length-set (replicate n 25) at own ∙ length-replicate 
 
 module _ (rows : List Row) (role : ℕ) (tables : Held) (n : ℕ) (us before : List ℕ) where
   abbrev each : Batch
-  each = eachAlone rows role (tablesIn tables before) (updatesIn n us)
+  each = eachAlone (judgeIn rows role) (tablesIn tables before) (updatesIn n us)
 
   abbrev all : ℕ → Batch
-  all atomicity = batch atomicity rows role (tablesIn tables before) (updatesIn n us)
+  all atomicity = batch atomicity (judgeIn rows role) (tablesIn tables before) (updatesIn n us)
 
   -- a batch that came to its end, with atomicity 1 without a failure
   pub ended : {atomicity : ℕ} {after : List ℕ} {w : Written} → BatchApplied each before after w → (atomicity ≡ 1 → w .failed ≡ false)
@@ -185,7 +186,7 @@ module _ (rows : List Row) (role : ℕ) (tables : Held) (n : ℕ) (us before : L
       passed true e = refl
       passed false e = e
 
-      go : (x : Bool) → eqb atomicity 1 ≡ x → (if x then allOrNone rows role (tablesIn tables before) (updatesIn n us) else each) ≡ each
+      go : (x : Bool) → eqb atomicity 1 ≡ x → (if x then allOrNone (judgeIn rows role) (tablesIn tables before) (updatesIn n us) else each) ≡ each
       go false q = refl
       go true q =
           let e : false ≡ not (every (eqb 0) (each .reasons)) = rw (z (eqb-true atomicity 1 q)) at (a .failed) in
@@ -193,13 +194,13 @@ module _ (rows : List Row) (role : ℕ) (tables : Held) (n : ℕ) (us before : L
 
   -- one that update `at` stopped with a reason of its own
   module _ {atomicity at own : ℕ} (one : atomicity ≡ 1)
-      (f : failure rows role (tablesIn tables before) (updatesIn n us) ≡ some (at, own)) where
+      (f : failure (judgeIn rows role) (tablesIn tables before) (updatesIn n us) ≡ some (at, own)) where
     all-rolled : all atomicity ≡ unlessFailed (some (at, own)) (tablesIn tables before) (updatesIn n us) each
     unfolding batch allOrNone
     all-rolled = rw (one, f) refl
 
     failing : every (eqb 0) (rolledBack (length (updatesIn n us)) (at, own)) ≡ false
-    failing = (rw f at (told rows role (tablesIn tables before) (updatesIn n us))) .1
+    failing = (rw f at (told (judgeIn rows role) (tablesIn tables before) (updatesIn n us))) .1
 
     pub rolled : {after : List ℕ} {m : Held} → Holds before after m (entriesIn tables before)
         → BatchApplied (all atomicity) before after (record { tables = m; failed = true })

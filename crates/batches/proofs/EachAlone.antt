@@ -12,7 +12,7 @@ use Rattle.rules.specs.Bytes.{if_then_else_, every, concat, part, number, int}
 use Rattle.rules.specs.Frame.{Update, updateOf}
 use Rattle.rules.specs.Row.{Row, known, rowFor}
 use Rattle.rules.specs.Key.{tableOf}
-use Rattle.rules.specs.Update.{Tables, Batch, judgeBy, judge, apply, eachAlone}
+use Rattle.rules.specs.Update.{Tables, Batch, apply, eachAlone}
 use Rattle.rules.specs.Call.{pairOf}
 use Rattle.rules.proofs.Lists.{part-part}
 use Rattle.rules.specs.Sound.{Distinct}
@@ -21,6 +21,7 @@ use Rattle.buffers.specs.Splice.{splice}
 use Rattle.buffers.proofs.Written.{Written as Pairs, written-none, written-next, written-all}
 use Rattle.store.specs.Store.{entriesIn, tablesIn, Holds}
 use Rattle.changes.proofs.Effects.{still-distinct}
+use Rattle.judging.specs.Verdict.{judgeIn}
 use Rattle.batches.specs.Batch.{BatchApplied}
 
 -- ---- the flag
@@ -49,7 +50,7 @@ still reason failed rest = go (eqb 0 reason) failed
 module _ (rows : List Row) (role : ℕ) where
   -- what updates do to a store as it is
   abbrev does : Held → List ℕ → List Update → Batch
-  does held store us = eachAlone rows role (tablesIn held store) us
+  does held store us = eachAlone (judgeIn rows role) (tablesIn held store) us
 
   -- `all` is what all updates do to the store `start`, with the answer `out`; us are those left
   pub record TakenSoFar (all : Batch) (start out : List ℕ) (us : List Update) (store answer : List ℕ) (held : Held) (failed : Bool)
@@ -70,7 +71,7 @@ module _ (rows : List Row) (role : ℕ) where
   module _ {all : Batch} {start out store answer : List ℕ} {held : Held} {i : ℕ} {failed : Bool} where
     pub taken-next : {u : Update} {us : List Update} {after answer′ : List ℕ} {reason : ℕ} {n : Held} {failed′ : Bool}
         → TakenSoFar all start out (u ∷ us) store answer held failed i → length (u .entry) ≡ 220 → 2 * i ≤ length out
-        → reason ≡ judge rows role (tablesIn held store) u
+        → reason ≡ judgeIn rows role (tablesIn held store) u
         → Holds store after n (apply reason u (tablesIn held store) .entries)
         → failed′ ≡ flagged reason failed
         → answer′ ≡ splice answer (2 * i) (pairOf reason)
@@ -78,7 +79,7 @@ module _ (rows : List Row) (role : ℕ) where
     unfolding eachAlone
     taken-next {u} {us} {after} {answer′} {reason} {n} b l h e left f w =
         let before : Tables = tablesIn held store in
-        let t : tablesIn n after ≡ apply (judge rows role before u) u before =
+        let t : tablesIn n after ≡ apply (judgeIn rows role before u) u before =
         ap (λ (es : List (List ℕ)). let x : Tables = record { entries = es } in x) (left .holds) ∙ ap (λ (r : ℕ). apply r u before) e in
         record {
           distinct = rw (left .holds, e) (still-distinct rows role before u l (b .distinct));
@@ -86,7 +87,7 @@ module _ (rows : List Row) (role : ℕ) where
           room = left .room ∙ b .room;
           beyond = left .beyond ∙ b .beyond;
           tables = rw t (b .tables);
-          failing = rw (t, f, e) (b .failing ∙ still (judge rows role before u) failed _);
+          failing = rw (t, f, e) (b .failing ∙ still (judgeIn rows role before u) failed _);
           pairs = rw t (written-next (b .pairs) refl refl h (rw e at w) refl);
         }
 

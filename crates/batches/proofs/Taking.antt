@@ -18,6 +18,7 @@ use Rattle.buffers.specs.Splice.{splice}
 use Rattle.buffers.proofs.Splice.{length-window, drop-splice}
 use Rattle.store.specs.Store.{entriesIn, tablesIn, Holds}
 use Rattle.store.specs.declared.Tables.{Tables as Held}
+use Rattle.judging.specs.Verdict.{judgeIn}
 use Rattle.batches.specs.declared.Taken.{Taken}
 use Rattle.batches.specs.Batch.{updatesIn, BatchApplied}
 use Rattle.batches.specs.Rollback.{RolledBack}
@@ -32,7 +33,7 @@ module _ (rows : List Row) (role atomicity : ℕ) (tables : Held) (n : ℕ) (us 
 
   pub record Taking (store log answer : List ℕ) (held : Held) (failed : Bool) (i : ℕ) : Type 0 where
     pub each : Distinct (entriesIn tables start)
-        → TakenSoFar rows role (eachAlone rows role (tablesIn tables start) (updatesIn n us)) start out (later i) store answer held failed i
+        → TakenSoFar rows role (eachAlone (judgeIn rows role) (tablesIn tables start) (updatesIn n us)) start out (later i) store answer held failed i
     pub passed : atomicity ≡ 1 → Distinct (entriesIn tables start) → PassedSoFar rows role tables n us start (later i) store log held i
     pub clear : atomicity ≡ 1 → failed ≡ false
 
@@ -45,8 +46,8 @@ module _ (rows : List Row) (role atomicity : ℕ) (tables : Held) (n : ℕ) (us 
 
   module _ {store log answer : List ℕ} {held : Held} {failed : Bool} {i : ℕ} (b : Taking store log answer held failed i) where
     pub taking-end : n ≤ i → Distinct (entriesIn tables start)
-        → BatchApplied (batch atomicity rows role (tablesIn tables start) (updatesIn n us)) start store (record { tables = held; failed = failed })
-        × (answer ≡ splice out 0 (concat (map pairOf (batch atomicity rows role (tablesIn tables start) (updatesIn n us) .reasons))))
+        → BatchApplied (batch atomicity (judgeIn rows role) (tablesIn tables start) (updatesIn n us)) start store (record { tables = held; failed = failed })
+        × (answer ≡ splice out 0 (concat (map pairOf (batch atomicity (judgeIn rows role) (tablesIn tables start) (updatesIn n us) .reasons))))
     taking-end h t =
         let none : drop i (parts n 221 us) ≡ [] = drop-of-length-le (parts n 221 us) {i = i} (omega (arith, parts-count n 221 us)) in
         let e = taken-end rows role (rw none at (b .each t)) in
@@ -87,7 +88,7 @@ module _ (rows : List Row) (role atomicity : ℕ) (tables : Held) (n : ℕ) (us 
       -- it stops the batch, and what was done is undone
       module _ (one : atomicity ≡ 1) (own : r .reason ≡ 0 → ⊥) (t : Distinct (entriesIn tables start)) where
         pub taking-stop : {back : List ℕ} {m : Held} → RolledBack i log′ us (r .tables) after back m
-            → BatchApplied (batch atomicity rows role (tablesIn tables start) (updatesIn n us)) start back (record { tables = m; failed = true })
+            → BatchApplied (batch atomicity (judgeIn rows role) (tablesIn tables start) (updatesIn n us)) start back (record { tables = m; failed = true })
         taking-stop {back} {m} u =
             let p = rw (parts-from i n 221 us less) at (b .passed one t) in
             let kept = lent .refused own in
@@ -98,7 +99,7 @@ module _ (rows : List Row) (role atomicity : ℕ) (tables : Held) (n : ℕ) (us 
 
         pub stop-pairs : {anew : List ℕ} → anew ≡ splice answer′ 0 (concat (map pairOf (rolledBack n (i, r .reason))))
             → drop (2 * n) answer′ ≡ drop (2 * n) out
-            → anew ≡ splice out 0 (concat (map pairOf (batch atomicity rows role (tablesIn tables start) (updatesIn n us) .reasons)))
+            → anew ≡ splice out 0 (concat (map pairOf (batch atomicity (judgeIn rows role) (tablesIn tables start) (updatesIn n us) .reasons)))
         stop-pairs w e =
             let p = rw (parts-from i n 221 us less) at (b .passed one t) in
             rolled-pairs rows role tables n us start one (passed-fails rows role p (stepped .reason) own) out answer′ w e

@@ -13,7 +13,8 @@ use Rattle.rules.specs.Frame.{Update, updateOf}
 use Rattle.rules.specs.Row.{Row, known, rowFor}
 use Rattle.rules.specs.Key.{shortKey, keyOf, hasKey, tableOf}
 use Rattle.rules.specs.Entry.{shortEntry}
-use Rattle.rules.specs.Update.{Tables, isInsert, isModify, stored, judge, judgeBy, perform, apply}
+use Rattle.rules.specs.Update.{Tables, isInsert, isModify, stored, perform, apply}
+use Rattle.rules.specs.Full.{judgeFullBy, judgeFull}
 use Rattle.rules.specs.Sound.{Distinct}
 use Rattle.rules.proofs.Tests.{and-false, same-true}
 use Rattle.rules.proofs.Orders.{first-clear}
@@ -21,7 +22,7 @@ use Rattle.rules.proofs.Shortest.{key-of-short}
 use Rattle.rules.proofs.Tables.{revised, distinct-map, distinct-keep, distinct-snoc}
 use Rattle.store.specs.Store.{place, without, changedAt}
 use Rattle.store.proofs.KeyPlace.{modify-place, delete-place, place-stored}
-use Rattle.judging.specs.Verdict.{reasonOf, Justified}
+use Rattle.judging.specs.Verdict.{judgeIn, reasonOf, Justified}
 use Rattle.judging.specs.declared.Verdict.{Verdict}
 use Rattle.judging.specs.declared.Verdict.the-variants.{Refused, Insert, Modify, Delete}
 use Rattle.changes.specs.Effect.{effect}
@@ -71,17 +72,17 @@ module _ (es : List (List ℕ)) (u : List ℕ) (long : length u ≡ 221) (d : Di
 -- ---- an update keeps keys distinct
 
 module _ (isKnown : Bool) (row : Row) (role : ℕ) (t : Tables) (u : Update) (l : length (u .entry) ≡ 220) (ok : Distinct (t .entries)) where
-  insert-distinct : judgeBy isKnown row role t u ≡ 0 → isInsert (u .type) ≡ true → Distinct (t .entries ++ (shortEntry (u .entry) ∷ []))
-  unfolding judgeBy stored
+  insert-distinct : judgeFullBy 2 isKnown row role t u ≡ 0 → isInsert (u .type) ≡ true → Distinct (t .entries ++ (shortEntry (u .entry) ∷ []))
+  unfolding judgeFullBy stored
   insert-distinct j i =
       let e : List ℕ = u .entry in
       let c = first-clear _ refl j in
       let free : some-of (hasKey (shortKey e)) (t .entries) ≡ false = and-false _ _ (c .1 .1 .1 .1 .1 .1 .0) i in
       distinct-snoc (t .entries) (shortEntry e) ok (rw (key-of-short e l) free)
 
-  applied-distinct : Distinct (apply (judgeBy isKnown row role t u) u t .entries)
+  applied-distinct : Distinct (apply (judgeFullBy 2 isKnown row role t u) u t .entries)
   unfolding apply perform
-  applied-distinct = go (eqb (judgeBy isKnown row role t u) 0) (isInsert (u .type)) (isModify (u .type)) refl refl
+  applied-distinct = go (eqb (judgeFullBy 2 isKnown row role t u) 0) (isInsert (u .type)) (isModify (u .type)) refl refl
     where
       e : List ℕ
       e = shortEntry (u .entry)
@@ -89,7 +90,7 @@ module _ (isKnown : Bool) (row : Row) (role : ℕ) (t : Tables) (u : Update) (l 
       other : List ℕ → Bool
       other old = not (hasKey (shortKey (u .entry)) old)
 
-      go : (a b c : Bool) → eqb (judgeBy isKnown row role t u) 0 ≡ a → isInsert (u .type) ≡ b
+      go : (a b c : Bool) → eqb (judgeFullBy 2 isKnown row role t u) 0 ≡ a → isInsert (u .type) ≡ b
           → Distinct ((if a then record {
             entries =
                 if b then t .entries ++ (e ∷ []) else
@@ -103,6 +104,6 @@ module _ (isKnown : Bool) (row : Row) (role : ℕ) (t : Tables) (u : Update) (l 
 
 -- judged by the rows in force
 pub still-distinct : (rows : List Row) (role : ℕ) (t : Tables) (u : Update) → length (u .entry) ≡ 220 → Distinct (t .entries)
-    → Distinct (apply (judge rows role t u) u t .entries)
-unfolding judge
+    → Distinct (apply (judgeIn rows role t u) u t .entries)
+unfolding judgeFull
 still-distinct rows role t u = applied-distinct (known (tableOf (u .entry)) rows) (rowFor (tableOf (u .entry)) rows) role t u

@@ -11,9 +11,10 @@ use Rattle.rules.specs.Reason.{first}
 use Rattle.rules.specs.Frame.{Update, updateOf}
 use Rattle.rules.specs.Row.{Row, known, rowFor, tableOrder}
 use Rattle.rules.specs.Key.{tableOf}
-use Rattle.rules.specs.Update.{Tables, entryOrder, placeOrder, judgeBy, judge}
+use Rattle.rules.specs.Update.{Tables, entryOrder}
+use Rattle.rules.specs.Full.{judgeFullBy, judgeFull}
 use Rattle.rules.proofs.Orders.{first-more}
-use Rattle.judging.specs.Verdict.{rowOrder, Justified}
+use Rattle.judging.specs.Verdict.{rowOrder, judgeIn, placesIn, Justified}
 use Rattle.judging.specs.declared.Verdict.{Verdict}
 
 module _ (isKnown : Bool) (row : Row) (role : ℕ) where
@@ -37,17 +38,17 @@ module _ (isKnown : Bool) (row : Row) (role : ℕ) where
     abbrev byRow : List (Bool × ℕ)
     byRow = rowOrder isKnown row role (updateOf u)
 
-    in-turn : judgeBy isKnown row role t (updateOf u)
-        ≡ (if eqb (first byRow) 0 then first (placeOrder row (byte 0 u) (drop 1 u) t) else first byRow)
-    unfolding judgeBy
-    in-turn = first-more byRow (placeOrder row (byte 0 u) (drop 1 u) t) refl
+    in-turn : judgeFullBy 2 isKnown row role t (updateOf u)
+        ≡ (if eqb (first byRow) 0 then first (placesIn row (byte 0 u) (drop 1 u) t) else first byRow)
+    unfolding judgeFullBy
+    in-turn = first-more byRow (placesIn row (byte 0 u) (drop 1 u) t) refl
 
-    pub row-refused : {r : ℕ} → r ≡ first byRow → (r ≡ 0 → ⊥) → r ≡ judgeBy isKnown row role t (updateOf u)
+    pub row-refused : {r : ℕ} → r ≡ first byRow → (r ≡ 0 → ⊥) → r ≡ judgeFullBy 2 isKnown row role t (updateOf u)
     row-refused {r} q n = sym (in-turn ∙ (rw (← q, ne-eqb r 0 n)))
 
     -- of the type as it was read
     pub place-judged : {r : ℕ} (type : ℕ) → type ≡ byte 0 u → 0 ≡ first byRow
-        → r ≡ first (placeOrder row type (drop 1 u) t) → r ≡ judgeBy isKnown row role t (updateOf u)
+        → r ≡ first (placesIn row type (drop 1 u) t) → r ≡ judgeFullBy 2 isKnown row role t (updateOf u)
     place-judged type k q p = rw k at p ∙ sym (in-turn ∙ (rw (← q)))
 
 -- what is right of the type as it was read is right of the update's
@@ -57,13 +58,13 @@ place-justified u es v k j = rw k at j
 
 -- by the rows in force: whether the table is known there, and its row where it is; one that is not known is refused, whatever row is lent
 pub judged-by-rows : (rows : List Row) (role : ℕ) (t : Tables) (u : Update) {r : ℕ} {isKnown : Bool} {row : Row}
-    → r ≡ judgeBy isKnown row role t u → isKnown ≡ known (tableOf (u .entry)) rows → (isKnown ≡ true → row ≡ rowFor (tableOf (u .entry)) rows)
-    → r ≡ judge rows role t u
-unfolding judge judgeBy first
+    → r ≡ judgeFullBy 2 isKnown row role t u → isKnown ≡ known (tableOf (u .entry)) rows → (isKnown ≡ true → row ≡ rowFor (tableOf (u .entry)) rows)
+    → r ≡ judgeIn rows role t u
+unfolding judgeFull judgeFullBy first
 judged-by-rows rows role t u {r} {isKnown} {row} j e its = go isKnown e its j
   where
     go : (k : Bool) → k ≡ known (tableOf (u .entry)) rows → (k ≡ true → row ≡ rowFor (tableOf (u .entry)) rows)
-        → r ≡ judgeBy k row role t u
-        → r ≡ judgeBy (known (tableOf (u .entry)) rows) (rowFor (tableOf (u .entry)) rows) role t u
+        → r ≡ judgeFullBy 2 k row role t u
+        → r ≡ judgeFullBy 2 (known (tableOf (u .entry)) rows) (rowFor (tableOf (u .entry)) rows) role t u
     go true e its j = rw (← e, ← its refl) j
     go false e its j = rw (← e) j

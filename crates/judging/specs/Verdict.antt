@@ -10,7 +10,9 @@ use Rattle.rules.specs.Reason.{first}
 use Rattle.rules.specs.Frame.{Update, updateOf}
 use Rattle.rules.specs.Row.{Row, tableOrder}
 use Rattle.rules.specs.Key.{shortKey}
-use Rattle.rules.specs.Update.{isInsert, isModify, entryOrder, placeOrder, judge}
+use Rattle.rules.specs.Update as rules
+use Rattle.rules.specs.Update.{isInsert, isModify, entryOrder, placeOrder, Judge}
+use Rattle.rules.specs.Full.{fullOrder, judgeFull}
 use Rattle.store.specs.declared.Tables.{Tables}
 use Rattle.store.specs.declared.Found.{Found}
 use Rattle.store.specs.Store.{tablesIn, place, placeOf}
@@ -29,9 +31,14 @@ reasonOf Insert = 0
 reasonOf (Modify i) = 0
 reasonOf (Delete i) = 0
 
--- the reason that the rules give an update of 221 bytes, by the rows, the role and the tables
+-- How the code judges: as the rules do, and an INSERT for which the store is too short is refused with 2. No list of calls leaves a
+-- record in which it finds its table below its size and yet no room: there the two are the same (rules/proofs/Full: batch-full).
+abbrev pub judgeIn : List Row → ℕ → Judge
+judgeIn rows role = judgeFull 2 rows role
+
+-- the reason that an update of 221 bytes is given, by the rows, the role and the tables
 abbrev pub judged : List Row → ℕ → Tables → List ℕ → List ℕ → ℕ
-judged rows role tables store u = judge rows role (tablesIn tables store) (updateOf u)
+judged rows role tables store u = judgeIn rows role (tablesIn tables store) (updateOf u)
 
 -- A verdict on an update of a type with entry e, where es are stored, is right: a refusal has a reason, any other is for the update's
 -- type and names the place of its key.
@@ -48,11 +55,15 @@ Possible Insert tables = tables .count < 256
 Possible (Modify i) tables = i < tables .count
 Possible (Delete i) tables = i < tables .count
 
+-- what is asked of an update by what is stored: 20 to 22, and room for an INSERT
+abbrev pub placesIn : Row → ℕ → List ℕ → rules.Tables → List (Bool × ℕ)
+placesIn row type e t = placeOrder row type e t ++ fullOrder 2 type t
+
 -- A verdict on an update of a type, of a table that the row describes, is right of every entry e whose key was found so among es.
 abbrev pub PlaceJudged : Verdict → Found → Row → ℕ → List (List ℕ) → Type 0
 PlaceJudged v found row type es =
     (e : List ℕ) → placeOf found ≡ place (shortKey e) es
-    → (reasonOf v ≡ first (placeOrder row type e (record { entries = es }))) × Justified v type e es
+    → (reasonOf v ≡ first (placesIn row type e (record { entries = es }))) × Justified v type e es
 
 -- where an update of 221 bytes takes effect, its key in shortest form
 abbrev pub Shortened : Verdict → List ℕ → List ℕ → Type 0

@@ -9,7 +9,8 @@ ghost use Rattle.rules.specs.Reason.{first};
 ghost use Rattle.rules.specs.Frame.{keySize, rowSize, updateSize, updateOf};
 ghost use Rattle.rules.specs.Row as rules;
 ghost use Rattle.rules.specs.Key.{shortKey};
-ghost use Rattle.rules.specs.Update.{isInsert, judgeBy};
+ghost use Rattle.rules.specs.Update.{isInsert};
+ghost use Rattle.rules.specs.Full.{judgeFullBy};
 ghost use Rattle.rows.specs.Meaning.{rowOf, rowsSize, rowsIn};
 ghost use Rattle.store.specs.declared.Tables as stored;
 ghost use Rattle.store.specs.Store.{entriesIn, tablesIn, InStore, InRange, place, placeOf};
@@ -51,7 +52,7 @@ fn look_up(store: &[u8], tables: Tables, key: &[u8], short: &mut [u8]) -> Found
     store::find(store, tables, short)
 }
 
-// 20, 22 and 24 of an INSERT, by where its key was found.
+// 20 and 22 of an INSERT, by where its key was found.
 fn judge_insert(found: Found, row: &[u8], store: &[u8], tables: Tables) -> Verdict
     requires { ⌜ (length (now row) ≡ rowSize) × InStore tables (now store) ⌝ }
     ensures judged { λ r. ⌜ PlaceJudged r found (rowOf (now (row .entry))) 1 (entriesIn tables (now (store .entry))) ⌝ }
@@ -68,8 +69,9 @@ fn judge_insert(found: Found, row: &[u8], store: &[u8], tables: Tables) -> Verdi
             ) {
                 return Verdict::Refused(22);
             }
-            if tables.are_full() {
-                return Verdict::Refused(24);
+            if 256 <= tables.count {
+                // no list of calls leaves such a record; the store is too short for it
+                return Verdict::Refused(2);
             }
             Verdict::Insert
         }
@@ -125,7 +127,7 @@ fn judge_by(
 ) -> Verdict
     requires { ⌜ (length (now row) ≡ rowSize) × InStore tables (now store) × (length (now update) ≡ updateSize)
         × (length (now short) ≡ keySize) ⌝ }
-    ensures reason { λ r. ⌜ reasonOf r ≡ judgeBy known (rowOf (now (row .entry))) role (tablesIn tables (now (store .entry)))
+    ensures reason { λ r. ⌜ reasonOf r ≡ judgeFullBy 2 known (rowOf (now (row .entry))) role (tablesIn tables (now (store .entry)))
         (updateOf (now (update .entry))) ⌝ }
     ensures justified { λ r. ⌜ Justified r (byte 0 (now (update .entry))) (drop 1 (now (update .entry))) (entriesIn tables (now (store .entry))) ⌝ }
     ensures possible { λ r. ⌜ Possible r tables ⌝ }

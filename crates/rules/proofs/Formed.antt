@@ -61,7 +61,7 @@ parts-lengths (suc n) w l h =
     let d : length (drop w l) ≡ length l - w = length-drop w l in
     (simp length-take (omega arith), parts-lengths n w (drop w l) (omega arith))
 
-whole-updates : (ls : List (List ℕ)) → EveryLength 221 ls → Whole (map updateOf ls)
+pub whole-updates : (ls : List (List ℕ)) → EveryLength 221 ls → Whole (map updateOf ls)
 whole-updates [] h = tt
 whole-updates (l ∷ ls) h = (omega (arith, length-drop 1 l, h .0), whole-updates ls (h .1))
 

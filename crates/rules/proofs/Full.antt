@@ -24,7 +24,7 @@ use Rattle.rules.specs.Call.{State, Call, fresh, writeReason, readReason
 use Rattle.rules.specs.Call.{tableCommand, refusal, nextControl, nextTables, next, answer, reply, commandOf, run}
 use Rattle.rules.specs.Agreement.{commandsOf, replyAfter}
 use Rattle.rules.specs.Sound.{SoundTables, Sound}
-use Rattle.rules.specs.Full.{judgeFullBy, judgeFull, judge24, pair24, tableCommand24, next24, reply24, run24, after24, replyAfter24}
+use Rattle.rules.specs.Full.{fullOrder, judgeFullBy, judgeFull, judge24, pair24, tableCommand24, next24, reply24, run24, after24, replyAfter24}
 use Rattle.rules.specs.Full.{Unreached, NoFullStore, NeverFull}
 use Rattle.rules.proofs.Tests.{and-true, and-false, both-true}
 use Rattle.rules.proofs.Orders.{first-clear, first-avoids, first-more}
@@ -74,7 +74,7 @@ module _ (reason : ℕ) (rows : List Row) (role : ℕ) (allowed : rowsAllowed ro
       order = updateOrder (known id rows) row role t u
 
       last : List (Bool × ℕ)
-      last = (isInsert (u .type) && leb 256 (length (t .entries)), reason) ∷ []
+      last = fullOrder reason (u .type) t
 
       room : isInsert (u .type) ≡ true → first order ≡ 0 → length (t .entries) < 256
       room i z =

@@ -12,18 +12,21 @@ use Rattle.rules.specs.Reason.{first, pairs, codeIn}
 use Rattle.rules.specs.Frame.{Head, Update, TableCommand, WRITE, READ, Command, tooShort, malformed, onStreams, onPipeline, onTables}
 use Rattle.rules.specs.Row.{Row, known, rowFor}
 use Rattle.rules.specs.Key.{tableOf}
-use Rattle.rules.specs.Update.{Judge, isInsert, updateOrder, judge, eachAlone, batch}
+use Rattle.rules.specs.Update.{Tables, Judge, isInsert, updateOrder, judge, eachAlone, batch}
 use Rattle.rules.specs.Answer.{Reply, replyOf}
 use Rattle.rules.specs.Call.{Call, State, fresh, TableOutcome, writeBatch, read, batchOf, commandOf, next, reply, run}
 use Rattle.rules.specs.Agreement.{commandsOf, replyAfter}
 
 -- ---- judges that test for a full store
 
--- The order of an update with one condition more, at its end: INSERT while the store holds 256 entries. It is refused under a reason
--- that may be any: document 01 has 24, and the code has its own for a record that no list of calls leaves (`judging`).
+-- INSERT while the store holds 256 entries, refused under a reason that may be any. Document 01 has 24. The code, which must not write
+-- past the store whatever record it is handed, has 2 where no list of calls leaves the record (`judging`).
+abbrev pub fullOrder : ℕ → ℕ → Tables → List (Bool × ℕ)
+fullOrder reason type t = (isInsert type && leb 256 (length (t .entries)), reason) ∷ []
+
+-- it comes last in the order of an update
 unfoldable pub judgeFullBy : ℕ → Bool → Row → ℕ → Judge
-judgeFullBy reason isKnown row role t u =
-    first (updateOrder isKnown row role t u ++ (isInsert (u .type) && leb 256 (length (t .entries)), reason) ∷ [])
+judgeFullBy reason isKnown row role t u = first (updateOrder isKnown row role t u ++ fullOrder reason (u .type) t)
 
 unfoldable pub judgeFull : ℕ → List Row → ℕ → Judge
 judgeFull reason rows role t u = judgeFullBy reason (known (tableOf (u .entry)) rows) (rowFor (tableOf (u .entry)) rows) role t u

@@ -38,13 +38,6 @@ impl Tables {
             count: self.count - 1,
         }
     }
-
-    // 24: whether there is no room for one more entry.
-    pub fn are_full(self) -> bool
-        ensures { λ r. ⌜ ((store : List ℕ) → r ≡ leb 256 (length (entriesIn self store))) ⌝ }
-    {
-        256 <= self.count
-    }
 }
 
 // Where the entry of a key is.

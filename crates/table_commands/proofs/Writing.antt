@@ -21,7 +21,7 @@ use Rattle.rules.proofs.Sizes.{reasons-count}
 use Rattle.buffers.specs.Splice.{splice}
 use Rattle.batches.specs.declared.Written.{Written}
 use Rattle.store.specs.Store.{tablesIn}
-use Rattle.batches.specs.Batch.{updatesIn, ruled, BatchApplied, StoreLeft, Pairs}
+use Rattle.batches.specs.Batch.{updatesIn, ruled, BatchApplied, StoreLeft, Pairs, SoundUnder}
 use Rattle.answers.proofs.AnswerBytes.{replies, fills, records-then-head}
 use Rattle.calls.specs.Contract.{Correct}
 use Rattle.memory.specs.declared.Agent.{Agent}
@@ -78,8 +78,8 @@ module _ (a : Agent) (h : Head) (atomicity : ℕ) where
   -- a batch was taken, its pairs from byte 4 on, and then the head was written
   pub batch-written : (n : ℕ) (f store store′ d p out : List ℕ) (reason : ℕ) (w : Written) → 4 ≤ length d
       → writeReason (controlOf a) h atomicity ≡ 0
-      → StoreLeft (ruled atomicity (controlOf a .rows) (h .role) n (take (length f - 29) (drop 29 f))) (a .tables) store store′ w
-      → Pairs (ruled atomicity (controlOf a .rows) (h .role) n (take (length f - 29) (drop 29 f))) (a .tables) store
+      → StoreLeft (SoundUnder (controlOf a .rows) (a .tables) store) (ruled atomicity (controlOf a .rows) (h .role) n (take (length f - 29) (drop 29 f))) (a .tables) store store′ w
+      → Pairs (SoundUnder (controlOf a .rows) (a .tables) store) (ruled atomicity (controlOf a .rows) (h .role) n (take (length f - 29) (drop 29 f))) (a .tables) store
       (take (length d - 4) (drop 4 d)) p
       → length p ≡ length (take (length d - 4) (drop 4 d)) → reason ≡ (if w .failed then 23 else 0)
       → out ≡ splice (putMid 4 (length d - 4) d p) 0 (reason ∷ codeOf reason ∷ bytesOf 2 n)
@@ -88,10 +88,10 @@ module _ (a : Agent) (h : Head) (atomicity : ℕ) where
       flat-handles a (onTables (WRITE h atomicity (updatesIn n (drop 29 f)))) store d (λ k.
       let lent : take (length f - 29) (drop 29 f) ≡ drop 29 f = rest-all 29 f in
       was-written (updatesIn n (drop 29 f)) store store′ d out reason w e
-      (subst (λ (l : List ℕ). BatchApplied (batched (updatesIn n l) store) store store′ w) lent (left (k .tables .distinct)))
+      (subst (λ (l : List ℕ). BatchApplied (batched (updatesIn n l) store) store store′ w) lent (left (k .rows, k .tables)))
       told
       (records-then-head reason n (map pairOf (batched (updatesIn n (drop 29 f)) store .reasons)) d p out room
       (pairs-count n (drop 29 f) store) same
-      (pairs (k .tables .distinct)
+      (pairs (k .rows, k .tables)
       ∙ ap (λ (l : List ℕ). splice (take (length d - 4) (drop 4 d)) 0 (concat (map pairOf (batched (updatesIn n l) store .reasons)))) lent)
       o))

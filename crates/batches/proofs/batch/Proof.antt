@@ -1,5 +1,8 @@
--- Right because the log has room for the notes that the atomicity asks for. Assumes nothing.
+-- Right because the log has room for the notes that the atomicity asks for, and sound tables are judged as the rules do. Assumes nothing.
 use native.Mathlib.Omega.{arith}
+use denote.Ref.{now}
+use Rattle.rows.specs.Meaning.{rowsIn}
+use Rattle.batches.proofs.ByRules.{left-by-rules, pairs-by-rules}
 use borrow.Author.Needs.{needs}
 use Rattle.batches.proofs.batch.Statement.{statement}
 use Rattle.batches.proofs.batch.Tie as tie
@@ -19,7 +22,14 @@ same-length-2 : tie.Need-same-length-2
 same-length-2 c = c .before .before .before .before .before .take .kept .1 .1 .1 .1 .1 .1 .1 .1 .1 .0
 
 returns : tie.Need-returns
-returns c = c .before .before .before .before .before .take .ensures
+returns c =
+    let t = c .before .before .before .before .before in
+    let s = t .before .before .before .before .before .before .before .before .before in
+    let a = s .args in
+    let e = t .take .ensures in (
+      left-by-rules (a .atomicity) (rowsIn (a .t) (now (a .rows))) (a .role) (a .n) (now (a .updates)) (s .pre .3) (a .held) (now (a .store)) (e .0),
+      pairs-by-rules (a .atomicity) (rowsIn (a .t) (now (a .rows))) (a .role) (a .n) (now (a .updates)) (s .pre .3) (a .held) (now (a .store)) _ (e .1),
+    )
 
 slice-aggregate-take-2 : tie.Need-slice-aggregate-take-2
 slice-aggregate-take-2 c = search needs
@@ -37,9 +47,14 @@ same-length-4 c = c .before .before .before .before .before .take2 .kept .1 .1 .
 
 returns-2 : tie.Need-returns-2
 returns-2 c =
-    let e = c .before .before .before .before .before .take2 .ensures in
-    let one = c .before .before .before .before .before .before .before .before .before .before .if1 .left in
-    (λ t. rw one (e .0 t), λ t. rw one (e .1 t))
+    let t = c .before .before .before .before .before in
+    let i = t .before .before .before .before .before in
+    let s = i .before .before .before .before .before in
+    let a = s .args in
+    let e = t .take2 .ensures in (
+      rw (i .if1 .left) (left-by-rules 1 (rowsIn (a .t) (now (a .rows))) (a .role) (a .n) (now (a .updates)) (s .pre .3) (a .held) (now (a .store)) (e .0)),
+      rw (i .if1 .left) (pairs-by-rules 1 (rowsIn (a .t) (now (a .rows))) (a .role) (a .n) (now (a .updates)) (s .pre .3) (a .held) (now (a .store)) _ (e .1)),
+    )
 
 slice-aggregate-take-3 : tie.Need-slice-aggregate-take-3
 slice-aggregate-take-3 c = search needs
@@ -57,9 +72,14 @@ same-length-6 c = c .before .before .before .before .before .take3 .kept .1 .1 .
 
 returns-3 : tie.Need-returns-3
 returns-3 c =
-    let e = c .before .before .before .before .before .take3 .ensures in
-    let one = c .before .before .before .before .before .before .before .before .before .before .if1 .left in
-    (λ t. rw one (e .0 t), λ t. rw one (e .1 t))
+    let t = c .before .before .before .before .before in
+    let i = t .before .before .before .before .before in
+    let s = i .before .before .before .before .before in
+    let a = s .args in
+    let e = t .take3 .ensures in (
+      rw (i .if1 .left) (left-by-rules 1 (rowsIn (a .t) (now (a .rows))) (a .role) (a .n) (now (a .updates)) (s .pre .3) (a .held) (now (a .store)) (e .0)),
+      rw (i .if1 .left) (pairs-by-rules 1 (rowsIn (a .t) (now (a .rows))) (a .role) (a .n) (now (a .updates)) (s .pre .3) (a .held) (now (a .store)) _ (e .1)),
+    )
 
 pub batch-spec : {M : Type 1} → statement M
 batch-spec =

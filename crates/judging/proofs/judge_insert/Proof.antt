@@ -1,16 +1,16 @@
 -- Right because the tests are made in the order of the reasons. Assumes nothing.
 use native.Mathlib.Omega.{arith}
 use mathlib.Core.Path.{_≡_, refl, sym, ap, _∙_}
-use mathlib.Core.Bool.{false}
+use mathlib.Core.Bool.{true, false}
 use lib.Dec.{leb}
 use lib.ListN.{length}
 use denote.Ref.{now}
-use borrow.Author.Tests.{leb-false}
+use borrow.Author.Tests.{le-leb, lt-leb}
 use Rattle.rules.proofs.Formed.{parts-count}
 use Rattle.rows.specs.Meaning.{rowOf}
 use Rattle.rules.specs.Update.{held}
 use Rattle.store.specs.Store.{entriesIn, tablesIn, placeOf}
-use Rattle.judging.proofs.Place.{insert-present, insert-table-full, insert-store-full, insert-absent}
+use Rattle.judging.proofs.Place.{insert-present, insert-table-full, insert-no-room, insert-absent}
 use borrow.Author.Needs.{needs}
 use Rattle.judging.proofs.judge_insert.Statement.{statement}
 use Rattle.judging.proofs.judge_insert.Tie as tie
@@ -50,18 +50,17 @@ returns c =
       tt,
     )
 
-are-full-requires : tie.Need-are-full-requires
-are-full-requires c κs = search needs
-
 returns-2 : tie.Need-returns-2
 returns-2 c =
     let g = c .before .before in
     let h = g .before in
     let a = h .before .before .before .before .before .before .before .args in
+    let es = entriesIn (a .tables) (now (a .store)) in
     let none = ap placeOf (h .before .before .before .enum-told2 .given .1) in
-    let full = sym (c .before .are-full .ensures (now (a .store))) ∙ c .if2 .taken in (
+    let m : length es ≡ a .tables .count = parts-count (a .tables .count) 220 (now (a .store)) in
+    let full : leb 256 (length es) ≡ true = le-leb 256 (length es) (omega (arith, c .if2 .taken)) in (
       λ e p. (
-        sym (insert-store-full (rowOf (now (a .row))) e _ (sym p ∙ none) (sym (counted h) ∙ g .if1 .left) full),
+        sym (insert-no-room (rowOf (now (a .row))) e es (sym p ∙ none) (sym (counted h) ∙ g .if1 .left) full),
         omega arith,
       ),
       tt,
@@ -80,11 +79,10 @@ returns-4 c =
     let a = h .before .before .before .before .before .before .before .args in
     let es = entriesIn (a .tables) (now (a .store)) in
     let none = ap placeOf (h .before .before .before .enum-told2 .given .1) in
-    let more : leb 256 (length es) ≡ false = sym (c .before .are-full .ensures (now (a .store))) ∙ c .if2 .left in
-    let few = leb-false 256 (length es) more in
-    let m : length es ≡ a .tables .count = parts-count (a .tables .count) 220 (now (a .store)) in (
+    let m : length es ≡ a .tables .count = parts-count (a .tables .count) 220 (now (a .store)) in
+    let more : leb 256 (length es) ≡ false = lt-leb 256 (length es) (omega (arith, c .if2 .left)) in (
       λ e p. (sym (insert-absent (rowOf (now (a .row))) e es (sym p ∙ none) (sym (counted h) ∙ g .if1 .left) more), refl),
-      omega arith,
+      omega (arith, c .if2 .left),
     )
 
 pub judge-insert-spec : {M : Type 1} → statement M
@@ -97,7 +95,6 @@ judge-insert-spec =
     integer-requires-2
     holds-requires
     returns
-    are-full-requires
     returns-2
     returns-3
     returns-4)
