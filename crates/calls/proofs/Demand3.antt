@@ -8,7 +8,7 @@ use mathlib.Core.Logic.{_⊎_, _↔_}
 use mathlib.Core.List.{List, [], _∷_, _++_}
 use lib.ListN.{length, take, drop, length-append, length-drop}
 use lib.Seq.{take-append-le, drop-append-le}
-use Rattle.rules.specs.Bytes.{if_then_else_, Pointwise, int, bytesOf, concat}
+use Rattle.rules.specs.Bytes.{if_then_else_, Pointwise, byte, int, bytesOf, concat}
 use Rattle.rules.specs.Reason.{codeOf, pairs}
 use Rattle.rules.specs.Frame.{Head, Update, Query, Command, tooShort, WRITE, READ, onTables}
 use Rattle.rules.specs.Answer.{Reply, answerBytes, replyOf}
@@ -16,6 +16,7 @@ use Rattle.rules.specs.Call.{Call, State, fresh, accepted, refusal, plain, answ
 use Rattle.rules.specs.LookBack.{History, present, stateSeen, tookEffect, pairsSeen, someFails, readSeen, answerSeen, replySeen}
 use Rattle.rules.specs.Agreement.{commandsOf, replyAfter, historyOf, pairAt}
 use Rattle.rules.specs.Authority.{eventsOf, Gives, Held}
+use Rattle.rules.specs.Full.{replyAfter24}
 use Rattle.rules.specs.Sound.{Sound, EveryStored}
 use Rattle.rules.proofs.Formed.{call-formed}
 use Rattle.rules.proofs.Sound.{fresh-agent, next-sound, sound}
@@ -23,6 +24,7 @@ use Rattle.rules.proofs.Sizes.{answer-sized, count-read, write-count}
 use Rattle.rules.proofs.Replies.{written-whole}
 use Rattle.rules.proofs.PairsAndEffects.{pairs-length}
 use Rattle.rules.proofs.LookBack.{fresh-shows, agreement}
+use Rattle.rules.proofs.Full.{never-full}
 use Rattle.rules.proofs.Deletes.{key-alone}
 use Rattle.rules.proofs.Primary.{authority}
 use Rattle.rules.proofs.Presence.{presence}
@@ -171,6 +173,27 @@ module _ {A : Type 0} (L : Layout A) (device : ℕ) (start : Memory A) (f : Fres
         ap (int 2 2) (replied L here .1 ∙ ap (λ (b : List ℕ). b ++ drop (length b) (w .input .buffer)) (written-whole s c n))
         ∙ count-read (answer s c) _ (answer-sized s c (call-formed room (callOf (w .input))) (sound room device calls) .1)
 
+    -- a pair for each update where a WRITE is accepted, and none where it is refused
+    module _ (h : Head) (atomicity : ℕ) (us : List Update) (e : c ≡ onTables (WRITE h atomicity us)) where
+      number : int 2 2 (w .result .answer) ≡ (if accepted (stateSeen p) c then length us else 0)
+      unfolding historyOf
+      number =
+          counts (write c e) ∙ ap (λ (x : Command). length (answer s x .records)) e ∙ write-count s h atomicity us
+          ∙ ap₂ (λ (t : State) (x : Command). if accepted t x then length us else 0) (fresh-shows device (commandsOf room calls)) (sym e)
+        where
+          write : (x : Command) → x ≡ onTables (WRITE h atomicity us) → x ≡ tooShort → ⊥
+          write x q z = let w : _≡_ {A = ℕ} 0 1 = cc in omega arith
+
+      -- the i-th pair of the answer is that of the rules
+      paired : (i : ℕ) → i < length us → accepted (stateSeen p) c ≡ true → pairAt i (w .result .answer) ≡ pairAt i (reply s c .written)
+      paired i l a =
+          let n : length (replySeen p c .written) ≡ 4 + 2 * length us =
+          ap (λ (x : Command). length (replySeen p x .written)) e
+          ∙ write-length p h atomicity us (subst (λ (x : Command). accepted (stateSeen p) x ≡ true) e a) in
+          ap (pairAt i) is-filled
+          ∙ pair-in i (replySeen p c .written) _ (omega arith)
+          ∙ ap (λ (r : Reply). pairAt i (r .written)) (sym agrees)
+
     takes-effect : (h : Head) (atomicity : ℕ) (earlier : List Update) (u : Update) (later : List Update)
         → c ≡ onTables (WRITE h atomicity (earlier ++ u ∷ later))
         → ((length earlier < int 2 2 (w .result .answer)) × (pairAt (length earlier) (w .result .answer) ≡ 0 ∷ 0 ∷ []))
@@ -184,32 +207,46 @@ module _ {A : Type 0} (L : Layout A) (device : ℕ) (start : Memory A) (f : Fres
         T : Bool
         T = tookEffect p (h .role) atomicity earlier u later
 
-        write : (x : Command) → x ≡ onTables (WRITE h atomicity us) → x ≡ tooShort → ⊥
-        write x q z = let w : _≡_ {A = ℕ} 0 1 = cc in omega arith
-
-        -- a pair for each update where the WRITE is accepted, and none where it is refused
-        number : int 2 2 (w .result .answer) ≡ (if accepted (stateSeen p) c then length us else 0)
-        number =
-            counts (write c e) ∙ ap (λ (x : Command). length (answer s x .records)) e ∙ write-count s h atomicity us
-            ∙ ap₂ (λ (t : State) (x : Command). if accepted t x then length us else 0) (fresh-shows device (commandsOf room calls)) (sym e)
-
         go : (b : Bool) → accepted (stateSeen p) c ≡ b
             → ((length earlier < int 2 2 (w .result .answer)) × (pairAt (length earlier) (w .result .answer) ≡ 0 ∷ 0 ∷ [])) ↔ (b && T ≡ true)
         go true a =
-            let n : length (replySeen p c .written) ≡ 4 + 2 * length us =
-            ap (λ (x : Command). length (replySeen p x .written)) e
-            ∙ write-length p h atomicity us (subst (λ (x : Command). accepted (stateSeen p) x ≡ true) e a) in
             let k : length us ≡ length earlier + suc (length later) = length-append earlier (u ∷ later) in
-            let m : int 2 2 (w .result .answer) ≡ length us = number ∙ (rw a) in
-            let b : pairAt (length earlier) (w .result .answer) ≡ pairAt (length earlier) (reply s c .written) =
-            ap (pairAt (length earlier)) is-filled
-            ∙ pair-in (length earlier) (replySeen p c .written) _ (omega arith)
-            ∙ ap (λ (r : Reply). pairAt (length earlier) (r .written)) (sym agrees) in
+            let m : int 2 2 (w .result .answer) ≡ length us = number h atomicity us e ∙ (rw a) in
+            let b = paired h atomicity us e (length earlier) (omega arith) a in
             let i = agreement room device calls (callOf (w .input)) .updates h atomicity earlier u later e a in
             (λ z. i .0 (sym b ∙ z .1), λ t. (omega arith, b ∙ i .1 t))
         go false a =
-            let m : int 2 2 (w .result .answer) ≡ 0 = number ∙ (rw a) in
+            let m : int 2 2 (w .result .answer) ≡ 0 = number h atomicity us e ∙ (rw a) in
             (λ z. absurd (let l = z .0 in omega (arith, l)), λ t. absurd (false≢true t))
+
+    -- beside the rules that have 24
+    as-with-24 :
+        let old = replyAfter24 room device calls (callOf (w .input)) in
+        (w .result .reason ≡ old .returned) × (w .result .answer ≡ old .written ++ drop (length (old .written)) (w .input .buffer))
+    unfolding replyAfter
+    as-with-24 =
+        let same = sym (never-full room device calls (callOf (w .input)) .replies) in (
+          replied L here .0 ∙ ap (λ (r : Reply). r .returned) same,
+          replied L here .1 ∙ ap (λ (r : Reply). r .written ++ drop (length (r .written)) (w .input .buffer)) same,
+        )
+
+    never-returned : w .result .reason ≡ 24 → ⊥
+    unfolding replyAfter
+    never-returned e = never-full room device calls (callOf (w .input)) .no-head (sym (replied L here .0) ∙ e)
+
+    never-paired : (h : Head) (atomicity : ℕ) (us : List Update) → c ≡ onTables (WRITE h atomicity us)
+        → (i : ℕ) → i < int 2 2 (w .result .answer) → byte 0 (pairAt i (w .result .answer)) ≡ 24 → ⊥
+    unfolding replyAfter historyOf
+    never-paired h atomicity us e i l q = go (accepted (stateSeen p) c) refl
+      where
+        go : (b : Bool) → accepted (stateSeen p) c ≡ b → ⊥
+        go true a =
+            let m : int 2 2 (w .result .answer) ≡ length us = number h atomicity us e ∙ (rw a) in
+            let few : i < length us = omega arith in
+            let ruled : accepted s c ≡ true = ap (λ (t : State). accepted t c) (fresh-shows device (commandsOf room calls)) ∙ a in
+            never-full room device calls (callOf (w .input)) .no-pair h atomicity us e ruled i few
+            (ap (byte 0) (sym (paired h atomicity us e i few a)) ∙ q)
+        go false a = let m : int 2 2 (w .result .answer) ≡ 0 = number h atomicity us e ∙ (rw a) in omega arith
 
   -- a READ in its stead and after it
   reads-alike : (q : Query) → reply s (onTables (READ q)) ≡ reply (next s c) (onTables (READ q)) → (x y : Step A)
@@ -251,6 +288,9 @@ module _ {A : Type 0} (L : Layout A) where
         (authority room′ device (callsOf (p .before)) (callOf (p .call .input)) .unchanged n q);
     rolled-back = λ p h us e r q. reads-alike L device start f (p .before) (p .call) q
         (rolls-back L device start f (p .before) (p .call) (p .after) (there p) h us e r q);
+    full-store = λ p. as-with-24 L device start f (p .before) (p .call) (p .after) (there p);
+    not-returned = λ p. never-returned L device start f (p .before) (p .call) (p .after) (there p);
+    not-paired = λ p. never-paired L device start f (p .before) (p .call) (p .after) (there p);
   }
     where
       room′ : ℕ

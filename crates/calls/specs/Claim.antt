@@ -11,7 +11,7 @@ use mathlib.Core.Logic.{_⊎_, _↔_}
 use mathlib.Core.List.{List, [], _∷_, _++_, map}
 use Prim.Native.Nat.{ℕ, _+_, _<_}
 use lib.ListN.{length, drop}
-use Rattle.rules.specs.Bytes.{Pointwise, int, bytesOf, concat}
+use Rattle.rules.specs.Bytes.{Pointwise, byte, int, bytesOf, concat}
 use Rattle.rules.specs.Frame.{Head, Update, Query, Command, WRITE, READ, onTables}
 use Rattle.rules.specs.Call.{Call, State, accepted, next}
 use Rattle.rules.specs.LookBack.{History, present, stateSeen, tookEffect, readSeen, replySeen}
@@ -20,6 +20,7 @@ use Rattle.rules.specs.Presence.{Describes}
 use Rattle.rules.specs.Authority.{Event, eventsOf, Gives, Held}
 use Rattle.rules.specs.Sound.{Sound, EveryStored}
 use Rattle.rules.specs.Deletes.{AlikeCommands}
+use Rattle.rules.specs.Full.{replyAfter24}
 use Rattle.calls.specs.Contract.{Memory, Input, Result, callOf, requested, Layout, Represents, Fresh, Contract}
 
 -- ---- lists of calls
@@ -115,6 +116,17 @@ module _ {A : Type 0} (L : Layout A) (device : ℕ) (start : Memory A) (ws : Lis
     -- 6. A WRITE with atomicity 1 that was answered 23 changes no entry.
     pub rolled-back : (p : Place ws) (h : Head) (us : List Update) → command p ≡ onTables (WRITE h 1 us) → p .call .result .reason ≡ 23
         → ChangesNoEntry p
+    -- 7. It returns and writes what an agent does that has the rules of document 01, where 24 refuses an INSERT into a full store
+    -- (document 02, request Five: "Answers to all lists are those given before"). The number is free: no call returns it, and no pair
+    -- that the answer of a WRITE counts has it.
+    pub full-store : (p : Place ws) →
+        let old = replyAfter24 (length (start .store)) device (callsOf (p .before)) (callOf (p .call .input)) in
+        (p .call .result .reason ≡ old .returned)
+        × (p .call .result .answer ≡ old .written ++ drop (length (old .written)) (p .call .input .buffer))
+    pub not-returned : (p : Place ws) → p .call .result .reason ≡ 24 → ⊥
+    pub not-paired : (p : Place ws) (h : Head) (atomicity : ℕ) (us : List Update) → command p ≡ onTables (WRITE h atomicity us) →
+        let answer = p .call .result .answer in
+        (i : ℕ) → i < int 2 2 answer → byte 0 (pairAt i answer) ≡ 24 → ⊥
 
 -- ---- the claim
 

@@ -1,6 +1,6 @@
 -- No list of calls reaches 24: what is stored is within the sizes of the rows, these add to 256 at most, and so an INSERT that passes 22
 -- finds fewer than 256 entries. Judges that agree wherever the tables are sound leave and answer the same. Assumes nothing.
-use Prim.Native.Nat.{ℕ, zero, suc, _≤_, _<_}
+use Prim.Native.Nat.{ℕ, zero, suc, _+_, _*_, _<_}
 use mathlib.Core.Path.{_≡_, refl, sym, _∙_, ap, subst}
 use mathlib.Core.Bool.{Bool, true, false, _&&_, not}
 use mathlib.Core.Logic.{_⊎_, inl, inr, ⊎-elim}
@@ -8,9 +8,9 @@ use mathlib.Core.Option.{Option, none, some}
 use mathlib.Core.List.{List, [], _∷_, _++_, map}
 use native.Mathlib.Omega.{arith}
 use lib.Dec.{eqb, leb}
-use lib.ListN.{length, set, replicate}
-use borrow.Author.Tests.{eqb-true, ne-eqb, leb-false, lt-leb, not-false, not-true}
-use Rattle.rules.specs.Bytes.{if_then_else_, every}
+use lib.ListN.{length, take, drop, set, replicate}
+use borrow.Author.Tests.{eqb-true, eqb-false, ne-eqb, leb-false, lt-leb, not-false, not-true}
+use Rattle.rules.specs.Bytes.{if_then_else_, byte, every, concat, bytesOf}
 use Rattle.rules.specs.Reason.{first, codeOf}
 use Rattle.rules.specs.Frame.{Head, Update, Command, tooShort, malformed, OPEN, CLOSE, ARBITRATE}
 use Rattle.rules.specs.Frame.{CONFIGURE, WRITE, READ, onStreams, onPipeline, onTables}
@@ -19,10 +19,10 @@ use Rattle.rules.specs.Row.{Row, rowsAllowed, known, rowFor}
 use Rattle.rules.specs.Key.{tableOf}
 use Rattle.rules.specs.Update.{Tables, Judge, isInsert, held, updateOrder, judgeBy, judge, apply, Batch}
 use Rattle.rules.specs.Update.{eachAlone, oneFurther, failure, unlessFailed, allOrNone, batch}
-use Rattle.rules.specs.Answer.{Answer, replyOf}
+use Rattle.rules.specs.Answer.{Answer, answerBytes, replyOf}
 use Rattle.rules.specs.Call.{State, Call, fresh, writeReason, readReason, headReason, plain, pairOf, TableOutcome, batchOf, writeBatch, write}
-use Rattle.rules.specs.Call.{tableCommand, refusal, nextControl, nextTables, next, answer, reply, commandOf, run}
-use Rattle.rules.specs.Agreement.{commandsOf, replyAfter}
+use Rattle.rules.specs.Call.{tableCommand, refusal, accepted, nextControl, nextTables, next, answer, reply, commandOf, run}
+use Rattle.rules.specs.Agreement.{commandsOf, replyAfter, pairAt}
 use Rattle.rules.specs.Sound.{SoundTables, Sound}
 use Rattle.rules.specs.Full.{fullOrder, judgeFullBy, judgeFull, judge24, pair24, tableCommand24, next24, reply24, run24, after24, replyAfter24}
 use Rattle.rules.specs.Full.{Unreached, NoFullStore, NeverFull}
@@ -33,6 +33,7 @@ use Rattle.rules.proofs.Rollback.{eqb-sym}
 use Rattle.rules.proofs.Counting.{sizes-fit, room-left}
 use Rattle.rules.proofs.Tables.{row-table, apply-sound, alone-sound}
 use Rattle.rules.proofs.Sound.{next-sound, sound, fresh-agent}
+use Rattle.rules.proofs.Sizes.{reasons-count}
 use Rattle.rules.proofs.LookBack.{at-most-19}
 
 -- ---- two judges that agree where the tables are sound
@@ -157,6 +158,45 @@ pairs-same (r ∷ reasons) h =
     let q = and-true (other r) (every other reasons) h in
     rw (eqb-sym 24 r, not-true (eqb r 24) (q .0), pairs-same reasons (q .1)) refl
 
+-- and the pairs that are written have other reasons
+other-pair : (reasons : List ℕ) (i : ℕ) → i < length reasons → every other reasons ≡ true
+    → byte 0 (take 2 (drop (2 * i) (concat (map pairOf reasons)))) ≡ 24 → ⊥
+other-pair [] i l h e = omega arith
+other-pair (r ∷ reasons) zero l h e =
+    eqb-false r 24 (not-true (eqb r 24) (and-true (other r) (every other reasons) h .0)) e
+other-pair (r ∷ reasons) (suc i) l h e =
+    let k : 2 * suc i ≡ suc (suc (2 * i)) = omega arith in
+    other-pair reasons i (omega arith) (and-true (other r) (every other reasons) h .1) (rw k at e)
+
+-- after the head of an answer
+pair-after-head : (i reason : ℕ) (records : List (List ℕ))
+    → pairAt i (answerBytes (record { reason = reason; records = records })) ≡ take 2 (drop (2 * i) (concat records))
+unfolding pairAt answerBytes bytesOf
+pair-after-head i reason records =
+    let k : 4 + 2 * i ≡ suc (suc (suc (suc (2 * i)))) = omega arith in
+    rw k refl
+
+pair-not-24 : (s : State) (h : Head) (atomicity : ℕ) (us : List Update) → accepted s (onTables (WRITE h atomicity us)) ≡ true
+    → (i : ℕ) → i < length us → byte 0 (pairAt i (reply s (onTables (WRITE h atomicity us)) .written)) ≡ 24 → ⊥
+unfolding reply replyOf answer refusal
+pair-not-24 s h atomicity us a i l e = go (every (eqb 0) reasons) (rw a at e)
+  where
+    j : Judge
+    j = judge (s .control .rows) (h .role)
+
+    reasons : List ℕ
+    reasons = batch atomicity j (s .tables) us .reasons
+
+    written : (reason : ℕ) → byte 0 (pairAt i (answerBytes (record { reason = reason; records = map pairOf reasons }))) ≡ 24 → ⊥
+    written reason q =
+        other-pair reasons i (omega (arith, reasons-count atomicity (s .control .rows) (h .role) (s .tables) us))
+        (batch-other j (not-24 (s .control .rows) (h .role)) atomicity (s .tables) us)
+        (ap (byte 0) (sym (pair-after-head i reason (map pairOf reasons))) ∙ q)
+
+    go : (b : Bool) → byte 0 (pairAt i (replyOf (record { reason = if b then 0 else 23; records = map pairOf reasons }) .written)) ≡ 24 → ⊥
+    go true q = written 0 q
+    go false q = written 23 q
+
 -- no call returns it: its own reason, up to 19, or 23
 own-or-23 : (r : ℕ) (a : Answer) → (a .reason ≡ 0) ⊎ (a .reason ≡ 23) → (b : Bool) → eqb r 0 ≡ b
     → ((if b then a else plain r) .reason ≡ r) ⊎ ((if b then a else plain r) .reason ≡ 23)
@@ -242,7 +282,7 @@ never-full room device before c = record {
   replies = ap (λ (x : State). reply24 x (commandOf room c)) state ∙ reply-same s (commandOf room c) (call-formed room c) ok;
   state = state;
   no-head = not-returned s (commandOf room c);
-  no-pair = λ h atomicity us. batch-other (judge (s .control .rows) (h .role)) (not-24 (s .control .rows) (h .role)) atomicity (s .tables) us;
+  no-pair = no-pair;
 }
   where
     s : State
@@ -253,3 +293,10 @@ never-full room device before c = record {
 
     state : after24 room device before ≡ s
     state = run-same (fresh device) (commandsOf room before) (calls-formed room before) (fresh-agent device)
+
+    no-pair : (h : Head) (atomicity : ℕ) (us : List Update) → commandOf room c ≡ onTables (WRITE h atomicity us)
+        → accepted s (commandOf room c) ≡ true → (i : ℕ) → i < length us
+        → byte 0 (pairAt i (reply s (commandOf room c) .written)) ≡ 24 → ⊥
+    no-pair h atomicity us e a i l q =
+        pair-not-24 s h atomicity us (subst (λ (x : Command). accepted s x ≡ true) e a) i l
+        (ap (λ (x : Command). byte 0 (pairAt i (reply s x .written))) (sym e) ∙ q)

@@ -2,20 +2,20 @@
 -- from a fresh agent reaches 24, then remove the number and its test. Answers to all lists are those given before."). The rules of
 -- document 01 that still have 24, and what is claimed of them beside the rules without it. Assumes nothing.
 use mathlib.Core.Path.{_≡_}
-use mathlib.Core.Bool.{Bool, true, _&&_, not}
+use mathlib.Core.Bool.{Bool, true, _&&_}
 use mathlib.Core.List.{List, [], _∷_, _++_}
-use Prim.Native.Nat.{ℕ}
-use lib.Dec.{eqb, leb}
+use Prim.Native.Nat.{ℕ, _<_}
+use lib.Dec.{leb}
 use lib.ListN.{length}
-use Rattle.rules.specs.Bytes.{every}
+use Rattle.rules.specs.Bytes.{byte}
 use Rattle.rules.specs.Reason.{first, pairs, codeIn}
 use Rattle.rules.specs.Frame.{Head, Update, TableCommand, WRITE, READ, Command, tooShort, malformed, onStreams, onPipeline, onTables}
 use Rattle.rules.specs.Row.{Row, known, rowFor}
 use Rattle.rules.specs.Key.{tableOf}
 use Rattle.rules.specs.Update.{Tables, Judge, isInsert, updateOrder, judge, eachAlone, batch}
 use Rattle.rules.specs.Answer.{Reply, replyOf}
-use Rattle.rules.specs.Call.{Call, State, fresh, TableOutcome, writeBatch, read, batchOf, commandOf, next, reply, run}
-use Rattle.rules.specs.Agreement.{commandsOf, replyAfter}
+use Rattle.rules.specs.Call.{Call, State, fresh, TableOutcome, writeBatch, read, accepted, commandOf, next, reply, run}
+use Rattle.rules.specs.Agreement.{commandsOf, replyAfter, pairAt}
 
 -- ---- judges that test for a full store
 
@@ -89,10 +89,11 @@ pub record NoFullStore (room device : ℕ) (before : List Call) (c : Call) : Typ
   -- so the call returns and writes the same, and the agent after the calls is the same:
   pub replies : replyAfter24 room device before c ≡ replyAfter room device before c
   pub state : after24 room device before ≡ run (fresh device) (commandsOf room before)
-  -- The number is free: no call is answered with it, and no update.
+  -- The number is free: no call returns it, and no pair of an accepted WRITE has it.
   pub no-head : replyAfter room device before c .returned ≡ 24 → ⊥
-  pub no-pair : (h : Head) (atomicity : ℕ) (us : List Update)
-      → every (λ (reason : ℕ). not (eqb reason 24)) (batchOf (run (fresh device) (commandsOf room before)) h atomicity us .reasons) ≡ true
+  pub no-pair : (h : Head) (atomicity : ℕ) (us : List Update) → commandOf room c ≡ onTables (WRITE h atomicity us)
+      → accepted (run (fresh device) (commandsOf room before)) (commandOf room c) ≡ true → (i : ℕ) → i < length us
+      → byte 0 (pairAt i (replyAfter room device before c .written)) ≡ 24 → ⊥
 
 -- after every list of calls, refused ones included
 abbrev pub NeverFull : Type 0
