@@ -10,7 +10,7 @@ use mathlib.Core.List.{List, [], _∷_, _++_, append-assoc, map}
 use lib.Dec.{eqb}
 use lib.ListN.{length, take, drop, getD, replicate, length-append, length-map, length-set, length-replicate, getD-replicate}
 use lib.Seq.{take-at, drop-cons, getD-set-same, getD-set-other}
-use borrow.Author.Tests.{eqb-true, eqb-false, ne-eqb}
+use borrow.Author.Tests.{eqb-true, eqb-false}
 use Rattle.rules.specs.Bytes.{if_then_else_, every, concat, part, parts}
 use Rattle.rules.specs.Call.{pairOf}
 use Rattle.rules.specs.Frame.{Update, updateOf}

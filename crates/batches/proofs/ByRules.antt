@@ -23,12 +23,12 @@ module _ (atomicity : ℕ) (rows : List Row) (role n : ℕ) (us : List ℕ) (who
       let all : Whole (updatesIn n us) = whole-updates (parts n 221 us) (parts-lengths n 221 us (omega arith)) in
       batch-full 2 rows role (ok .0) atomicity (tablesIn tables before) (updatesIn n us) all (ok .1)
 
-  pub left-by-rules : {after : List ℕ} {w : Written}
+  pub by-rules : (out : List ℕ) {after out′ : List ℕ} {w : Written}
       → StoreLeft (Apart tables before) (judgedInTurn atomicity rows role n us) tables before after w
+      × Pairs (Apart tables before) (judgedInTurn atomicity rows role n us) tables before out out′
       → StoreLeft (SoundUnder rows tables before) (ruled atomicity rows role n us) tables before after w
-  left-by-rules {after} {w} h ok = subst (λ (b : Batch). BatchApplied b before after w) (same ok) (h (ok .1 .distinct))
-
-  pub pairs-by-rules : (out : List ℕ) {out′ : List ℕ}
-      → Pairs (Apart tables before) (judgedInTurn atomicity rows role n us) tables before out out′
-      → Pairs (SoundUnder rows tables before) (ruled atomicity rows role n us) tables before out out′
-  pairs-by-rules out h ok = h (ok .1 .distinct) ∙ ap (λ (b : Batch). splice out 0 (concat (map pairOf (b .reasons)))) (same ok)
+      × Pairs (SoundUnder rows tables before) (ruled atomicity rows role n us) tables before out out′
+  by-rules out {after} {out′} {w} h = (
+    λ ok. subst (λ (b : Batch). BatchApplied b before after w) (same ok) (h .0 (ok .1 .distinct)),
+    λ ok. h .1 (ok .1 .distinct) ∙ ap (λ (b : Batch). splice out 0 (concat (map pairOf (b .reasons)))) (same ok),
+  )

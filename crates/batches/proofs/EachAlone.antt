@@ -1,20 +1,17 @@
 -- A batch before its update i, which nothing has stopped: what the updates left will do to the store as it is now, after what was
 -- done, is what all of them do to the store at the start. Assumes nothing.
 use Prim.Native.Nat.{ℕ, _+_, _*_, _≤_}
-use native.Mathlib.Omega.{arith}
 use mathlib.Core.Path.{_≡_, refl, sym, ap, _∙_}
 use mathlib.Core.Bool.{Bool, true, false, _&&_, not}
 use mathlib.Core.List.{List, [], _∷_, map}
 use lib.Dec.{eqb}
 use lib.ListN.{length, drop}
 use borrow.Author.Tests.{ne-eqb}
-use Rattle.rules.specs.Bytes.{if_then_else_, every, concat, part, number, int}
-use Rattle.rules.specs.Frame.{Update, updateOf}
-use Rattle.rules.specs.Row.{Row, known, rowFor}
-use Rattle.rules.specs.Key.{tableOf}
+use Rattle.rules.specs.Bytes.{if_then_else_, every, concat}
+use Rattle.rules.specs.Frame.{Update}
+use Rattle.rules.specs.Row.{Row}
 use Rattle.rules.specs.Update.{Tables, Batch, apply, eachAlone}
 use Rattle.rules.specs.Call.{pairOf}
-use Rattle.rules.proofs.Lists.{part-part}
 use Rattle.rules.specs.Sound.{Distinct}
 use Rattle.store.specs.declared.Tables.{Tables as Held}
 use Rattle.buffers.specs.Splice.{splice}

@@ -15,7 +15,6 @@ use Rattle.rules.specs.Answer.{Reply, answerBytes, replyOf}
 use Rattle.rules.specs.Call.{Call, State, fresh, accepted, refusal, plain, answer, commandOf, next, reply, run}
 use Rattle.rules.specs.LookBack.{History, present, stateSeen, tookEffect, pairsSeen, someFails, readSeen, answerSeen, replySeen}
 use Rattle.rules.specs.Agreement.{commandsOf, replyAfter, historyOf, pairAt}
-use Rattle.rules.specs.Authority.{eventsOf, Gives, Held}
 use Rattle.rules.specs.Full.{replyAfter24}
 use Rattle.rules.specs.Sound.{Sound, EveryStored}
 use Rattle.rules.proofs.Formed.{call-formed}

@@ -5,7 +5,7 @@ use mathlib.Core.Path.{_≡_, refl, sym, _∙_, ap, subst}
 use mathlib.Core.Bool.{Bool, true, false, _&&_, not}
 use mathlib.Core.Logic.{_⊎_, inl, inr, ⊎-elim}
 use mathlib.Core.Option.{Option, none, some}
-use mathlib.Core.List.{List, [], _∷_, _++_, map}
+use mathlib.Core.List.{List, [], _∷_, map}
 use native.Mathlib.Omega.{arith}
 use lib.Dec.{eqb, leb}
 use lib.ListN.{length, take, drop, set, replicate}
@@ -20,13 +20,13 @@ use Rattle.rules.specs.Key.{tableOf}
 use Rattle.rules.specs.Update.{Tables, Judge, isInsert, held, updateOrder, judgeBy, judge, apply, Batch}
 use Rattle.rules.specs.Update.{eachAlone, oneFurther, failure, unlessFailed, allOrNone, batch}
 use Rattle.rules.specs.Answer.{Answer, answerBytes, replyOf}
-use Rattle.rules.specs.Call.{State, Call, fresh, writeReason, readReason, headReason, plain, pairOf, TableOutcome, batchOf, writeBatch, write}
+use Rattle.rules.specs.Call.{State, fresh, writeReason, readReason, plain, pairOf, TableOutcome, batchOf}
 use Rattle.rules.specs.Call.{tableCommand, refusal, accepted, nextControl, nextTables, next, answer, reply, commandOf, run}
 use Rattle.rules.specs.Agreement.{commandsOf, replyAfter, pairAt}
 use Rattle.rules.specs.Sound.{SoundTables, Sound}
 use Rattle.rules.specs.Full.{fullOrder, judgeFullBy, judgeFull, judge24, pair24, tableCommand24, next24, reply24, run24, after24, replyAfter24}
-use Rattle.rules.specs.Full.{Unreached, NoFullStore, NeverFull}
-use Rattle.rules.proofs.Tests.{and-true, and-false, both-true}
+use Rattle.rules.specs.Full.{Unreached, NeverFull}
+use Rattle.rules.proofs.Tests.{and-true, and-false}
 use Rattle.rules.proofs.Orders.{first-clear, first-avoids, first-more}
 use Rattle.rules.proofs.Formed.{Whole, whole-place, Formed, EveryFormed, call-formed, calls-formed}
 use Rattle.rules.proofs.Rollback.{eqb-sym}

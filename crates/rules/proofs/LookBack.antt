@@ -310,7 +310,8 @@ tables-agree p (onPipeline (CONFIGURE h rows)) = go (accepted (stateSeen p) (onP
     go false = refl
 tables-agree p (onTables (WRITE h atomicity us)) = go (accepted (stateSeen p) (onTables (WRITE h atomicity us)))
   where
-    go : (b : Bool) → (if b then batch atomicity (judge (p .control .rows) (h .role)) (stateSeen p .tables) us .tables else stateSeen p .tables) .entries
+    go : (b : Bool)
+        → (if b then batch atomicity (judge (p .control .rows) (h .role)) (stateSeen p .tables) us .tables else stateSeen p .tables) .entries
         ≡ present (if b then withBatch p (h .role) atomicity us .effects else p .effects)
     go true = ap (λ t. t .entries) (batched (h .role) p atomicity us .0)
     go false = refl

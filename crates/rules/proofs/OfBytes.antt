@@ -9,7 +9,7 @@ use lib.Dec.{eqb, ltb}
 use lib.ListN.{length, take, drop, replicate, length-take}
 use borrow.Author.Tests.{lt-ltb}
 use Rattle.rules.specs.Bytes.{if_then_else_, every, concat, byte, part, parts, allBytes}
-use Rattle.rules.specs.Frame.{Update, Command, tooShort, malformed, OPEN, CLOSE, ARBITRATE, CONFIGURE, WRITE}
+use Rattle.rules.specs.Frame.{Update, Command, tooShort, malformed, CONFIGURE, WRITE}
 use Rattle.rules.specs.Frame.{READ, updateOf, writeOf, configureOf, readFrame, onStreams, onPipeline, onTables}
 use Rattle.rules.specs.Value.{stripped, short}
 use Rattle.rules.specs.Key.{value1, value2, slots, shortSlot, shortKey}

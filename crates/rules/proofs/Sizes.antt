@@ -11,7 +11,7 @@ use lib.Dec.{eqb}
 use lib.ListN.{length, replicate, length-append, length-map, length-set, length-replicate}
 use Rattle.rules.specs.Bytes.{if_then_else_, keep, concat, sum, between, numberFrom, int, bytesOf}
 use Rattle.rules.specs.Frame.{Head, Update, Query, Command, tooShort, malformed, OPEN, CLOSE}
-use Rattle.rules.specs.Frame.{ARBITRATE, CONFIGURE, WRITE, READ, onStreams, onPipeline, onTables}
+use Rattle.rules.specs.Frame.{ARBITRATE, WRITE, READ, onStreams, onPipeline, onTables}
 use Rattle.rules.specs.Streams.{Stream, closed, unbound, bound, Streams, numbers, inRole, members, markOf, noticeOf}
 use Rattle.rules.specs.Streams.{notification, notifyAll, is, primary, become, streamAt, recordsOnClose, closeReason, openStream}
 use Rattle.rules.specs.Streams.{closeRecords, closeStream, arbitrateReason, binds, samePair, bindRecords, arbitrate}

@@ -1,17 +1,17 @@
 -- Every list of calls leaves a sound agent: a fresh one is sound, and no call breaks it. Assumes nothing.
 use Prim.Native.Nat.{ℕ, _≤_}
 use mathlib.Core.Path.{_≡_, refl}
-use mathlib.Core.Bool.{Bool, true, false, _&&_}
+use mathlib.Core.Bool.{Bool, true, false}
 use mathlib.Core.List.{List, [], _∷_, map}
 use native.Mathlib.Omega.{arith}
-use borrow.Author.Tests.{eqb-true, leb-true, not-false}
-use Rattle.rules.specs.Bytes.{if_then_else_, every, sum, distinct}
-use Rattle.rules.specs.Frame.{Head, Update, Command, tooShort, malformed, OPEN, CLOSE, ARBITRATE}
+use borrow.Author.Tests.{eqb-true, not-false}
+use Rattle.rules.specs.Bytes.{if_then_else_, every}
+use Rattle.rules.specs.Frame.{Head, Update, Command, tooShort, malformed}
 use Rattle.rules.specs.Frame.{CONFIGURE, WRITE, READ, onStreams, onPipeline, onTables}
 use Rattle.rules.specs.Streams.{markOf}
-use Rattle.rules.specs.Row.{Row, rowOf, rowAllowed, rowsAllowed, configurationAllowed, unusedZero}
+use Rattle.rules.specs.Row.{rowOf, rowsAllowed, configurationAllowed, unusedZero}
 use Rattle.rules.specs.Update.{noEntries, judge}
-use Rattle.rules.specs.Call.{State, Call, fresh, configureReason, refusal, accepted, withRows, nextControl, batchOf, nextTables, next, run}
+use Rattle.rules.specs.Call.{State, Call, fresh, configureReason, refusal, accepted, nextControl, batchOf, nextTables, next, run}
 use Rattle.rules.specs.Agreement.{commandsOf}
 use Rattle.rules.specs.Sound.{SoundTables, Sound}
 use Rattle.rules.proofs.Tests.{and-true}

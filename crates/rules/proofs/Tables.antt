@@ -379,7 +379,8 @@ module _ (rows : List Row) (allowed : rowsAllowed rows ≡ true) where
       go true false false p q m = delete-sound t _ ok
       go false b c p q m = ok
 
-  pub alone-sound : (role : ℕ) (t : Tables) (us : List Update) → Whole us → SoundTables rows t → SoundTables rows (eachAlone (judge rows role) t us .tables)
+  pub alone-sound : (role : ℕ) (t : Tables) (us : List Update) → Whole us → SoundTables rows t
+      → SoundTables rows (eachAlone (judge rows role) t us .tables)
   unfolding eachAlone
   alone-sound role t [] h ok = ok
   alone-sound role t (u ∷ us) h ok = alone-sound role (apply (judge rows role t u) u t) us (h .1) (apply-sound role t u (h .0) ok)

@@ -78,8 +78,10 @@ module _ (a : Agent) (h : Head) (atomicity : ℕ) where
   -- a batch was taken, its pairs from byte 4 on, and then the head was written
   pub batch-written : (n : ℕ) (f store store′ d p out : List ℕ) (reason : ℕ) (w : Written) → 4 ≤ length d
       → writeReason (controlOf a) h atomicity ≡ 0
-      → StoreLeft (SoundUnder (controlOf a .rows) (a .tables) store) (ruled atomicity (controlOf a .rows) (h .role) n (take (length f - 29) (drop 29 f))) (a .tables) store store′ w
-      → Pairs (SoundUnder (controlOf a .rows) (a .tables) store) (ruled atomicity (controlOf a .rows) (h .role) n (take (length f - 29) (drop 29 f))) (a .tables) store
+      → StoreLeft (SoundUnder (controlOf a .rows) (a .tables) store)
+      (ruled atomicity (controlOf a .rows) (h .role) n (take (length f - 29) (drop 29 f))) (a .tables) store store′ w
+      → Pairs (SoundUnder (controlOf a .rows) (a .tables) store)
+      (ruled atomicity (controlOf a .rows) (h .role) n (take (length f - 29) (drop 29 f))) (a .tables) store
       (take (length d - 4) (drop 4 d)) p
       → length p ≡ length (take (length d - 4) (drop 4 d)) → reason ≡ (if w .failed then 23 else 0)
       → out ≡ splice (putMid 4 (length d - 4) d p) 0 (reason ∷ codeOf reason ∷ bytesOf 2 n)

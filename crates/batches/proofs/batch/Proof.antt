@@ -1,11 +1,29 @@
 -- Right because the log has room for the notes that the atomicity asks for, and sound tables are judged as the rules do. Assumes nothing.
+use Prim.Native.Nat.{ℕ}
 use native.Mathlib.Omega.{arith}
+use mathlib.Core.List.{List}
 use denote.Ref.{now}
 use Rattle.rows.specs.Meaning.{rowsIn}
-use Rattle.batches.proofs.ByRules.{left-by-rules, pairs-by-rules}
+use Rattle.batches.specs.Batch.{ruled, judgedInTurn, StoreLeft, Pairs, Apart, SoundUnder}
+use Rattle.batches.specs.declared.Written.{Written}
+use Rattle.batches.proofs.ByRules.{by-rules}
 use borrow.Author.Needs.{needs}
 use Rattle.batches.proofs.batch.Statement.{statement}
 use Rattle.batches.proofs.batch.Tie as tie
+
+-- what `take` leaves and writes, with the arguments of `batch`, is what the rules do
+judged : (atomicity : ℕ) (s : tie.Start) {after out : List ℕ} {w : Written} →
+    let a = s .args in
+    let rows = rowsIn (a .t) (now (a .rows)) in
+    let store = now (a .store) in
+    let us = now (a .updates) in
+    StoreLeft (Apart (a .held) store) (judgedInTurn atomicity rows (a .role) (a .n) us) (a .held) store after w
+    × Pairs (Apart (a .held) store) (judgedInTurn atomicity rows (a .role) (a .n) us) (a .held) store (now (a .answer)) out
+    → StoreLeft (SoundUnder rows (a .held) store) (ruled atomicity rows (a .role) (a .n) us) (a .held) store after w
+    × Pairs (SoundUnder rows (a .held) store) (ruled atomicity rows (a .role) (a .n) us) (a .held) store (now (a .answer)) out
+judged atomicity s =
+    let a = s .args in
+    by-rules atomicity (rowsIn (a .t) (now (a .rows))) (a .role) (a .n) (now (a .updates)) (s .pre .3) (a .held) (now (a .store)) (now (a .answer))
 
 slice-aggregate-take : tie.Need-slice-aggregate-take
 slice-aggregate-take c = search needs
@@ -25,11 +43,7 @@ returns : tie.Need-returns
 returns c =
     let t = c .before .before .before .before .before in
     let s = t .before .before .before .before .before .before .before .before .before in
-    let a = s .args in
-    let e = t .take .ensures in (
-      left-by-rules (a .atomicity) (rowsIn (a .t) (now (a .rows))) (a .role) (a .n) (now (a .updates)) (s .pre .3) (a .held) (now (a .store)) (e .0),
-      pairs-by-rules (a .atomicity) (rowsIn (a .t) (now (a .rows))) (a .role) (a .n) (now (a .updates)) (s .pre .3) (a .held) (now (a .store)) _ (e .1),
-    )
+    judged (s .args .atomicity) s (t .take .ensures)
 
 slice-aggregate-take-2 : tie.Need-slice-aggregate-take-2
 slice-aggregate-take-2 c = search needs
@@ -50,11 +64,7 @@ returns-2 c =
     let t = c .before .before .before .before .before in
     let i = t .before .before .before .before .before in
     let s = i .before .before .before .before .before in
-    let a = s .args in
-    let e = t .take2 .ensures in (
-      rw (i .if1 .left) (left-by-rules 1 (rowsIn (a .t) (now (a .rows))) (a .role) (a .n) (now (a .updates)) (s .pre .3) (a .held) (now (a .store)) (e .0)),
-      rw (i .if1 .left) (pairs-by-rules 1 (rowsIn (a .t) (now (a .rows))) (a .role) (a .n) (now (a .updates)) (s .pre .3) (a .held) (now (a .store)) _ (e .1)),
-    )
+    rw (i .if1 .left) (judged 1 s (t .take2 .ensures))
 
 slice-aggregate-take-3 : tie.Need-slice-aggregate-take-3
 slice-aggregate-take-3 c = search needs
@@ -75,11 +85,7 @@ returns-3 c =
     let t = c .before .before .before .before .before in
     let i = t .before .before .before .before .before in
     let s = i .before .before .before .before .before in
-    let a = s .args in
-    let e = t .take3 .ensures in (
-      rw (i .if1 .left) (left-by-rules 1 (rowsIn (a .t) (now (a .rows))) (a .role) (a .n) (now (a .updates)) (s .pre .3) (a .held) (now (a .store)) (e .0)),
-      rw (i .if1 .left) (pairs-by-rules 1 (rowsIn (a .t) (now (a .rows))) (a .role) (a .n) (now (a .updates)) (s .pre .3) (a .held) (now (a .store)) _ (e .1)),
-    )
+    rw (i .if1 .left) (judged 1 s (t .take3 .ensures))
 
 pub batch-spec : {M : Type 1} → statement M
 batch-spec =
