@@ -116,9 +116,9 @@ module _ {A : Type 0} (L : Layout A) (device : ℕ) (start : Memory A) (ws : Lis
     -- 6. A WRITE with atomicity 1 that was answered 23 changes no entry.
     pub rolled-back : (p : Place ws) (h : Head) (us : List Update) → command p ≡ onTables (WRITE h 1 us) → p .call .result .reason ≡ 23
         → ChangesNoEntry p
-    -- 7. It returns and writes what an agent does that has the rules of document 01, where 24 refuses an INSERT into a full store
-    -- (document 02, request Five: "Answers to all lists are those given before"). The number is free: no call returns it, and no pair
-    -- that the answer of a WRITE counts has it.
+    -- 7. It returns and writes what an agent does that still refuses an INSERT into a full store with 24 (document 02, request Five:
+    -- "Answers to all lists are those given before"). The number is free: no call returns it, and no pair that the answer of a WRITE
+    -- counts has it.
     pub full-store : (p : Place ws) →
         let old = replyAfter24 (length (start .store)) device (callsOf (p .before)) (callOf (p .call .input)) in
         (p .call .result .reason ≡ old .returned)

@@ -259,7 +259,8 @@ run-same s (c ∷ cs) f ok =
     ap (λ (x : State). run24 x cs) (next-same s c (f .0) ok) ∙ run-same (next s c) cs (f .1) (next-sound s c (f .0) ok)
 
 -- an update after the earlier ones of its batch
-unreached : (s : State) (role : ℕ) (earlier : List Update) (u : Update) → Whole earlier → Sound s → Unreached s role earlier u
+unreached : (s : State) (role : ℕ) (earlier : List Update) (u : Update) → Whole earlier → Sound s
+    → Unreached (s .control .rows) role (eachAlone (judge24 (s .control .rows) role) (s .tables) earlier .tables) u
 unreached s role earlier u w ok = record { never = λ e. not-24 rows role t u (sym same ∙ e); same = same }
   where
     rows : List Row
@@ -278,7 +279,10 @@ unfolding replyAfter replyAfter24
 never-full room device before c = record {
   updates = λ h atomicity earlier u later e.
       let w = whole-place earlier u later (subst Formed e (call-formed room c) .1) in
-      subst (λ (x : State). Unreached x (h .role) earlier u) (sym state) (unreached s (h .role) earlier u (w .0) ok);
+      subst
+      (λ (x : State). Unreached (x .control .rows) (h .role)
+      (eachAlone (judge24 (x .control .rows) (h .role)) (x .tables) earlier .tables) u) (sym state)
+      (unreached s (h .role) earlier u (w .0) ok);
   replies = ap (λ (x : State). reply24 x (commandOf room c)) state ∙ reply-same s (commandOf room c) (call-formed room c) ok;
   state = state;
   no-head = not-returned s (commandOf room c);

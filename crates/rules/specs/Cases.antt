@@ -95,7 +95,7 @@ crowdedBy replies size n =
 abbrev crowded : ℕ → ℕ → Reply
 crowded = crowdedBy reply
 
--- and as the agent of document 01 answers it, which has 24
+-- and as the agent with 24 answers it
 abbrev crowded24 : ℕ → ℕ → Reply
 crowded24 = crowdedBy reply24
 
@@ -199,7 +199,7 @@ pub record Orders : Type 0 where
       ∷ [])
   pub update : Each owned judged
   -- The store holds 256 entries: 22, where the table holds its size too. Where only the store is full, which no list of calls leaves
-  -- (`Full`), document 01 has 24, and the rules store the entry; with 255 in the store both do.
+  -- (`Full`), document 01 had 24, and the rules store the entry; with 255 in the store both do.
   pub store-full : (crowded 1 255 ≡ bytes 23 2 1 ((22 ∷ 8 ∷ []) ∷ [])) × (crowded 2 255 ≡ bytes 0 0 1 (done ∷ []))
       × (crowded24 1 255 ≡ bytes 23 2 1 ((22 ∷ 8 ∷ []) ∷ [])) × (crowded24 2 255 ≡ bytes 23 2 1 ((24 ∷ 8 ∷ []) ∷ []))
       × (crowded24 2 254 ≡ bytes 0 0 1 (done ∷ []))

@@ -1,6 +1,6 @@
 -- The full store (document 02, request Five: "Table sizes add up to at most 256, so 22 always comes first. Show that no list of calls
--- from a fresh agent reaches 24, then remove the number and its test. Answers to all lists are those given before."). The rules of
--- document 01 that still have 24, and what is claimed of them beside the rules without it. Assumes nothing.
+-- from a fresh agent reaches 24, then remove the number and its test. Answers to all lists are those given before."). The rules with 24,
+-- as they were up to that request, are kept here, for what is claimed of them beside the rules without it. Assumes nothing.
 use mathlib.Core.Path.{_≡_}
 use mathlib.Core.Bool.{Bool, true, _&&_}
 use mathlib.Core.List.{List, [], _∷_, _++_}
@@ -19,8 +19,8 @@ use Rattle.rules.specs.Agreement.{commandsOf, replyAfter, pairAt}
 
 -- ---- judges that test for a full store
 
--- INSERT while the store holds 256 entries, refused under a reason that may be any. Document 01 has 24. The code, which must not write
--- past the store whatever record it is handed, has 2 where no list of calls leaves the record (`judging`).
+-- INSERT while the store holds 256 entries, refused under a reason that may be any. Document 01 has 24. The code has 2: it must not write
+-- past the store whatever record it is handed, also one that no list of calls leaves (`judging`).
 abbrev pub fullOrder : ℕ → ℕ → Tables → List (Bool × ℕ)
 fullOrder reason type t = (isInsert type && leb 256 (length (t .entries)), reason) ∷ []
 
@@ -31,7 +31,7 @@ judgeFullBy reason isKnown row role t u = first (updateOrder isKnown row role t 
 unfoldable pub judgeFull : ℕ → List Row → ℕ → Judge
 judgeFull reason rows role t u = judgeFullBy reason (known (tableOf (u .entry)) rows) (rowFor (tableOf (u .entry)) rows) role t u
 
--- ---- the agent of document 01: 24 (8)
+-- ---- the agent with 24 (8)
 
 abbrev pub judge24 : List Row → ℕ → Judge
 judge24 rows role = judgeFull 24 rows role
@@ -72,21 +72,21 @@ replyAfter24 room device before c = reply24 (after24 room device before) (comman
 
 -- ---- the claim
 
--- Of the judge that has 24, beside the one that does not, for an update u of a batch after the earlier ones. With atomicity 1 it is
--- judged where the earlier ones succeed, by the same tables.
-pub record Unreached (s : State) (role : ℕ) (earlier : List Update) (u : Update) : Type 0 where
-  pub never : judge24 (s .control .rows) role (eachAlone (judge24 (s .control .rows) role) (s .tables) earlier .tables) u ≡ 24 → ⊥
-  pub same :
-      let t = eachAlone (judge24 (s .control .rows) role) (s .tables) earlier .tables in
-      judge24 (s .control .rows) role t u ≡ judge (s .control .rows) role t u
+-- Of an update u by a role: it is not refused with 24, and comes to the same reason without it.
+pub record Unreached (rows : List Row) (role : ℕ) (t : Tables) (u : Update) : Type 0 where
+  pub never : judge24 rows role t u ≡ 24 → ⊥
+  pub same : judge24 rows role t u ≡ judge rows role t u
 
 -- Of a call c after the calls `before`, from a fresh agent and with a store of `room` bytes:
 pub record NoFullStore (room device : ℕ) (before : List Call) (c : Call) : Type 0 where
-  -- no update of a WRITE is refused with 24, and each comes to the same reason without it,
+  -- so it is of every update of a WRITE, after the earlier ones of its batch (with atomicity 1 an update is judged where the earlier ones
+  -- succeed, by the same tables).
   pub updates : (h : Head) (atomicity : ℕ) (earlier : List Update) (u : Update) (later : List Update)
-      → commandOf room c ≡ onTables (WRITE h atomicity (earlier ++ u ∷ later))
-      → Unreached (after24 room device before) (h .role) earlier u
-  -- so the call returns and writes the same, and the agent after the calls is the same:
+      → commandOf room c ≡ onTables (WRITE h atomicity (earlier ++ u ∷ later)) →
+      let rows = after24 room device before .control .rows in
+      let tables = after24 room device before .tables in
+      Unreached rows (h .role) (eachAlone (judge24 rows (h .role)) tables earlier .tables) u
+  -- The call returns and writes the same with 24 and without it, and the agent before it is the same.
   pub replies : replyAfter24 room device before c ≡ replyAfter room device before c
   pub state : after24 room device before ≡ run (fresh device) (commandsOf room before)
   -- The number is free: no call returns it, and no pair of an accepted WRITE has it.

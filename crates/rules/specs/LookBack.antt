@@ -66,7 +66,7 @@ pub record History : Type 0 where
 unfoldable pub nothing : ℕ → History
 nothing device = record { control = fresh device .control; effects = [] }
 
--- the agent as looking back shows it: refusals and 20 to 24 are judged by this
+-- the agent as looking back shows it: refusals and 20 to 22 are judged by this
 unfoldable pub stateSeen : History → State
 stateSeen p = record { control = p .control; tables = record { entries = present (p .effects) } }
 
