@@ -118,19 +118,27 @@ fn lists(out: &mut impl Write, seed: u64, calls: u64, program: Option<&Path>) ->
         }
     }
 
-    let rate = rate(&tally, start.elapsed());
+    let played = LISTS_FOR_PLAY - for_play;
+    conclude(out, seed, &tally, start.elapsed(), played)
+}
+
+/// Prints what there is to say of lists that all agree on, so many of which
+/// went through `play` too.
+fn conclude(
+    out: &mut impl Write,
+    seed: u64,
+    tally: &Tally,
+    elapsed: Duration,
+    played: usize,
+) -> io::Result<bool> {
     writeln!(out, "\n{tally}")?;
     writeln!(
         out,
-        "lists  {} of seed {seed} with {} calls: all agree ({rate:.0} calls a second)",
-        tally.lists, tally.calls,
+        "lists  {} of seed {seed} with {} calls: all agree ({:.0} calls a second)",
+        tally.lists,
+        tally.calls,
+        rate(tally, elapsed)
     )?;
-    conclusion(out, &tally, LISTS_FOR_PLAY - for_play)
-}
-
-/// What else there is to say of lists that all agree on, so many of which went
-/// through `play` as well; and whether the run may stand.
-fn conclusion(out: &mut impl Write, tally: &Tally, played: usize) -> io::Result<bool> {
     if played > 0 {
         writeln!(out, "play   {played} of these lists: the same lines")?;
     }
