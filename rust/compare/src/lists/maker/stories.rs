@@ -164,8 +164,8 @@ impl Maker {
     }
 
     /// A full store of several tables: one out, one too many in another table,
-    /// one in. In one WRITE, in several, and in atomic batches, of which that
-    /// without the one too many is done.
+    /// one in. In one WRITE, in several, and in atomic batches, which are rolled
+    /// back but for that without the one too many.
     pub(super) fn full_store(&mut self, view: &View) -> Vec<Vec<u8>> {
         let Some(&stored) = self.dice.choose(&view.entries) else {
             return Vec::new();
@@ -175,16 +175,21 @@ impl Maker {
         let (Some(row), Some(other)) = (view.row(stored.table), self.dice.choose(&others)) else {
             return Vec::new();
         };
-        let out = Update::delete(stored);
-        let one_in = Update::insert(entries::entry(&mut self.dice, row, Spread::Wide));
-        let too_many = Update::insert(entries::entry(&mut self.dice, other, Spread::Wide));
+        let fresh = entries::entry(&mut self.dice, row, Spread::Wide);
+        let too_many = entries::entry(&mut self.dice, other, Spread::Wide);
+        let (out, one_in) = (Update::delete(stored), Update::insert(fresh));
+        let too_many = Update::insert(too_many);
         let head = self.primary_head(view, 0);
-        let batches: &[(u8, &[Update])] = match self.dice.below(4) {
-            0 => &[(0, &[too_many, out, too_many, one_in, too_many])],
-            1 => &[(0, &[out]), (0, &[too_many]), (0, &[one_in])],
-            2 => &[(1, &[too_many]), (1, &[out, too_many, one_in])],
-            _ => &[(1, &[out, one_in]), (1, &[too_many])],
-        };
+        let batches: [(u8, &[Update]); 7] = [
+            (0, &[too_many, out, too_many, one_in]),
+            // And back.
+            (0, &[Update::delete(fresh)]),
+            (0, &[too_many]),
+            (0, &[Update::insert(stored)]),
+            (1, &[too_many]),
+            (1, &[out, too_many, one_in]),
+            (1, &[out, one_in]),
+        ];
         let mut frames: Vec<Vec<u8>> = batches
             .iter()
             .map(|(atomicity, updates)| write(head, *atomicity, updates))

@@ -124,7 +124,9 @@ impl Maker {
     }
 
     pub(super) fn write(&mut self, view: &View, aims: &mut Vec<Aim>) -> Vec<u8> {
-        if view.entries.len() == 256 && self.dice.percent(40) {
+        // The first time that the store is full, and now and then later.
+        if view.entries.len() == 256 && (!self.was_full || self.dice.percent(12)) {
+            self.was_full = true;
             let frames = self.full_store(view);
             if let Some(frame) = self.tell(frames) {
                 return frame;
