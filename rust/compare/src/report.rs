@@ -118,23 +118,38 @@ fn lists(out: &mut impl Write, seed: u64, calls: u64, program: Option<&Path>) ->
         }
     }
 
-    let missing = tally.missing();
+    let played = LISTS_FOR_PLAY - for_play;
+    conclude(out, seed, &tally, start.elapsed(), played)
+}
+
+/// Prints what there is to say of lists that all agree on, so many of which
+/// went through `play` too.
+fn conclude(
+    out: &mut impl Write,
+    seed: u64,
+    tally: &Tally,
+    elapsed: Duration,
+    played: usize,
+) -> io::Result<bool> {
     writeln!(out, "\n{tally}")?;
     writeln!(
         out,
         "lists  {} of seed {seed} with {} calls: all agree ({:.0} calls a second)",
         tally.lists,
         tally.calls,
-        rate(&tally, start.elapsed())
+        rate(tally, elapsed)
     )?;
-    if for_play < LISTS_FOR_PLAY {
-        let lists = LISTS_FOR_PLAY - for_play;
-        writeln!(out, "play   {lists} of these lists: the same lines")?;
+    if played > 0 {
+        writeln!(out, "play   {played} of these lists: the same lines")?;
     }
-    for item in &missing {
-        writeln!(out, "NOT MET: {item}")?;
+    if let Ok(text) = tally.free() {
+        writeln!(out, "free   {text}")?;
     }
-    Ok(missing.is_empty())
+    let wrong = tally.wrong();
+    for item in &wrong {
+        writeln!(out, "{item}")?;
+    }
+    Ok(wrong.is_empty())
 }
 
 fn rate(tally: &Tally, elapsed: Duration) -> f64 {
@@ -167,7 +182,10 @@ pub fn list(out: &mut impl Write, seed: u64, list: u64) -> io::Result<bool> {
                 out,
                 "list   {list} of seed {seed} with {calls} calls: all agree"
             )?;
-            Ok(true)
+            match tally.free() {
+                Ok(text) => writeln!(out, "free   {text}").map(|()| true),
+                Err(text) => writeln!(out, "{text}").map(|()| false),
+            }
         }
         Err(found) => {
             difference(out, seed, list, *found)?;

@@ -2,6 +2,7 @@
 
 mod after_key;
 mod atomic;
+mod full;
 
 use std::collections::BTreeMap;
 use std::fmt;
@@ -20,6 +21,10 @@ use crate::parts;
 
 const REASONS: usize = 26;
 
+/// The number that is free: no call and no update is given it (document 02,
+/// request Five).
+const FREE: u8 = 24;
+
 /// The reasons that a frame of each command can get, by command byte. Byte 0
 /// stands for frames that are empty or of an unknown command.
 const OF_CALLS: [&[u8]; 7] = [
@@ -33,7 +38,7 @@ const OF_CALLS: [&[u8]; 7] = [
 ];
 
 /// The reasons that an update can get, by type. Type 0 stands for those that
-/// there are not. 24 never comes: sizes add to at most 256, so 22 does first.
+/// there are not.
 const OF_UPDATES: [&[u8]; 4] = [
     &[17, 25],
     &[0, 15, 16, 17, 18, 19, 20, 22, 25],
@@ -46,8 +51,8 @@ const OF_BATCHES: &[u8] = &[15, 16, 17, 18, 19, 20, 21, 22];
 
 const TYPES: [&str; 4] = ["other", "INSERT", "MODIFY", "DELETE"];
 
-/// Situations that a run has to come by, beside those of [`atomic::SIGHTS`] and
-/// [`after_key::cells`].
+/// Situations that a run has to come by, beside those of [`atomic::SIGHTS`],
+/// [`full::SIGHTS`] and [`after_key::cells`].
 const SIGHTS: [&str; 25] = [
     "status 0",
     "status 5",
@@ -84,7 +89,10 @@ pub struct Tally {
     of_calls: [[u64; REASONS]; 7],
     of_updates: [[u64; REASONS]; 4],
     of_batches: [u64; REASONS],
+    /// The calls and the updates that were given [`FREE`].
+    free: [u64; 2],
     after_keys: after_key::Counts,
+    full: full::Watch,
     ways: BTreeMap<(u8, &'static str), u64>,
     sights: BTreeMap<&'static str, u64>,
 }
@@ -99,10 +107,9 @@ impl Tally {
             &mut self.of_calls[command.map_or(0, |c| c as usize)],
             seen.reason,
         );
-        // None under reason 2, which has no answer.
-        let answer = answer::View::new(seen.answer, command).ok();
-        let pairs = answer.iter().flat_map(answer::View::pairs);
-        let reasons: Vec<u8> = pairs.map(|(reason, _)| reason.number()).collect();
+        let reasons = pair_reasons(command, seen.answer);
+        self.free[0] += u64::from(seen.reason == FREE);
+        self.free[1] += reasons.iter().filter(|&&reason| reason == FREE).count() as u64;
         for aim in &draft.aims {
             let met = match aim.update {
                 None => Some(seen.reason),
@@ -116,7 +123,8 @@ impl Tally {
             self.see("free bytes overwritten");
         }
         if let Ok(frame) = Frame::decode(frame) {
-            if let Some(answer) = answer {
+            // Under reason 2 there is no answer.
+            if let Ok(answer) = answer::View::new(seen.answer, command) {
                 self.look(view, &frame, seen, &answer);
             }
             self.look_at_batch(view, &frame, seen, &reasons, &draft.aims);
@@ -151,6 +159,9 @@ impl Tally {
             }
         }
         self.after_keys.count(view, *atomicity, &updates, reasons);
+        for sight in self.full.sights(view, *atomicity, &updates, reasons) {
+            self.see(sight);
+        }
         if *atomicity == 1 {
             if let Some(reason) = atomic::ended_by(reasons) {
                 add(&mut self.of_batches, reason);
@@ -240,8 +251,26 @@ impl Tally {
         *self.sights.entry(sight).or_default() += 1;
     }
 
+    /// All that a run fails for: what can be met and was not, and [`FREE`] where
+    /// it was given.
+    pub fn wrong(&self) -> Vec<String> {
+        let missing = self.missing().into_iter();
+        let missing = missing.map(|item| format!("NOT MET: {item}"));
+        missing.chain(self.free().err()).collect()
+    }
+
+    /// That [`FREE`] was not given, in words; the error is that it was.
+    pub fn free(&self) -> Result<String, String> {
+        match self.free {
+            [0, 0] => Ok(format!("{FREE}, given by no call and to no update")),
+            [calls, updates] => Err(format!(
+                "GIVEN: {FREE}, which is free, by {calls} calls and to {updates} updates"
+            )),
+        }
+    }
+
     /// What can be met and was not.
-    pub fn missing(&self) -> Vec<String> {
+    fn missing(&self) -> Vec<String> {
         let mut missing = Vec::new();
         for (command, reasons) in OF_CALLS.iter().enumerate() {
             for &reason in *reasons {
@@ -288,7 +317,16 @@ fn played_twice(reason: u8) -> &'static str {
 }
 
 fn all_sights() -> impl Iterator<Item = &'static str> {
-    SIGHTS.iter().chain(atomic::SIGHTS).copied()
+    let all = SIGHTS.iter().chain(atomic::SIGHTS);
+    all.chain(full::SIGHTS).copied()
+}
+
+/// The reasons in the pairs of a WRITE, whatever numbers stand there.
+fn pair_reasons(command: Option<Command>, answer: &[u8]) -> Vec<u8> {
+    match (command, answer.get(4..)) {
+        (Some(Command::Write), Some(pairs)) => pairs.iter().step_by(2).copied().collect(),
+        _ => Vec::new(),
+    }
 }
 
 fn add(counts: &mut [u64; REASONS], reason: u8) {
@@ -310,7 +348,7 @@ impl fmt::Display for Tally {
             write!(f, " {name:>9}")?;
         }
         writeln!(f)?;
-        for reason in 0..REASONS {
+        for reason in (0..REASONS).filter(|&reason| reason != usize::from(FREE)) {
             write!(f, "{reason:>6}")?;
             for counts in self
                 .of_calls

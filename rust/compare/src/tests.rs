@@ -9,8 +9,11 @@ use reference::{Agent, Past};
 use savorylatch::wire::Frame;
 
 use crate::again::Reads;
-use crate::bench::{Bench, Call, List, STORE_ROOM};
+use crate::bench::{Bench, Call, List, Seen, STORE_ROOM};
+use crate::lists::maker::Draft;
+use crate::lists::view::View;
 use crate::options::Order;
+use crate::tally::Tally;
 use crate::twice::with_other_bytes;
 use crate::{cases, faults, lists, shrink};
 
@@ -142,6 +145,54 @@ fn nothing_to_shrink_stays() {
     let calls = caught.shortest.list.calls.clone();
     let again = shrink::shrink::<Agent, Past>(caught.shortest, Duration::ZERO);
     assert_eq!(again.list.calls, calls);
+}
+
+/// What a run fails for after one call, if it is not that something was not met.
+fn given_after(frame: Vec<u8>, reason: u8, answer: &[u8]) -> Vec<String> {
+    let mut tally = Tally::default();
+    let draft = Draft {
+        call: Call::new(frame),
+        aims: Vec::new(),
+    };
+    let seen = Seen {
+        reason,
+        answer,
+        after_rollback: false,
+        twice: false,
+    };
+    tally.count(&View::new(1), &draft, &seen);
+    let mut wrong = tally.wrong();
+    wrong.retain(|text| !text.starts_with("NOT MET"));
+    wrong
+}
+
+#[test]
+fn a_run_that_meets_24_fails() {
+    let insert = Update::insert(Entry::default());
+    for atomicity in [0, 1] {
+        let batch = || write(Head::set(1, 0, 1), atomicity, &[insert, insert, insert]);
+        let full = [23, 2, 0, 3, 22, 8, 22, 8, 25, 10];
+        assert!(given_after(batch(), 23, &full).is_empty());
+        for (answer, updates) in [
+            ([23, 2, 0, 3, 24, 8, 22, 8, 25, 10], 1),
+            ([23, 2, 0, 3, 25, 10, 24, 8, 24, 8], 2),
+        ] {
+            let text = format!("GIVEN: 24, which is free, by 0 calls and to {updates} updates");
+            assert_eq!(given_after(batch(), 23, &answer), [text]);
+        }
+    }
+    let refused = [24, 8, 0, 0];
+    for frame in [
+        open(1),
+        read_all(1, 0, 0),
+        write(Head::set(1, 0, 1), 0, &[]),
+    ] {
+        let text = "GIVEN: 24, which is free, by 1 calls and to 0 updates";
+        assert_eq!(given_after(frame, 24, &refused), [text]);
+    }
+    // 24 is no reason where it is a number of records, or a byte of one.
+    assert!(given_after(read_all(1, 0, 0), 0, &[0, 0, 0, 24, 24, 24]).is_empty());
+    assert!(given_after(open(1), 2, &[]).is_empty());
 }
 
 /// A READ, and two answers that it might have.

@@ -1,6 +1,6 @@
 //! The hall switch agent, a second time.
 //!
-//! A second implementation of document 01 and of requests One and Two of
+//! A second implementation of document 01 and of requests One, Two and Five of
 //! document 02, for comparison with the proved one.
 //! It shares nothing with that: types, layout and control flow are its own.
 //!

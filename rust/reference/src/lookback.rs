@@ -1,9 +1,9 @@
 //! Looking back: what every call must answer, told from the calls before it.
 //!
 //! [`Past`] judges a list of calls the way document 01's "Looking back" words
-//! it, request One of document 02 for what is looked at of a DELETE, and
-//! request Two for batches that roll back. It keeps two logs, both oldest
-//! first:
+//! it, request One of document 02 for what is looked at of a DELETE, request
+//! Two for batches that roll back, and request Five, by which no test is made
+//! for a full store. It keeps two logs, both oldest first:
 //!
 //! * what happened to streams: opened, closed, an ARBITRATE accepted;
 //! * what happened to entries: inserted, modified, deleted, all cleared.
@@ -90,7 +90,7 @@ fn status_code(reason: u8) -> u8 {
         4 | 5 | 6 | 15 | 21 => 5,
         20 => 6,
         10 | 11 | 16 => 7,
-        2 | 9 | 22 | 24 => 8,
+        2 | 9 | 22 => 8,
         3 | 7 | 12 => 9,
         25 => 10,
         18 => 11,
@@ -471,7 +471,6 @@ impl Past {
         match kind {
             1 if present => return Err(20),
             1 if self.present_in(supposed, table).len() >= size(&row) => return Err(22),
-            1 if self.present(supposed).len() >= 256 => return Err(24),
             2 | 3 if !present => return Err(21),
             _ => {}
         }

@@ -16,7 +16,7 @@ mod grpc {
 }
 
 /// Why a call or an update ended as it did. The discriminant is the number
-/// that stands in the answer.
+/// that stands in the answer. 24 is free: document 02, request Five.
 #[derive(Clone, Copy, Debug, PartialEq, Eq, Hash)]
 #[repr(u8)]
 pub enum Reason {
@@ -68,42 +68,10 @@ pub enum Reason {
     TableFull = 22,
     /// Some update of an accepted WRITE failed.
     SomeFailed = 23,
-    /// INSERT into a store that holds 256 entries.
-    StoreFull = 24,
     /// An update of a batch with atomicity 1 in which another update failed:
     /// rolled back or never tried.
     BatchFailed = 25,
 }
-
-/// The status code of each reason, by the reason's number.
-const CODES: [u8; 26] = [
-    grpc::OK,                  // 0
-    grpc::INVALID_ARGUMENT,    // 1
-    grpc::RESOURCE_EXHAUSTED,  // 2
-    grpc::FAILED_PRECONDITION, // 3
-    grpc::NOT_FOUND,           // 4
-    grpc::NOT_FOUND,           // 5
-    grpc::NOT_FOUND,           // 6
-    grpc::FAILED_PRECONDITION, // 7
-    grpc::INVALID_ARGUMENT,    // 8
-    grpc::RESOURCE_EXHAUSTED,  // 9
-    grpc::PERMISSION_DENIED,   // 10
-    grpc::PERMISSION_DENIED,   // 11
-    grpc::FAILED_PRECONDITION, // 12
-    grpc::UNIMPLEMENTED,       // 13
-    grpc::INVALID_ARGUMENT,    // 14
-    grpc::NOT_FOUND,           // 15
-    grpc::PERMISSION_DENIED,   // 16
-    grpc::INVALID_ARGUMENT,    // 17
-    grpc::OUT_OF_RANGE,        // 18
-    grpc::INVALID_ARGUMENT,    // 19
-    grpc::ALREADY_EXISTS,      // 20
-    grpc::NOT_FOUND,           // 21
-    grpc::RESOURCE_EXHAUSTED,  // 22
-    grpc::UNKNOWN,             // 23
-    grpc::RESOURCE_EXHAUSTED,  // 24
-    grpc::ABORTED,             // 25
-];
 
 impl Reason {
     /// The number that stands in the answer.
@@ -113,6 +81,32 @@ impl Reason {
 
     /// The status code that stands beside it.
     pub fn code(self) -> u8 {
-        CODES[self as usize]
+        match self {
+            Reason::Done => grpc::OK,
+            Reason::Malformed => grpc::INVALID_ARGUMENT,
+            Reason::NoRoom => grpc::RESOURCE_EXHAUSTED,
+            Reason::AlreadyOpen => grpc::FAILED_PRECONDITION,
+            Reason::NotOpen => grpc::NOT_FOUND,
+            Reason::OtherDevice => grpc::NOT_FOUND,
+            Reason::UnknownRole => grpc::NOT_FOUND,
+            Reason::OtherBinding => grpc::FAILED_PRECONDITION,
+            Reason::IdHeld => grpc::INVALID_ARGUMENT,
+            Reason::RoleCrowded => grpc::RESOURCE_EXHAUSTED,
+            Reason::NotPrimary => grpc::PERMISSION_DENIED,
+            Reason::NotDefaultRole => grpc::PERMISSION_DENIED,
+            Reason::NotConfigured => grpc::FAILED_PRECONDITION,
+            Reason::NotSupported => grpc::UNIMPLEMENTED,
+            Reason::BadRows => grpc::INVALID_ARGUMENT,
+            Reason::UnknownTable => grpc::NOT_FOUND,
+            Reason::NotOwned => grpc::PERMISSION_DENIED,
+            Reason::BadForm => grpc::INVALID_ARGUMENT,
+            Reason::TooWide => grpc::OUT_OF_RANGE,
+            Reason::RuleBroken => grpc::INVALID_ARGUMENT,
+            Reason::KeyPresent => grpc::ALREADY_EXISTS,
+            Reason::KeyAbsent => grpc::NOT_FOUND,
+            Reason::TableFull => grpc::RESOURCE_EXHAUSTED,
+            Reason::SomeFailed => grpc::UNKNOWN,
+            Reason::BatchFailed => grpc::ABORTED,
+        }
     }
 }

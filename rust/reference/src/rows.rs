@@ -4,8 +4,8 @@ use crate::frame::{is_zero, parts, ROW};
 use crate::reason::Reason;
 use crate::streams::is_role;
 
-/// An agent stores at most this many entries.
-pub const MOST_ENTRIES: usize = 256;
+/// The sizes of all tables add to at most this, so no more entries are stored.
+const MOST_ENTRIES: usize = 256;
 /// A row has places for this many fields, actions, and widths of an action.
 pub const PLACES: usize = 4;
 

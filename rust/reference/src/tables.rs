@@ -12,7 +12,7 @@ use crate::answer::Answer;
 use crate::entry::{self, Deed, Key, ENTRY};
 use crate::frame::{KEY, UPDATE};
 use crate::reason::Reason;
-use crate::rows::{Row, MOST_ENTRIES};
+use crate::rows::Row;
 
 /// What an update does.
 #[derive(Clone, Copy, Debug, PartialEq, Eq)]
@@ -57,16 +57,14 @@ impl Table {
         }
     }
 
-    /// 20, then 22, then 24.
-    fn insert(&mut self, key: Key, deed: &Deed, number: u64, stored: usize) -> Result<(), Reason> {
+    /// 20, then 22. The sizes of all tables add to at most 256, so what passes
+    /// has room in the store (document 02, request Five).
+    fn insert(&mut self, key: Key, deed: &Deed, number: u64) -> Result<(), Reason> {
         let hash_map::Entry::Vacant(place) = self.index.entry(key) else {
             return Err(Reason::KeyPresent);
         };
         if self.entries.len() >= self.row.size {
             return Err(Reason::TableFull);
-        }
-        if stored >= MOST_ENTRIES {
-            return Err(Reason::StoreFull);
         }
         place.insert(number);
         self.entries.push(Stored {
@@ -130,12 +128,11 @@ impl Tables {
     }
 
     /// Carries out one update for a role, or says why not. The order: 17 for
-    /// the type, 15, 16, 17, 18, 19, then 20, 22, 24 or 21.
+    /// the type, 15, 16, 17, 18, 19, then 20 and 22, or 21.
     ///
     /// INSERT and MODIFY are checked as whole entries. Of a DELETE nothing is
     /// looked at but table and key (document 02, request One).
     pub fn update(&mut self, role: u8, update: &[u8; UPDATE]) -> Result<(), Reason> {
-        let stored = self.stored();
         let change = Change::read(update[0])?;
         let bytes: &[u8; ENTRY] = update[1..]
             .first_chunk()
@@ -146,7 +143,7 @@ impl Tables {
         match change {
             Change::Insert => {
                 let (key, deed) = entry::judge(&table.row, bytes)?;
-                table.insert(key, &deed, number, stored)?;
+                table.insert(key, &deed, number)?;
                 self.next_number += 1;
                 Ok(())
             }
@@ -199,11 +196,6 @@ impl Tables {
             return Err(Reason::NotOwned);
         }
         Ok(at)
-    }
-
-    /// How many entries all tables hold.
-    fn stored(&self) -> usize {
-        self.tables.iter().map(|table| table.entries.len()).sum()
     }
 
     /// All entries in order of insertion, over all tables.

@@ -469,10 +469,11 @@ mod tests {
         // Heads.
         let head = |reason, code| Some(Unreadable::Head { reason, code });
         assert_eq!(error(&[26, 0, 0, 0], Command::Open), head(26, 0));
+        assert_eq!(error(&[24, 8, 0, 0], Command::Write), head(24, 8));
         assert_eq!(error(&[10, 5, 0, 0], Command::Write), head(10, 5));
         // Pairs.
         let third = Some(Unreadable::Record(2));
-        for (reason, code) in [(26, 0), (25, 0), (10, 5)] {
+        for (reason, code) in [(26, 0), (25, 0), (24, 8), (10, 5)] {
             let answer = [0, 0, 0, 3, 0, 0, 0, 0, reason, code];
             assert_eq!(error(&answer, Command::Write), third);
         }

@@ -6,7 +6,8 @@ use std::fmt;
 /// Why a call, or an update of a WRITE, was refused.
 ///
 /// The discriminant is the number that stands in the answer, and [`Display`](fmt::Display) gives
-/// the condition in a few words. Later commands may add reasons.
+/// the condition in a few words. Later commands may add reasons. 24 is free: document 02, request
+/// Five.
 ///
 /// ```
 /// use savorylatch::{Code, Reason};
@@ -76,14 +77,12 @@ pub enum Reason {
     /// [`ContinueOnError`](crate::frame::Atomicity::ContinueOnError) the others took effect, with
     /// [`RollbackOnError`](crate::frame::Atomicity::RollbackOnError) none did.
     SomeFailed = 23,
-    /// INSERT, and the store holds 256 entries.
-    StoreFull = 24,
     /// Another update of the atomic batch failed: this one was undone, or never tried.
     RolledBack = 25,
 }
 
 impl Reason {
-    /// All reasons, each at the place of its number.
+    /// All reasons, by rising number.
     pub const ALL: &'static [Reason] = &[
         Reason::Done,
         Reason::BadFrame,
@@ -109,7 +108,6 @@ impl Reason {
         Reason::NotStored,
         Reason::TableFull,
         Reason::SomeFailed,
-        Reason::StoreFull,
         Reason::RolledBack,
     ];
 
@@ -151,7 +149,6 @@ impl Reason {
             Reason::NotStored => "not-stored",
             Reason::TableFull => "table-full",
             Reason::SomeFailed => "some-failed",
-            Reason::StoreFull => "store-full",
             Reason::RolledBack => "rolled-back",
         }
     }
@@ -173,9 +170,7 @@ impl Reason {
             | Reason::NotStored => Code::NotFound,
             Reason::Stored => Code::AlreadyExists,
             Reason::NotPrimary | Reason::NotRole0 | Reason::NotTheRoles => Code::PermissionDenied,
-            Reason::TooShort | Reason::RoleFull | Reason::TableFull | Reason::StoreFull => {
-                Code::ResourceExhausted
-            }
+            Reason::TooShort | Reason::RoleFull | Reason::TableFull => Code::ResourceExhausted,
             Reason::AlreadyOpen | Reason::Rebound | Reason::NotConfigured => {
                 Code::FailedPrecondition
             }
@@ -192,11 +187,23 @@ impl Reason {
     }
 }
 
+/// Each reason at the place of its number. A number that is free has none.
+const BY_NUMBER: [Option<Reason>; 26] = {
+    let mut places = [None; 26];
+    let mut at = 0;
+    while at < Reason::ALL.len() {
+        let reason = Reason::ALL[at];
+        places[reason as usize] = Some(reason);
+        at += 1;
+    }
+    places
+};
+
 impl TryFrom<u8> for Reason {
     type Error = UnknownNumber;
 
     fn try_from(number: u8) -> Result<Reason, UnknownNumber> {
-        let reason = Reason::ALL.get(usize::from(number)).copied();
+        let reason = BY_NUMBER.get(usize::from(number)).copied().flatten();
         reason.ok_or(UnknownNumber(number))
     }
 }
@@ -228,7 +235,6 @@ impl fmt::Display for Reason {
             Reason::NotStored => "MODIFY or DELETE while no stored entry has the key",
             Reason::TableFull => "INSERT while the table holds its size",
             Reason::SomeFailed => "some update failed",
-            Reason::StoreFull => "INSERT while the store holds 256 entries",
             Reason::RolledBack => "another update of the atomic batch failed",
         })
     }
@@ -329,12 +335,12 @@ mod tests {
 
     #[test]
     fn numbers_and_codes_are_the_documents() {
-        // By rising reason: 0 to 24 of document 01, 25 of document 02.
-        const CODES: [u8; 26] = [
-            0, 3, 8, 9, 5, 5, 5, 9, 3, 8, 7, 7, 9, 12, 3, 5, 7, 3, 11, 3, 6, 5, 8, 2, 8, 10,
+        // By rising reason: 0 to 23 of document 01, 25 of document 02.
+        const CODES: [u8; 25] = [
+            0, 3, 8, 9, 5, 5, 5, 9, 3, 8, 7, 7, 9, 12, 3, 5, 7, 3, 11, 3, 6, 5, 8, 2, 10,
         ];
         assert_eq!(Reason::ALL.len(), CODES.len());
-        for (number, code) in (0..).zip(CODES) {
+        for (number, code) in (0..24).chain([25]).zip(CODES) {
             let reason = Reason::try_from(number).unwrap();
             assert_eq!(reason.number(), number);
             assert_eq!(reason.code().number(), code, "{reason:?}");
@@ -352,12 +358,20 @@ mod tests {
             let ends = [",", " "].map(|end| header.contains(&(line.clone() + end)));
             assert!(ends.contains(&true), "{line}");
         }
+        // And it has no others.
+        let constants = header.lines().filter(|line| {
+            let line = line.trim_start();
+            line.starts_with("SAVORYLATCH_REASON_")
+        });
+        assert_eq!(constants.count(), Reason::ALL.len());
     }
 
     #[test]
     fn other_numbers_are_unknown() {
-        assert_eq!(Reason::try_from(26), Err(UnknownNumber(26)));
-        assert_eq!(Reason::try_from(255), Err(UnknownNumber(255)));
+        // 24 is free: document 02, request Five.
+        for number in [24, 26, 27, 255] {
+            assert_eq!(Reason::try_from(number), Err(UnknownNumber(number)));
+        }
         for number in [1, 4, 13, 255] {
             assert_eq!(Code::try_from(number), Err(UnknownNumber(number)));
         }

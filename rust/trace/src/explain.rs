@@ -71,7 +71,6 @@ pub fn general(reason: Reason) -> &'static str {
         Reason::NotStored => "no entry with this key is stored",
         Reason::TableFull => "the table holds as many entries as its size allows",
         Reason::SomeFailed => "an update failed; the pairs say which, and which took effect",
-        Reason::StoreFull => "the store holds 256 entries",
         Reason::RolledBack => "another update of this batch failed: undone, or not tried",
         _ => "a reason that this program does not know",
     }

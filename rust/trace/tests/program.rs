@@ -186,7 +186,7 @@ fn help_has_every_reason() {
     assert_eq!(output.status.code(), Some(0));
     for word in [
         "not-primary",
-        "store-full",
+        "table-full",
         "rolled-back       ABORTED (10) ",
         "[atomic | atomicity 0|1|2]",
         "--timeline",
@@ -197,6 +197,7 @@ fn help_has_every_reason() {
     ] {
         assert!(out(&output).contains(word), "{word}");
     }
+    assert!(!out(&output).contains("\n    24 "));
     assert_eq!(out(&run(&["--version"], &[])), "savorylatch 0.1.0\n");
 }
 

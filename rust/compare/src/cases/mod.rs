@@ -2,15 +2,17 @@
 //!
 //! A [`Case`] is a fresh agent and some calls, each with the bytes that must
 //! be answered. They come from document 01 (its bench cases and examples), from
-//! requests One and Two of document 02, and from the published examples of
-//! P4Runtime as these rules decide them. Each is played to the library, to the
-//! second implementation and to looking back; most also to the program `play`.
+//! requests One, Two and Five of document 02, and from the published examples
+//! of P4Runtime as these rules decide them. Each is played to the library, to
+//! the second implementation and to looking back; most also to the program
+//! `play`.
 
 mod arbitration;
 mod batches;
 mod deletes;
 mod document;
 mod forms;
+mod full_store;
 mod matches;
 mod reading;
 mod rollback;
@@ -54,6 +56,7 @@ pub fn all() -> Vec<Case> {
     cases.extend(batches::cases());
     cases.extend(deletes::cases());
     cases.extend(rollback::cases());
+    cases.extend(full_store::cases());
     cases
 }
 

@@ -41,7 +41,7 @@ pub const SIGHTS: &[&str] = &[
 /// is from before it.
 pub fn sights(view: &View, updates: &[Update], reasons: &[u8], aims: &[Aim]) -> Vec<&'static str> {
     let updates: Vec<Update> = updates.iter().map(short).collect();
-    match reasons.iter().position(|reason| !is_other(*reason)) {
+    match failed_at(reasons) {
         None => done(view, &updates),
         Some(failed) => {
             let mut seen = place_of_failure(updates.len(), failed, reasons[failed]);
@@ -63,9 +63,14 @@ pub fn sights(view: &View, updates: &[Update], reasons: &[u8], aims: &[Aim]) -> 
     }
 }
 
+/// The place of the update that failed, if one did.
+pub fn failed_at(reasons: &[u8]) -> Option<usize> {
+    reasons.iter().position(|&reason| !is_other(reason))
+}
+
 /// The reason that ended the batch, if one did.
 pub fn ended_by(reasons: &[u8]) -> Option<u8> {
-    reasons.iter().copied().find(|&reason| !is_other(reason))
+    failed_at(reasons).map(|at| reasons[at])
 }
 
 /// Is it that of an update which did not fail itself?

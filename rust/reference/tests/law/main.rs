@@ -1,12 +1,13 @@
-//! Document 01, and requests One and Two of document 02, as tests. Expected
-//! answers are written out from the text; every call is played to the agent and
-//! to the look-back evaluator alike.
+//! Document 01, and requests One, Two and Five of document 02, as tests.
+//! Expected answers are written out from the text; every call is played to the
+//! agent and to the look-back evaluator alike.
 
 mod bench_cases;
 mod configuration;
 mod deletes;
 mod forms;
 mod frames;
+mod full_store;
 mod lists;
 mod looking_back;
 mod reads;

@@ -29,10 +29,12 @@ fn every_reason_has_its_code() {
         (Reason::KeyAbsent, 21, 5),
         (Reason::TableFull, 22, 8),
         (Reason::SomeFailed, 23, 2),
-        (Reason::StoreFull, 24, 8),
         (Reason::BatchFailed, 25, 10),
     ];
     for (reason, number, code) in listed {
         assert_eq!((reason.number(), reason.code()), (number, code));
     }
+    // 24 is free: document 02, request Five.
+    let numbers = listed.map(|(_, number, _)| number);
+    assert!(numbers.into_iter().eq((0..=23).chain([25])));
 }

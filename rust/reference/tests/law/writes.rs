@@ -310,7 +310,7 @@ fn the_whole_store() {
     assert_eq!(answer.len(), 56_324);
     bench.shows(&read_all(DEVICE, 0, 0), &all);
     assert_eq!(bench.agent.store_image().len(), 56_320);
-    // The sizes sum to the store's, so 22 is always met before 24.
+    // The sizes add to 256: where the store is full, both tables are.
     bench.writes(
         &[
             Update::insert(plain(FIRST, 999, 0)),

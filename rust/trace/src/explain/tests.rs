@@ -78,9 +78,10 @@ fn scripts_agree() {
     for frames in scripts() {
         agree(&frames, &mut met);
     }
-    // All that a script can bring about.
-    for (number, times) in met.iter().enumerate() {
-        assert_eq!(*times > 0, ![2, 24].contains(&number), "reason {number}");
+    // All that a script can bring about: 2 is about the host's buffers.
+    for reason in Reason::ALL {
+        let times = met[usize::from(reason.number())];
+        assert_eq!(times > 0, *reason != Reason::TooShort, "{reason:?}");
     }
 }
 
@@ -97,8 +98,9 @@ fn changed_frames_agree() {
         }
         agree(&frames, &mut met);
     }
-    let rare = (0..26).filter(|&number| met[number] < 20);
-    assert_eq!(rare.collect::<Vec<_>>(), [2, 24]);
+    let rare = Reason::ALL.iter();
+    let rare = rare.filter(|reason| met[usize::from(reason.number())] < 20);
+    assert!(rare.eq(&[Reason::TooShort]));
 }
 
 /// Where the atomicity of a WRITE is.

@@ -9,7 +9,8 @@ use crate::parse::cursor::Cursor;
 use crate::parse::{values, Parser, A_ROLE, A_STREAM};
 use crate::script::{Expected, ExpectedState};
 
-const WHAT: &str = "a reason by number, 0 to 25, or name, or \
+const A_REASON: &str = "a reason by number, 0 to 23 or 25, or name";
+const WHAT: &str = "a reason by number, 0 to 23 or 25, or name, or \
                     told, pairs, primary, mark, entries, entry or stream";
 
 impl Parser<'_> {
@@ -126,7 +127,7 @@ pub fn printed(cursor: &mut Cursor) -> Result<Expected, Mistake> {
 fn pairs(cursor: &mut Cursor) -> Result<Expected, Mistake> {
     let mut reasons = Vec::new();
     while cursor.peek().is_some() {
-        reasons.push(reason(cursor, "a reason by number, 0 to 25, or name")?);
+        reasons.push(reason(cursor, A_REASON)?);
     }
     Ok(Expected::Pairs(reasons))
 }

@@ -137,6 +137,8 @@ pub struct Maker {
     /// So many calls pass before anything helps a configuration along.
     bare: usize,
     made: usize,
+    /// Was the store full when a WRITE was made?
+    was_full: bool,
     /// Entries that were made lately, to be met again.
     recent: VecDeque<Entry>,
     /// Frames that are due next: the rest of a story.
@@ -167,6 +169,7 @@ impl Maker {
             calls: mood.calls(&mut dice),
             bare: if dice.percent(25) { 60 } else { 0 },
             made: 0,
+            was_full: false,
             recent: VecDeque::new(),
             due: VecDeque::new(),
             dice,

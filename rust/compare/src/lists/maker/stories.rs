@@ -21,11 +21,13 @@ impl Maker {
             5 => self.full_table(view),
             _ => self.rolled_back(view, role),
         };
+        self.tell(frames).unwrap_or_else(|| self.open(view))
+    }
+
+    /// The first of some frames, if there is one; the others are due after it.
+    pub(super) fn tell(&mut self, frames: Vec<Vec<u8>>) -> Option<Vec<u8>> {
         self.due.extend(frames);
-        match self.due.pop_front() {
-            Some(frame) => frame,
-            None => self.open(view),
-        }
+        self.due.pop_front()
     }
 
     /// A new controller takes over, writes, steps back and leaves; the old
@@ -160,6 +162,42 @@ impl Maker {
             read_all(view.device, 0, row.table),
         ]
     }
+
+    /// A full store of several tables: one out, one too many in another table,
+    /// one in. In one WRITE, in several, and in atomic batches, which are rolled
+    /// back but for that without the one too many.
+    pub(super) fn full_store(&mut self, view: &View) -> Vec<Vec<u8>> {
+        let Some(&stored) = self.dice.choose(&view.entries) else {
+            return Vec::new();
+        };
+        let others = view.rows.iter().filter(|row| row.table != stored.table);
+        let others: Vec<Row> = others.copied().collect();
+        let (Some(row), Some(other)) = (view.row(stored.table), self.dice.choose(&others)) else {
+            return Vec::new();
+        };
+        let fresh = entries::entry(&mut self.dice, row, Spread::Wide);
+        let too_many = entries::entry(&mut self.dice, other, Spread::Wide);
+        let (out, one_in) = (Update::delete(stored), Update::insert(fresh));
+        let too_many = Update::insert(too_many);
+        let head = self.primary_head(view, 0);
+        let batches: [(u8, &[Update]); 7] = [
+            (0, &[too_many, out, too_many, one_in]),
+            // And back.
+            (0, &[Update::delete(fresh)]),
+            (0, &[too_many]),
+            (0, &[Update::insert(stored)]),
+            (1, &[too_many]),
+            (1, &[out, too_many, one_in]),
+            (1, &[out, one_in]),
+        ];
+        let mut frames: Vec<Vec<u8>> = batches
+            .iter()
+            .map(|(atomicity, updates)| write(head, *atomicity, updates))
+            .collect();
+        frames.push(read_all(view.device, 0, 0));
+        frames
+    }
+
     /// READs, a batch that is rolled back, the same READs; then the batch as
     /// far as it came, or under another atomicity.
     fn rolled_back(&mut self, view: &View, role: u8) -> Vec<Vec<u8>> {

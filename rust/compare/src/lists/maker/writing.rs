@@ -124,6 +124,14 @@ impl Maker {
     }
 
     pub(super) fn write(&mut self, view: &View, aims: &mut Vec<Aim>) -> Vec<u8> {
+        // The first time that the store is full, and now and then later.
+        if view.entries.len() == 256 && (!self.was_full || self.dice.percent(12)) {
+            self.was_full = true;
+            let frames = self.full_store(view);
+            if let Some(frame) = self.tell(frames) {
+                return frame;
+            }
+        }
         let filling = self.mood == Mood::Flood && view.entries.len() <= 200;
         let atomic = if filling { 8 } else { 25 };
         if !view.rows.is_empty() && self.dice.percent(atomic) {
