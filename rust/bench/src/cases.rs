@@ -89,6 +89,7 @@ pub fn table() -> Vec<Case> {
         entries::write(Keys::Early),
         entries::write(Keys::Late),
         entries::write_four_slots(),
+        entries::write_full(),
         atomic::all(),
         entries::read_many(),
         entries::read_key(),

@@ -4,7 +4,7 @@ use reference::bytes::{self, Entry, Update};
 
 use super::keys::TABLE;
 use super::state::{batch, eight_tables, modifies, single, stored, BATCH, DEVICE};
-use super::{Case, Frame, Keys, ENTRY, FULL};
+use super::{state, Case, Frame, Keys, ENTRY, FULL};
 
 /// WRITE into one table.
 pub fn write(keys: Keys) -> Vec<Case> {
@@ -47,6 +47,21 @@ pub fn write_four_slots() -> Vec<Case> {
     ];
     cases.extend(deletes_at_the_end(keys));
     cases
+}
+
+/// WRITE where the store is full and its entries are of eight tables.
+pub fn write_full() -> Vec<Case> {
+    let keys = Keys::Late;
+    let too_many = |number| Update::insert(keys.entry_in(TABLE + 3, number, 7));
+    let case = |name, count| {
+        let updates: Vec<Update> = (32..32 + count).map(too_many).collect();
+        let case = Case::new("WRITE", name, eight_tables(true)).keys(keys);
+        case.pairs(count, 22).timed(vec![state::write(&updates)])
+    };
+    vec![
+        case("1 INSERT, store full, 8 tables: 22", 1),
+        case("64 INSERTs, store full, 8 tables: 22 each", BATCH),
+    ]
 }
 
 /// READ of more than one entry.
