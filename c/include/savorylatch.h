@@ -190,7 +190,7 @@ enum savorylatch_reason {
     SAVORYLATCH_REASON_TABLE_FULL = 22,    /* INSERT, and the table holds its size (8) */
     SAVORYLATCH_REASON_SOME_FAILED = 23,   /* of a WRITE that was not refused: an update failed, and the pairs say which and why; with
                                               atomicity 1 nothing of the batch took effect (2) */
-    /* 24 is free: document 02, request Five */
+    /* there is no 24: it was for a full store, where every table is full and 22 is given */
     SAVORYLATCH_REASON_ROLLED_BACK = 25    /* an update of an atomic batch in which another failed: undone, or never tried (10) */
 };
 

@@ -6,8 +6,8 @@ use std::fmt;
 /// Why a call, or an update of a WRITE, was refused.
 ///
 /// The discriminant is the number that stands in the answer, and [`Display`](fmt::Display) gives
-/// the condition in a few words. Later commands may add reasons. 24 is free: document 02, request
-/// Five.
+/// the condition in a few words. Later commands may add reasons. There is no 24: it was for a full
+/// store, where every table is full and 22 is given.
 ///
 /// ```
 /// use savorylatch::{Code, Reason};
