@@ -1,5 +1,4 @@
 -- Laws of batches: of updates that each succeed or fail alone, and of all or none.
 pub mod EachAlone
 pub mod AllOrNone
-pub mod ByRules
 pub mod Taking

@@ -20,7 +20,7 @@ use Rattle.store.specs.Store.{entriesIn, tablesIn}
 use Rattle.store.specs.declared.Tables.{Tables as Held}
 use Rattle.judging.specs.Verdict.{judgeIn}
 use Rattle.batches.specs.declared.Taken.{Taken}
-use Rattle.batches.specs.Batch.{updatesIn, judgedInTurn, BatchApplied}
+use Rattle.batches.specs.Batch.{updatesIn, batchIn, BatchApplied}
 use Rattle.batches.specs.Rollback.{RolledBack}
 use Rattle.batches.specs.Step.{Stepped}
 use Rattle.batches.proofs.EachAlone.{TakenSoFar, taken-start, taken-next, taken-end, flagged}
@@ -46,8 +46,8 @@ module _ (rows : List Row) (role atomicity : ℕ) (tables : Held) (n : ℕ) (us 
 
   module _ {store log answer : List ℕ} {held : Held} {failed : Bool} {i : ℕ} (b : Taking store log answer held failed i) where
     pub taking-end : n ≤ i → Distinct (entriesIn tables start)
-        → BatchApplied (judgedInTurn atomicity rows role n us (tablesIn tables start)) start store (record { tables = held; failed = failed })
-        × (answer ≡ splice out 0 (concat (map pairOf (judgedInTurn atomicity rows role n us (tablesIn tables start) .reasons))))
+        → BatchApplied (batchIn atomicity rows role n us (tablesIn tables start)) start store (record { tables = held; failed = failed })
+        × (answer ≡ splice out 0 (concat (map pairOf (batchIn atomicity rows role n us (tablesIn tables start) .reasons))))
     taking-end h t =
         let none : drop i (parts n 221 us) ≡ [] = drop-of-length-le (parts n 221 us) {i = i} (omega (arith, parts-count n 221 us)) in
         let e = taken-end rows role (rw none at (b .each t)) in
@@ -88,7 +88,7 @@ module _ (rows : List Row) (role atomicity : ℕ) (tables : Held) (n : ℕ) (us 
       -- it stops the batch, and what was done is undone
       module _ (one : atomicity ≡ 1) (own : r .reason ≡ 0 → ⊥) (t : Distinct (entriesIn tables start)) where
         pub taking-stop : {back : List ℕ} {m : Held} → RolledBack i log′ us (r .tables) after back m
-            → BatchApplied (judgedInTurn atomicity rows role n us (tablesIn tables start)) start back (record { tables = m; failed = true })
+            → BatchApplied (batchIn atomicity rows role n us (tablesIn tables start)) start back (record { tables = m; failed = true })
         taking-stop {back} {m} u =
             let p = rw (parts-from i n 221 us less) at (b .passed one t) in
             let kept = lent .refused own in
@@ -99,7 +99,7 @@ module _ (rows : List Row) (role atomicity : ℕ) (tables : Held) (n : ℕ) (us 
 
         pub stop-pairs : {anew : List ℕ} → anew ≡ splice answer′ 0 (concat (map pairOf (rolledBack n (i, r .reason))))
             → drop (2 * n) answer′ ≡ drop (2 * n) out
-            → anew ≡ splice out 0 (concat (map pairOf (judgedInTurn atomicity rows role n us (tablesIn tables start) .reasons)))
+            → anew ≡ splice out 0 (concat (map pairOf (batchIn atomicity rows role n us (tablesIn tables start) .reasons)))
         stop-pairs w e =
             let p = rw (parts-from i n 221 us less) at (b .passed one t) in
             rolled-pairs rows role tables n us start one (passed-fails rows role p (stepped .reason) own) out answer′ w e

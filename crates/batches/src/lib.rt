@@ -11,7 +11,7 @@ ghost use Rattle.rules.specs.Call.{pairOf};
 ghost use Rattle.buffers.specs.Splice.{splice};
 ghost use Rattle.rows.specs.Meaning.{rowsSize, rowsIn};
 ghost use Rattle.judging.specs.Verdict.{Possible};
-ghost use Rattle.batches.specs.Batch.{ruled, judgedInTurn, StoreLeft, Pairs, Apart, SoundUnder};
+ghost use Rattle.batches.specs.Batch.{batchIn, StoreLeft, Pairs};
 ghost use Rattle.batches.specs.Rollback.{NotesFit, NotedAt, RolledBack};
 ghost use Rattle.batches.specs.Step.{Sized, Stepped};
 use judging::Verdict;
@@ -156,11 +156,9 @@ fn take(
 ) -> Written
     requires { ⌜ (length (now rows) ≡ rowsSize) × Sized tables (now store) × (length (now updates) ≡ updateSize * n)
         × (2 * n ≤ length (now answer)) × NotesFit atomicity n (now log) ⌝ }
-    ensures left { λ r. ⌜ StoreLeft (Apart tables (now (store .entry)))
-        (judgedInTurn atomicity (rowsIn count (now (rows .entry))) role n (now (updates .entry))) tables
+    ensures left { λ r. ⌜ StoreLeft (batchIn atomicity (rowsIn count (now (rows .entry))) role n (now (updates .entry))) tables
         (now (store .entry)) (now (store .exit)) r ⌝ }
-    ensures pairs { λ _. ⌜ Pairs (Apart tables (now (store .entry)))
-        (judgedInTurn atomicity (rowsIn count (now (rows .entry))) role n (now (updates .entry))) tables
+    ensures pairs { λ _. ⌜ Pairs (batchIn atomicity (rowsIn count (now (rows .entry))) role n (now (updates .entry))) tables
         (now (store .entry)) (now (answer .entry)) (now (answer .exit)) ⌝ }
 {
     let mut held = tables;
@@ -215,10 +213,9 @@ pub fn batch(
 ) -> Written
     requires { ⌜ (length (now rows) ≡ rowsSize) × (held .count ≤ 256) × (56320 ≤ length (now store))
         × (length (now updates) ≡ updateSize * n) × (n ≤ 64) × (2 * n ≤ length (now answer)) ⌝ }
-    ensures left { λ r. ⌜ StoreLeft (SoundUnder (rowsIn t (now (rows .entry))) held (now (store .entry)))
-        (ruled atomicity (rowsIn t (now (rows .entry))) role n (now (updates .entry))) held (now (store .entry)) (now (store .exit)) r ⌝ }
-    ensures pairs { λ _. ⌜ Pairs (SoundUnder (rowsIn t (now (rows .entry))) held (now (store .entry)))
-        (ruled atomicity (rowsIn t (now (rows .entry))) role n (now (updates .entry))) held
+    ensures left { λ r. ⌜ StoreLeft (batchIn atomicity (rowsIn t (now (rows .entry))) role n (now (updates .entry))) held
+        (now (store .entry)) (now (store .exit)) r ⌝ }
+    ensures pairs { λ _. ⌜ Pairs (batchIn atomicity (rowsIn t (now (rows .entry))) role n (now (updates .entry))) held
         (now (store .entry)) (now (answer .entry)) (now (answer .exit)) ⌝ }
 {
     if atomicity != 1 {

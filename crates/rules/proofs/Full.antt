@@ -3,7 +3,7 @@
 use Prim.Native.Nat.{ℕ, zero, suc, _+_, _*_, _<_}
 use mathlib.Core.Path.{_≡_, refl, sym, _∙_, ap, subst}
 use mathlib.Core.Bool.{Bool, true, false, _&&_, not}
-use mathlib.Core.Logic.{_⊎_, inl, inr, ⊎-elim}
+use mathlib.Core.Logic.{⊎-elim}
 use mathlib.Core.Option.{Option, none, some}
 use mathlib.Core.List.{List, [], _∷_, map}
 use native.Mathlib.Omega.{arith}
@@ -12,15 +12,13 @@ use lib.ListN.{length, take, drop, set, replicate}
 use borrow.Author.Tests.{eqb-true, eqb-false, ne-eqb, leb-false, lt-leb, not-false, not-true}
 use Rattle.rules.specs.Bytes.{if_then_else_, byte, every, concat, bytesOf}
 use Rattle.rules.specs.Reason.{first, codeOf}
-use Rattle.rules.specs.Frame.{Head, Update, Command, tooShort, malformed, OPEN, CLOSE, ARBITRATE}
-use Rattle.rules.specs.Frame.{CONFIGURE, WRITE, READ, onStreams, onPipeline, onTables}
-use Rattle.rules.specs.Streams.{openStream, closeStream, arbitrate}
+use Rattle.rules.specs.Frame.{Head, Update, Command, tooShort, malformed, WRITE, READ, onStreams, onPipeline, onTables}
 use Rattle.rules.specs.Row.{Row, rowsAllowed, known, rowFor}
 use Rattle.rules.specs.Key.{tableOf}
 use Rattle.rules.specs.Update.{Tables, Judge, isInsert, held, updateOrder, judgeBy, judge, apply, Batch}
 use Rattle.rules.specs.Update.{eachAlone, oneFurther, failure, unlessFailed, allOrNone, batch}
-use Rattle.rules.specs.Answer.{Answer, answerBytes, replyOf}
-use Rattle.rules.specs.Call.{State, fresh, writeReason, readReason, plain, pairOf, TableOutcome, batchOf}
+use Rattle.rules.specs.Answer.{answerBytes, replyOf}
+use Rattle.rules.specs.Call.{State, fresh, pairOf, TableOutcome}
 use Rattle.rules.specs.Call.{tableCommand, refusal, accepted, nextControl, nextTables, next, answer, reply, commandOf, run}
 use Rattle.rules.specs.Agreement.{commandsOf, replyAfter, pairAt}
 use Rattle.rules.specs.Sound.{SoundTables, Sound}
@@ -34,7 +32,7 @@ use Rattle.rules.proofs.Counting.{sizes-fit, room-left}
 use Rattle.rules.proofs.Tables.{row-table, apply-sound, alone-sound}
 use Rattle.rules.proofs.Sound.{next-sound, sound, fresh-agent}
 use Rattle.rules.proofs.Sizes.{reasons-count}
-use Rattle.rules.proofs.LookBack.{at-most-19}
+use Rattle.rules.proofs.LookBack.{at-most-19, returned-own}
 
 -- ---- two judges that agree where the tables are sound
 
@@ -197,30 +195,9 @@ pair-not-24 s h atomicity us a i l e = go (every (eqb 0) reasons) (rw a at e)
     go true q = written 0 q
     go false q = written 23 q
 
--- no call returns it: its own reason, up to 19, or 23
-own-or-23 : (r : ℕ) (a : Answer) → (a .reason ≡ 0) ⊎ (a .reason ≡ 23) → (b : Bool) → eqb r 0 ≡ b
-    → ((if b then a else plain r) .reason ≡ r) ⊎ ((if b then a else plain r) .reason ≡ 23)
-own-or-23 r a h true q = ⊎-elim (λ e. inl (e ∙ sym (eqb-true r 0 q))) (λ e. inr e) h
-own-or-23 r a h false q = inl refl
-
-returned-own : (s : State) (c : Command) → (reply s c .returned ≡ refusal s c) ⊎ (reply s c .returned ≡ 23)
-unfolding reply replyOf answer refusal openStream closeStream arbitrate
-returned-own s tooShort = inl refl
-returned-own s malformed = inl refl
-returned-own s (onStreams (OPEN n)) = inl refl
-returned-own s (onStreams (CLOSE n)) = inl refl
-returned-own s (onStreams (ARBITRATE n h)) = inl refl
-returned-own s (onPipeline (CONFIGURE h rows)) = inl refl
-returned-own s (onTables (WRITE h atomicity us)) =
-    own-or-23 (writeReason (s .control) h atomicity) _ (head (every (eqb 0) (batchOf s h atomicity us .reasons))) _ refl
-  where
-    head : (b : Bool) → (_≡_ {A = ℕ} (if b then 0 else 23) 0) ⊎ (_≡_ {A = ℕ} (if b then 0 else 23) 23)
-    head true = inl refl
-    head false = inr refl
-returned-own s (onTables (READ q)) = own-or-23 (readReason (s .control) q) _ (inl refl) _ refl
-
+-- no call returns it: its own reason is up to 19, or it is 23
 not-returned : (s : State) (c : Command) → reply s c .returned ≡ 24 → ⊥
-not-returned s c e = ⊎-elim (λ q. omega (arith, at-most-19 s c)) (λ q. omega arith) (returned-own s c)
+not-returned s c e = ⊎-elim (λ q. omega (arith, at-most-19 s c)) (λ q. omega (arith, q .0)) (returned-own s c)
 
 -- ---- calls, and lists of them
 

@@ -350,38 +350,43 @@ at-most-19 s (onPipeline (CONFIGURE h rows)) = first-most 19 _ refl
 at-most-19 s (onTables (WRITE h atomicity us)) = first-most 19 _ refl
 at-most-19 s (onTables (READ q)) = first-most 19 _ refl
 
--- a call that answers its own reason
-its-reason : (s : State) (c : Command) (r : ℕ) → r ≡ refusal s c → ((r ≡ 0) ⊎ (r ≡ 23)) ↔ (accepted s c ≡ true)
-its-reason s c r q = (
-  λ h. ⊎-elim (λ e. eq-eqb (refusal s c) 0 (sym q ∙ e)) (λ e. absurd (omega (arith, at-most-19 s c))) h,
-  λ h. inl (q ∙ eqb-true (refusal s c) 0 h),
-)
+-- A call returns the reason under which it is refused; or 23, where it is accepted.
+abbrev OwnOr23 : State → Command → ℕ → Type 0
+OwnOr23 s c r = (r ≡ refusal s c) ⊎ ((r ≡ 23) × (accepted s c ≡ true))
 
--- one that answers 0 or 23 where it is accepted, and its own reason else
-one-of-two : (s : State) (c : Command) (a : Answer) → (a .reason ≡ 0) ⊎ (a .reason ≡ 23)
-    → (b : Bool) → accepted s c ≡ b
-    → (((if b then a else plain (refusal s c)) .reason ≡ 0) ⊎ ((if b then a else plain (refusal s c)) .reason ≡ 23)) ↔ (accepted s c ≡ true)
-one-of-two s c a h true q = (λ w. q, λ w. h)
-one-of-two s c a h false q = its-reason s c (refusal s c) refl
+own-or-23 : (s : State) (c : Command) (a : Answer) → (a .reason ≡ 0) ⊎ (a .reason ≡ 23) → (b : Bool) → accepted s c ≡ b
+    → OwnOr23 s c ((if b then a else plain (refusal s c)) .reason)
+own-or-23 s c a h true q = ⊎-elim (λ e. inl (e ∙ sym (eqb-true (refusal s c) 0 q))) (λ e. inr (e, q)) h
+own-or-23 s c a h false q = inl refl
 
-pub returned-accepted : (s : State) (c : Command) → ((reply s c .returned ≡ 0) ⊎ (reply s c .returned ≡ 23)) ↔ (accepted s c ≡ true)
+pub returned-own : (s : State) (c : Command) → OwnOr23 s c (reply s c .returned)
 unfolding reply replyOf answer refusal openStream closeStream arbitrate
-returned-accepted s tooShort = its-reason s tooShort 2 refl
-returned-accepted s malformed = its-reason s malformed 1 refl
-returned-accepted s (onStreams (OPEN n)) = its-reason s (onStreams (OPEN n)) _ refl
-returned-accepted s (onStreams (CLOSE n)) = its-reason s (onStreams (CLOSE n)) _ refl
-returned-accepted s (onStreams (ARBITRATE n h)) = its-reason s (onStreams (ARBITRATE n h)) _ refl
-returned-accepted s (onPipeline (CONFIGURE h rows)) = its-reason s (onPipeline (CONFIGURE h rows)) _ refl
-returned-accepted s (onTables (WRITE h atomicity us)) =
-    one-of-two s (onTables (WRITE h atomicity us)) _
+returned-own s tooShort = inl refl
+returned-own s malformed = inl refl
+returned-own s (onStreams (OPEN n)) = inl refl
+returned-own s (onStreams (CLOSE n)) = inl refl
+returned-own s (onStreams (ARBITRATE n h)) = inl refl
+returned-own s (onPipeline (CONFIGURE h rows)) = inl refl
+returned-own s (onTables (WRITE h atomicity us)) =
+    own-or-23 s (onTables (WRITE h atomicity us)) _
     (head-reason (every (eqb 0) (batch atomicity (judge (s .control .rows) (h .role)) (s .tables) us .reasons)))
     (accepted s (onTables (WRITE h atomicity us))) refl
   where
     head-reason : (b : Bool) → _≡_ {A = ℕ} (if b then 0 else 23) 0 ⊎ _≡_ {A = ℕ} (if b then 0 else 23) 23
     head-reason true = inl refl
     head-reason false = inr refl
-returned-accepted s (onTables (READ q)) =
-    one-of-two s (onTables (READ q)) (record { reason = 0; records = shown s q }) (inl refl) (accepted s (onTables (READ q))) refl
+returned-own s (onTables (READ q)) =
+    own-or-23 s (onTables (READ q)) (record { reason = 0; records = shown s q }) (inl refl) (accepted s (onTables (READ q))) refl
+
+pub returned-accepted : (s : State) (c : Command) → ((reply s c .returned ≡ 0) ⊎ (reply s c .returned ≡ 23)) ↔ (accepted s c ≡ true)
+returned-accepted s c = go (reply s c .returned) (returned-own s c)
+  where
+    go : (r : ℕ) → OwnOr23 s c r → ((r ≡ 0) ⊎ (r ≡ 23)) ↔ (accepted s c ≡ true)
+    go r (inl q) = (
+      λ h. ⊎-elim (λ e. eq-eqb (refusal s c) 0 (sym q ∙ e)) (λ e. absurd (omega (arith, at-most-19 s c))) h,
+      λ h. inl (q ∙ eqb-true (refusal s c) 0 h),
+    )
+    go r (inr q) = (λ h. q .1, λ h. inr (q .0))
 
 -- ---- a batch that was rolled back
 

@@ -1,11 +1,11 @@
 -- A WRITE: its order, what its batch leaves, and its answer. Assumes nothing.
-use Prim.Native.Nat.{ℕ, _-_, _≤_}
+use Prim.Native.Nat.{ℕ, _+_, _-_, _*_, _≤_}
 use native.Mathlib.Omega.{arith}
 use mathlib.Core.Path.{_≡_, refl, sym, ap, _∙_, subst}
 use mathlib.Core.Bool.{Bool, true, false, not, true≢false}
 use mathlib.Core.List.{List, [], _∷_, _++_, map}
 use lib.Dec.{eqb, ltb}
-use lib.ListN.{length, take, drop, length-map}
+use lib.ListN.{length, take, drop, length-map, length-drop}
 use borrow.Rule.Slice.PartMut.{putMid}
 use borrow.Author.Tests.{eq-eqb}
 use Rattle.rules.specs.Bytes.{if_then_else_, every, bytesOf, parts, concat}
@@ -15,13 +15,15 @@ use Rattle.rules.specs.Streams as streams
 use Rattle.rules.specs.Answer.{Answer, answerBytes}
 use Rattle.rules.specs.Call.{unconfigured, writeReason, refusal, nextControl, nextTables, next, batchOf, pairOf, headReason, answer}
 use Rattle.rules.specs.Update.{Batch}
-use Rattle.rules.proofs.Formed.{parts-count}
+use Rattle.rules.specs.Sound.{Sound}
+use Rattle.rules.proofs.Formed.{parts-count, parts-lengths, whole-updates}
+use Rattle.rules.proofs.Full.{batch-full}
 use Rattle.rules.proofs.Lists.{rest-all}
 use Rattle.rules.proofs.Sizes.{reasons-count}
 use Rattle.buffers.specs.Splice.{splice}
 use Rattle.batches.specs.declared.Written.{Written}
 use Rattle.store.specs.Store.{tablesIn}
-use Rattle.batches.specs.Batch.{updatesIn, ruled, BatchApplied, StoreLeft, Pairs, SoundUnder}
+use Rattle.batches.specs.Batch.{updatesIn, batchIn, BatchApplied, StoreLeft, Pairs}
 use Rattle.answers.proofs.AnswerBytes.{replies, fills, records-then-head}
 use Rattle.calls.specs.Contract.{Correct}
 use Rattle.memory.specs.declared.Agent.{Agent}
@@ -75,25 +77,32 @@ module _ (a : Agent) (h : Head) (atomicity : ℕ) where
       ∙ reasons-count atomicity (controlOf a .rows) (h .role) (tablesIn (a .tables) store) (updatesIn n l)
       ∙ length-map (parts n updateSize l) updateOf ∙ parts-count n updateSize l)
 
+  -- where the tables are sound, an INSERT that passes 22 finds room: what the code makes of the updates is what the rules do
+  by-rules : (n : ℕ) (l store : List ℕ) → updateSize * n ≤ length l → Sound (flat a store)
+      → batchIn atomicity (controlOf a .rows) (h .role) n l (tablesIn (a .tables) store) ≡ batched (updatesIn n l) store
+  by-rules n l store room k =
+      batch-full 2 (controlOf a .rows) (h .role) (k .rows) atomicity (tablesIn (a .tables) store) (updatesIn n l)
+      (whole-updates (parts n updateSize l) (parts-lengths n updateSize l (omega arith))) (k .tables)
+
   -- a batch was taken, its pairs from byte 4 on, and then the head was written
-  pub batch-written : (n : ℕ) (f store store′ d p out : List ℕ) (reason : ℕ) (w : Written) → 4 ≤ length d
+  pub batch-written : (n : ℕ) (f store store′ d p out : List ℕ) (reason : ℕ) (w : Written) → 4 ≤ length d → length f ≡ 29 + updateSize * n
       → writeReason (controlOf a) h atomicity ≡ 0
-      → StoreLeft (SoundUnder (controlOf a .rows) (a .tables) store)
-      (ruled atomicity (controlOf a .rows) (h .role) n (take (length f - 29) (drop 29 f))) (a .tables) store store′ w
-      → Pairs (SoundUnder (controlOf a .rows) (a .tables) store)
-      (ruled atomicity (controlOf a .rows) (h .role) n (take (length f - 29) (drop 29 f))) (a .tables) store
+      → StoreLeft (batchIn atomicity (controlOf a .rows) (h .role) n (take (length f - 29) (drop 29 f))) (a .tables) store store′ w
+      → Pairs (batchIn atomicity (controlOf a .rows) (h .role) n (take (length f - 29) (drop 29 f))) (a .tables) store
       (take (length d - 4) (drop 4 d)) p
       → length p ≡ length (take (length d - 4) (drop 4 d)) → reason ≡ (if w .failed then 23 else 0)
       → out ≡ splice (putMid 4 (length d - 4) d p) 0 (reason ∷ codeOf reason ∷ bytesOf 2 n)
       → Handles (memory a store) (onTables (WRITE h atomicity (updatesIn n (drop 29 f)))) d (result (withTables a (w .tables)) reason store′ out)
-  batch-written n f store store′ d p out reason w room e left pairs same told o =
+  batch-written n f store store′ d p out reason w room whole e left pairs same told o =
       flat-handles a (onTables (WRITE h atomicity (updatesIn n (drop 29 f)))) store d (λ k.
-      let lent : take (length f - 29) (drop 29 f) ≡ drop 29 f = rest-all 29 f in
+      let done : batchIn atomicity (controlOf a .rows) (h .role) n (take (length f - 29) (drop 29 f)) (tablesIn (a .tables) store)
+      ≡ batched (updatesIn n (drop 29 f)) store =
+      ap (λ (l : List ℕ). batchIn atomicity (controlOf a .rows) (h .role) n l (tablesIn (a .tables) store)) (rest-all 29 f)
+      ∙ by-rules n (drop 29 f) store (omega (arith, whole, length-drop 29 f)) k in
       was-written (updatesIn n (drop 29 f)) store store′ d out reason w e
-      (subst (λ (l : List ℕ). BatchApplied (batched (updatesIn n l) store) store store′ w) lent (left (k .rows, k .tables)))
+      (subst (λ (b : Batch). BatchApplied b store store′ w) done (left (k .tables .distinct)))
       told
       (records-then-head reason n (map pairOf (batched (updatesIn n (drop 29 f)) store .reasons)) d p out room
       (pairs-count n (drop 29 f) store) same
-      (pairs (k .rows, k .tables)
-      ∙ ap (λ (l : List ℕ). splice (take (length d - 4) (drop 4 d)) 0 (concat (map pairOf (batched (updatesIn n l) store .reasons)))) lent)
+      (pairs (k .tables .distinct) ∙ ap (λ (b : Batch). splice (take (length d - 4) (drop 4 d)) 0 (concat (map pairOf (b .reasons)))) done)
       o))

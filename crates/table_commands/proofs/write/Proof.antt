@@ -131,7 +131,7 @@ returns-2 c =
     let g = c .before .before .before .before .before .head-reason in
     let h = c .before .before .before .write-head2 in
     batch-written (a .agent) (headOf (a .head)) (a .atomicity) (a .n) (now (a .frame)) (now (a .store)) (b .last .1 .1 .1 .1 .0) (now (a .answer))
-    (b .last .1 .1 .1 .1 .1 .1 .1 .1 .0) (h .last .1 .1 .0) (g .result) (b .result) (omega (arith, s .pre .3))
+    (b .last .1 .1 .1 .1 .1 .1 .1 .1 .0) (h .last .1 .1 .0) (g .result) (b .result) (omega (arith, s .pre .3)) (s .pre .0 .1)
     (accepted (e .before .before .before .before .before .before .before .before))
     (b .ensures .0) (b .ensures .1) (b .kept .1 .1 .1 .1 .1 .1 .1 .1 .0) (g .ensures) (h .ensures)
 
