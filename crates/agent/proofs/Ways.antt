@@ -8,23 +8,19 @@ use mathlib.Core.List.{List}
 use lib.Dec.{leb}
 use lib.ListN.{length}
 use borrow.Author.Tests.{leb-true}
-use Rattle.rules.specs.Bytes.{if_then_else_, bytesOf}
-use Rattle.rules.specs.Reason.{codeOf}
 use Rattle.rules.specs.Frame as rules
 use Rattle.rules.specs.Frame.{Command, tooShort, malformed, onStreams, onPipeline, readFrame}
 use Rattle.rules.specs.Streams.{event}
 use Rattle.rules.specs.Answer.{answerBytes, replyOf}
-use Rattle.rules.specs.Update.{Tables}
-use Rattle.rules.specs.Call.{Control, State, longEnough, commandOf, pipelineCommand, eventAnswer, plain, refusal, nextControl, nextTables, next}
+use Rattle.rules.specs.Call.{Control, State, longEnough, commandOf, pipelineCommand, eventAnswer, plain, nextControl, nextTables, next}
 use Rattle.rules.specs.Call.{answer, reply}
 use Rattle.rules.specs.Sound.{Sound}
 use Rattle.rules.proofs.Refused.{pipeline-refused}
 use Rattle.rules.proofs.Tests.{and-true}
 use Rattle.buffers.specs.Splice.{splice}
-use Rattle.answers.proofs.AnswerBytes.{head-alone}
 use Rattle.arbitration.specs.declared.Outcome.{Outcome}
 use Rattle.arbitration.specs.Meaning.{streamsOf, outcomeOf}
-use Rattle.calls.specs.Contract.{Memory, Result, Correct, Contract}
+use Rattle.calls.specs.Contract.{Result, Correct, Contract}
 use Rattle.memory.specs.declared.Agent.{Agent}
 use Rattle.memory.specs.Layout.{controlOf, Flat, memory, input, result}
 use Rattle.memory.specs.Handles.{atTables, Handles, withStreams, withConfiguration}

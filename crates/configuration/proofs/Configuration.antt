@@ -1,23 +1,20 @@
 -- A configuration is allowed where each row is so by itself and their tables and sizes are so together; allowed rows have counts
 -- that fit, so that they are held as the rules read them. Assumes nothing.
-use Prim.Native.Nat.{ℕ, zero, suc, _+_, _*_, _-_, _≤_, _<_}
-use native.Mathlib.Omega.{arith}
+use Prim.Native.Nat.{ℕ, _+_, _*_, _-_, _≤_, _<_}
 use mathlib.Core.Path.{_≡_, refl, sym, ap, _∙_}
-use mathlib.Core.Bool.{Bool, true, false, _&&_, and-assoc, and-comm}
+use mathlib.Core.Bool.{Bool, true, _&&_, and-assoc, and-comm}
 use mathlib.Core.List.{List, [], _∷_, map, map-map}
-use lib.Dec.{eqb, leb, ltb, lit≤}
+use lib.Dec.{eqb, leb, lit≤}
 use lib.ListN.{length, drop, length-map}
-use lib.Seq.{getD-drop}
-use borrow.Author.Tests.{ltb-true, ltb-false, eqb-true}
-use Rattle.rules.specs.Bytes.{between, every, sum, distinct, byte, part, parts, int, number, allZero}
+use Rattle.rules.specs.Bytes.{between, every, sum, distinct, byte, part, parts, int, number}
 use Rattle.rules.specs.Frame.{rowSize}
 use Rattle.rules.specs.Row as rules
 use Rattle.rules.proofs.Tests.{and-true, both-true}
 use Rattle.rules.proofs.Formed.{parts-count}
-use Rattle.rules.proofs.Lists.{every-map, part-part, byte-part}
+use Rattle.rules.proofs.Lists.{every-map, part-part}
 use Rattle.rows.specs.Meaning.{rowOf, countsFit}
 use Rattle.configuration.specs.Passing.{ids, rowsPass, tableSizes}
-use Rattle.rows.proofs.Bytes.{int-first, every-part, every-parts, column-next, column-none, passOnce}
+use Rattle.rows.proofs.Bytes.{int-first, column-next, column-none, passOnce}
 use Rattle.configuration.proofs.OneRow.{every-both}
 use Rattle.rows.proofs.Records.{fewParameters, rows-held}
 

@@ -31,8 +31,9 @@ reasonOf Insert = 0
 reasonOf (Modify i) = 0
 reasonOf (Delete i) = 0
 
--- How the code judges: as the rules do, and an INSERT for which the store is too short is refused with 2. No list of calls leaves a
--- record in which it finds its table below its size and yet no room: there the two are the same (rules/proofs/Full: batch-full).
+-- How the code judges: as the rules do, but for an INSERT that the rules let through and the store has no room for, which is refused
+-- with 2. No list of calls leaves a record where that happens: wherever the tables are sound, code and rules judge alike
+-- (rules/proofs/Full: batch-full).
 abbrev pub judgeIn : List Row → ℕ → Judge
 judgeIn rows role = judgeFull 2 rows role
 

@@ -4,7 +4,7 @@ use Prim.Native.Nat.{ℕ, zero, suc, _+_, _*_, _^_, _≤_, _<_}
 use native.Mathlib.Nat.{add-comm, mul-suc}
 use native.Mathlib.Numerals.{add-one}
 use native.Mathlib.Omega.{arith}
-use mathlib.Core.Path.{_≡_, refl, sym, ap, ap₂, _∙_}
+use mathlib.Core.Path.{_≡_, refl, sym, ap, _∙_}
 use mathlib.Core.List.{List, [], _∷_, map}
 use mathlib.Core.Bool.{Bool, true, false, _&&_, and-false}
 use lib.Dec.{eqb}
@@ -12,7 +12,7 @@ use lib.ListN.{length, take, drop, getD, length-map, drop-of-length-le}
 use lib.Seq.{take-take, drop-drop}
 use Rattle.rules.specs.Bytes.{every, some-of, distinct, part, parts, int, number}
 use Rattle.rules.proofs.Formed.{parts-count}
-use Rattle.rules.proofs.Lists.{drop-map, parts-from, part-part}
+use Rattle.rules.proofs.Lists.{drop-map, parts-from}
 use Rattle.rules.proofs.Tests.{and-true, both-true}
 use Rattle.numbers.proofs.Bytes.{int-none, int-next, below-next}
 

@@ -3,9 +3,9 @@
 use Prim.Native.Nat.{ℕ, zero, suc, _+_, _*_, min, _≤_, _<_}
 use native.Mathlib.Omega.{arith}
 use mathlib.Core.Path.{_≡_, refl, sym, ap, _∙_}
-use mathlib.Core.Bool.{true, false, _||_}
+use mathlib.Core.Bool.{_||_}
 use mathlib.Core.List.{List, [], _∷_, map}
-use lib.ListN.{length, take, drop, length-map, length-take, drop-of-length-le}
+use lib.ListN.{take, drop, length-map, length-take, drop-of-length-le}
 use lib.Seq.{drop-drop}
 use lib.Dec.{eqb, eqb·suc-zero, lit≤}
 use Rattle.rules.specs.Bytes.{if_then_else_, int, part, parts}

@@ -1,7 +1,7 @@
 -- What the values of this crate mean in the rules' terms. Assumes nothing.
 use mathlib.Core.Bool.{Bool, _&&_}
 use mathlib.Core.List.{List, map}
-use Prim.Native.Nat.{ℕ, _*_}
+use Prim.Native.Nat.{ℕ}
 use lib.Dec.{leb}
 use lib.ListN.{take}
 use Rattle.rules.specs.Bytes.{every, byte, int, parts}

@@ -3,7 +3,7 @@ use mathlib.Core.Path.{refl}
 use mathlib.Core.List.{List, [], _∷_, _++_, map}
 use Prim.Native.Nat.{ℕ}
 use Rattle.rules.specs.Key.{exact}
-use Rattle.rules.specs.Sample.{open!, row, leading, configured, done, Each, InTurn, all}
+use Rattle.rules.specs.Sample.{open!, row, leading, configured, done, all}
 use Rattle.rules.specs.EntryCases.{tables, stocked, four16, padded, zeros, shortened, keysApart, owners, lastRole, one, modified, full, batch}
 use Rattle.rules.specs.EntryCases.{replaced, emptied, kept, Entries, allowedAt, refusedAt, Configurations, is17, is18, is19, kinds}
 use Rattle.rules.specs.EntryCases.{allowedUpdates, refused17, refused18, refused19, exactAndTernary, bothSlots, lastOptional, eachSlot}

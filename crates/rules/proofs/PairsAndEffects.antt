@@ -12,7 +12,7 @@ use lib.Seq.{drop-at}
 use borrow.Author.Tests.{eqb-true, eqb-false, eq-eqb, not-false}
 use Rattle.rules.specs.Bytes.{if_then_else_, concat, bytesOf}
 use Rattle.rules.specs.Reason.{codeOf, pairs}
-use Rattle.rules.specs.Frame.{Head, Update, Command, WRITE, onTables}
+use Rattle.rules.specs.Frame.{Head, Update, WRITE, onTables}
 use Rattle.rules.specs.Answer.{answerBytes, replyOf}
 use Rattle.rules.specs.Call.{accepted, pairOf}
 use Rattle.rules.specs.LookBack.{Effect, History, stateSeen, effectOf, reasonAt, succeeds, withUpdate, withUpdates, someFails, tookEffect}

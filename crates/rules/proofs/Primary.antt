@@ -8,12 +8,12 @@ use native.Mathlib.Omega.{arith}
 use lib.Dec.{eqb}
 use borrow.Author.Tests.{eqb-true, not-false}
 use Rattle.rules.specs.Bytes.{if_then_else_}
-use Rattle.rules.specs.Frame.{Head, Query, Command, tooShort, malformed, OPEN, CLOSE, ARBITRATE}
+use Rattle.rules.specs.Frame.{Query, Command, tooShort, malformed, OPEN, CLOSE, ARBITRATE}
 use Rattle.rules.specs.Frame.{CONFIGURE, WRITE, READ, onStreams, onPipeline, onTables}
 use Rattle.rules.specs.Streams.{closed, bound, Streams, streamAt, markOf, byPrimary, openStream, closeStream, arbitrate}
 use Rattle.rules.specs.Row.{rowOf}
 use Rattle.rules.specs.Update.{noEntries}
-use Rattle.rules.specs.Call.{Control, State, Call, fresh, configureReason, writeReason, readReason, refusal, accepted}
+use Rattle.rules.specs.Call.{State, Call, fresh, configureReason, writeReason, readReason, refusal, accepted}
 use Rattle.rules.specs.Call.{withRows, nextControl, batchOf, nextTables, next, shown, answer, commandOf, reply, run}
 use Rattle.rules.specs.LookBack.{History, nothing, stateSeen, withCall, lookBack}
 use Rattle.rules.specs.Agreement.{commandsOf, historyOf}

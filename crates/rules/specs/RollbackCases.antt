@@ -1,7 +1,6 @@
 -- Worked cases of batches that roll back: whole frames, and the whole answers that documents 01 and 02 give them, written out
 -- (document 02, request Two). Assumes nothing.
-use mathlib.Core.Path.{_≡_}
-use mathlib.Core.List.{List, [], _∷_, _++_, map}
+use mathlib.Core.List.{List, [], _∷_, _++_}
 use Prim.Native.Nat.{ℕ}
 use lib.ListN.{replicate}
 use Rattle.rules.specs.Answer.{Reply}

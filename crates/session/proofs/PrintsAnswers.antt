@@ -2,12 +2,11 @@
 -- made from them. Assumes nothing.
 use Prim.Native.Nat.{ℕ, suc, _+_, _-_, _≤_}
 use native.Mathlib.Omega.{arith}
-use mathlib.Core.Path.{_≡_, refl, sym, ap, ap₂, subst, _∙_}
+use mathlib.Core.Path.{_≡_, refl, ap, ap₂, subst, _∙_}
 use mathlib.Core.List.{List, [], _∷_, _++_}
 use lib.ListN.{length, drop, length-append, length-drop}
 use borrow.Author.Tests.{le-leb}
 use Rattle.rules.specs.Frame.{Command, readFrame}
-use Rattle.rules.specs.Answer.{answerBytes}
 use Rattle.rules.specs.Call.{State, fresh, answer, commandOf, next, reply}
 use Rattle.rules.specs.Sound.{Sound}
 use Rattle.rules.proofs.Formed.{frame-read, frame-formed}

@@ -9,10 +9,10 @@ use lib.ListN.{length, take, drop, length-take, length-drop, length-append}
 use lib.Seq.{take-all, take-at}
 use borrow.Author.Tests.{eqb-true, eq-eqb}
 use borrow.Rule.Slice.PartMut.{putMid}
-use Rattle.rules.specs.Bytes.{if_then_else_, concat, number, part, int, bytesOf}
+use Rattle.rules.specs.Bytes.{if_then_else_, concat, number, part, bytesOf}
 use Rattle.rules.specs.Reason.{first, codeOf}
 use Rattle.rules.specs.Frame as rules
-use Rattle.rules.specs.Frame.{READ, Command, onTables}
+use Rattle.rules.specs.Frame.{READ, onTables}
 use Rattle.rules.specs.Streams.{addressOrder}
 use Rattle.rules.specs.Answer.{answerBytes}
 use Rattle.rules.specs.Call.{queryOrder, unconfigured, readReason, refusal, nextControl, nextTables, next, shown, answer}

@@ -1,5 +1,4 @@
 -- Right because what refuses the command is the rules' own, and what it leaves otherwise is stored. Assumes nothing.
-use native.Mathlib.Omega.{arith}
 use denote.Ref.{now}
 use Rattle.frames.specs.Meaning.{pipelineRead}
 use Rattle.answers.proofs.AnswerBytes.{head-alone}

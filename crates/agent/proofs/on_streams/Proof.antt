@@ -1,5 +1,4 @@
 -- Right because the event's outcome is the rules' own, its answer is written, and its streams are stored. Assumes nothing.
-use native.Mathlib.Omega.{arith}
 use denote.Ref.{now}
 use Rattle.frames.specs.Meaning.{eventRead}
 use Rattle.agent.proofs.Ways.{event-handled}

@@ -7,7 +7,6 @@ use lib.ListN.{length}
 use borrow.Rule.Slice.PartMut.{same-len-mid}
 use denote.Ref.{now}
 use Rattle.buffers.proofs.Splice.{length-window, part-replaced}
-use borrow.Author.Needs.{needs}
 use Rattle.batches.proofs.note_update.Statement.{statement}
 use Rattle.batches.proofs.note_update.Tie as tie
 

@@ -9,7 +9,6 @@ use Rattle.buffers.proofs.Splice.{length-window}
 use Rattle.store.specs.Store.{entriesIn}
 use Rattle.batches.specs.Rollback.{Undoes}
 use Rattle.batches.proofs.AllOrNone.{UndoneSoFar, back-next, back-end}
-use borrow.Author.Needs.{needs}
 use Rattle.batches.proofs.roll_back.Statement.{statement}
 use Rattle.batches.proofs.roll_back.Tie as tie
 

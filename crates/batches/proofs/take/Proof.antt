@@ -3,7 +3,6 @@
 use Prim.Native.Nat.{ℕ, _*_, _+_, _-_, _≤_, _<_}
 use native.Mathlib.Omega.{arith}
 use mathlib.Core.Path.{_≡_, refl, _∙_}
-use mathlib.Core.List.{List}
 use mathlib.Core.Logic.{⊎-elim}
 use lib.ListN.{length, drop}
 use denote.Ref.{now}

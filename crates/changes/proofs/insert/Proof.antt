@@ -13,7 +13,6 @@ use Rattle.buffers.specs.Splice.{splice}
 use Rattle.buffers.proofs.Splice.{drop-splice, length-splice, splice-next, rest-back}
 use Rattle.values.proofs.InPlace.{entry-parts}
 use Rattle.store.proofs.Writes.{parts-append}
-use borrow.Author.Needs.{needs}
 use Rattle.changes.proofs.insert.Statement.{statement}
 use Rattle.changes.proofs.insert.Tie as tie
 

@@ -6,7 +6,6 @@ use mathlib.Core.Bool.{Bool, true, false, _||_}
 use mathlib.Core.List.{List}
 use lib.ListN.{drop}
 use denote.Ref.{now}
-use borrow.Author.Needs.{needs}
 use Rattle.rules.specs.Bytes.{between, some-of, byte}
 use Rattle.rules.specs.Row as rules
 use Rattle.rows.specs.Meaning.{rowOf}

@@ -1,6 +1,6 @@
 -- Right because the three tests are those of the form of ARBITRATE. Assumes nothing.
 use native.Mathlib.Omega.{arith}
-use mathlib.Core.Path.{_≡_, refl, sym, ap, _∙_}
+use mathlib.Core.Path.{_≡_, sym, ap, _∙_}
 use Rattle.rules.specs.Frame as rules
 use Rattle.rules.specs.Bytes.{byte}
 use Prim.Native.Nat.{_≤_}

@@ -1,6 +1,6 @@
 -- Right because the tests are those of the form of CONFIGURE; a frame under 28 bytes has no length of that form. Assumes nothing.
 use native.Mathlib.Omega.{arith}
-use mathlib.Core.Path.{_≡_, refl, sym, ap, _∙_}
+use mathlib.Core.Path.{_≡_, sym, ap, _∙_}
 use Rattle.rules.specs.Frame as rules
 use Rattle.rules.specs.Bytes.{byte, parts}
 use Prim.Native.Nat.{_+_, _*_, _≤_}

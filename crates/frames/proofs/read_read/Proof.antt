@@ -1,6 +1,6 @@
 -- Right because the byte *only* picks the test that the form of READ has for it. Assumes nothing.
 use native.Mathlib.Omega.{arith}
-use mathlib.Core.Path.{_≡_, refl, sym, ap, _∙_}
+use mathlib.Core.Path.{_≡_, sym, ap, _∙_}
 use Rattle.rules.specs.Bytes.{int}
 use Prim.Native.Nat.{ℕ}
 use lib.ListN.{length}

@@ -1,15 +1,13 @@
 -- Right because the row that is lent is the one of the update's table, where the table is known. Assumes nothing.
 use Prim.Native.Nat.{ℕ, _+_, _-_}
 use native.Mathlib.Omega.{arith}
-use mathlib.Core.Path.{_≡_, sym, ap, _∙_}
+use mathlib.Core.Path.{_≡_, ap, _∙_}
 use mathlib.Core.List.{List}
 use denote.Ref.{now}
-use Rattle.rules.specs.Bytes.{number}
 use Rattle.rules.specs.Frame.{updateOf}
 use Rattle.rules.specs.Key.{tableOf}
 use Rattle.rules.specs.Row.{known, rowFor}
-use Rattle.rules.proofs.Lists.{drop-take}
-use Rattle.rows.specs.Meaning.{rowOf, rowsIn}
+use Rattle.rows.specs.Meaning.{rowsIn}
 use Rattle.store.specs.Store.{tablesIn}
 use Rattle.judging.proofs.Order.{judged-by-rows}
 use borrow.Author.Needs.{needs}

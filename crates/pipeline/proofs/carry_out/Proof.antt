@@ -1,7 +1,7 @@
 -- Right because the rows that 14 allows are held as the rules read them. Assumes nothing.
 use Prim.Native.Nat.{ℕ, _*_, _≤_}
 use native.Mathlib.Omega.{arith}
-use mathlib.Core.Path.{_≡_, ap, _∙_}
+use mathlib.Core.Path.{ap, _∙_}
 use mathlib.Core.List.{List, map}
 use lib.ListN.{length, drop, length-take, length-drop}
 use denote.Ref.{now}

@@ -1,12 +1,12 @@
 -- Right because what is left of the rows begins with the one at the index. Assumes nothing.
-use Prim.Native.Nat.{_-_, _+_, _*_, min, _≤_}
+use Prim.Native.Nat.{_-_, _*_, min, _≤_}
 use native.Mathlib.Omega.{arith}
 use mathlib.Core.Path.{_≡_, refl, sym, ap, _∙_}
 use mathlib.Core.Bool.{true, false}
-use lib.ListN.{length, drop}
+use lib.ListN.{drop}
 use lib.Dec.{eqb}
 use borrow.Author.Tests.{eq-eqb, ne-eqb}
-use Rattle.rules.specs.Bytes.{if_then_else_, int}
+use Rattle.rules.specs.Bytes.{int}
 use Rattle.rules.specs.Row as rules
 use Rattle.rules.proofs.Tests.{contradiction}
 use Rattle.rows.specs.Meaning.{rowsIn}

@@ -1,27 +1,21 @@
 -- Right because each way out is one way through the order, and the entries written are those shown. Assumes nothing.
 use Prim.Native.Nat.{ℕ, _-_}
 use native.Mathlib.Omega.{arith}
-use mathlib.Core.Path.{_≡_, refl, sym, ap, _∙_, subst}
-use mathlib.Core.List.{List}
+use mathlib.Core.Path.{_≡_, refl, _∙_}
 use lib.Dec.{eqb}
-use lib.ListN.{length, take, drop, length-take, length-drop}
+use lib.ListN.{length-take, length-drop}
 use denote.Ref.{now}
-use borrow.Author.Tests.{eq-eqb, ne-eqb}
-use Rattle.rules.specs.Bytes.{if_then_else_, part}
-use Rattle.rules.specs.Frame.{READ, onTables}
+use borrow.Author.Tests.{ne-eqb}
+use Rattle.rules.specs.Bytes.{if_then_else_}
+use Rattle.rules.specs.Frame.{READ}
 use Rattle.rules.specs.Reason.{first}
-use Rattle.rules.specs.Call.{queryOrder, readReason, shown}
-use Rattle.rules.proofs.Formed.{Formed}
+use Rattle.rules.specs.Call.{queryOrder, readReason}
 use Rattle.rules.proofs.Refused.{table-refused}
-use Rattle.rules.proofs.Sizes.{shown-sized}
-use Rattle.buffers.proofs.Splice.{length-window}
 use Rattle.frames.specs.Meaning.{queryRead}
-use Rattle.store.specs.Store.{tablesIn}
-use Rattle.reads.specs.Read.{readIn, Reads}
 use Rattle.memory.specs.Layout.{controlOf}
 use Rattle.memory.specs.Handles.{atTables}
-use Rattle.memory.proofs.Handled.{flat, flat-handles, refused}
-use Rattle.answers.proofs.AnswerBytes.{records-then-head, head-alone}
+use Rattle.memory.proofs.Handled.{refused}
+use Rattle.answers.proofs.AnswerBytes.{head-alone}
 use Rattle.table_commands.proofs.Reading.{query-key, read-order, rest-order, entries-read}
 use borrow.Author.Needs.{needs}
 use Rattle.table_commands.proofs.read.Statement.{statement}

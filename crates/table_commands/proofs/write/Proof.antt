@@ -1,28 +1,19 @@
 -- Right because each way out is one way through the order, and the batch is the rules'. Assumes nothing.
 use Prim.Native.Nat.{ℕ, _-_}
 use native.Mathlib.Omega.{arith}
-use mathlib.Core.Path.{_≡_, refl, sym, ap, _∙_, subst}
-use mathlib.Core.List.{List, map}
-use lib.ListN.{length, take, drop, length-map, length-take, length-drop}
+use mathlib.Core.Path.{_≡_, refl, _∙_}
+use lib.ListN.{length, drop, length-take, length-drop}
 use denote.Ref.{now}
 use borrow.Rule.Slice.PartMut.{same-len-mid}
-use Rattle.rules.specs.Bytes.{parts, concat}
-use Rattle.rules.specs.Frame.{WRITE, updateOf}
-use Rattle.rules.specs.Call.{writeReason, batchOf, pairOf}
-use Rattle.rules.specs.Update.{Batch}
-use Rattle.rules.proofs.Formed.{parts-count}
-use Rattle.rules.proofs.Lists.{rest-all}
+use Rattle.rules.specs.Frame.{WRITE}
+use Rattle.rules.specs.Call.{writeReason}
 use Rattle.rules.proofs.Refused.{table-refused}
-use Rattle.rules.proofs.Sizes.{reasons-count}
-use Rattle.buffers.specs.Splice.{splice}
 use Rattle.election.specs.Meaning.{headOf}
-use Rattle.rows.specs.Meaning.{rowsOf}
-use Rattle.store.specs.Store.{tablesIn}
-use Rattle.batches.specs.Batch.{updatesIn, BatchApplied}
+use Rattle.batches.specs.Batch.{updatesIn}
 use Rattle.memory.specs.Layout.{controlOf}
 use Rattle.memory.specs.Handles.{atTables}
-use Rattle.memory.proofs.Handled.{flat, flat-handles, refused}
-use Rattle.answers.proofs.AnswerBytes.{records-then-head, head-alone}
+use Rattle.memory.proofs.Handled.{refused}
+use Rattle.answers.proofs.AnswerBytes.{head-alone}
 use Rattle.table_commands.proofs.Writing.{write-order, batch-written}
 use borrow.Author.Needs.{needs}
 use Rattle.table_commands.proofs.write.Statement.{statement}

@@ -4,10 +4,7 @@ use reference::bytes::{
     arbitrate, close, configure, open, read_all, write, Entry, Head, Row, Update,
 };
 
-use super::{plain, plain_row, primary, rec, Case, DEVICE};
-
-const ONE: u32 = 0x0200_0001;
-const TWO: u32 = 0x0200_0002;
+use super::{delete, insert, plain, plain_row, primary, rec, Case, DEVICE, ONE, TWO};
 
 pub fn cases() -> Vec<Case> {
     vec![
@@ -18,14 +15,6 @@ pub fn cases() -> Vec<Case> {
         configured_again(),
         capacity(),
     ]
-}
-
-fn insert(table: u32, field: u128) -> Update {
-    Update::insert(plain(table, field, 1))
-}
-
-fn delete(table: u32, field: u128) -> Update {
-    Update::delete(plain(table, field, 1))
 }
 
 /// Exhausted, done, there already; and the same batch by 12.2's second mode,

@@ -6,10 +6,7 @@ use reference::bytes::{
     Slot, Update, Value,
 };
 
-use super::{primary, rec, Case, DEVICE};
-
-const ONE: u32 = 0x0200_0001;
-const TWO: u32 = 0x0200_0002;
+use super::{primary, rec, Case, DEVICE, ONE, TWO};
 
 /// Actions of the first table, of 12 and 48 bits and without parameters, and
 /// of the second.

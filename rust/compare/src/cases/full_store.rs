@@ -9,10 +9,8 @@ use reference::bytes::{
     arbitrate, configure, open, read_all, read_one, write, Entry, Head, Row, Update, Value,
 };
 
-use super::{plain, plain_row, primary, rec, Case, DEVICE};
+use super::{delete, insert, plain, plain_row, primary, rec, Case, DEVICE, ONE, TWO};
 
-const ONE: u32 = 0x0200_0001;
-const TWO: u32 = 0x0200_0002;
 const THREE: u32 = 0x0200_0003;
 
 pub fn cases() -> Vec<Case> {
@@ -26,14 +24,6 @@ pub fn cases() -> Vec<Case> {
         eight_tables(),
         emptied(),
     ]
-}
-
-fn insert(table: u32, field: u128) -> Update {
-    Update::insert(plain(table, field, 1))
-}
-
-fn delete(table: u32, field: u128) -> Update {
-    Update::delete(plain(table, field, 1))
 }
 
 fn rows() -> [Row; 3] {

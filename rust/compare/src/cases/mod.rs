@@ -222,6 +222,11 @@ fn entry(priority: u32, slot: Slot) -> Entry {
     Entry::new(TABLE, key(priority, slot), ACTION, &[])
 }
 
+// Tables for cases that need several.
+
+const ONE: u32 = 0x0200_0001;
+const TWO: u32 = 0x0200_0002;
+
 /// A table of one exact field of 16 bits, and an action of one parameter.
 fn plain_row(table: u32, owner: u8, size: u16) -> Row {
     let fields = [(reference::bytes::kind::EXACT, 16)];
@@ -236,4 +241,14 @@ fn plain(table: u32, field: u128, param: u128) -> Entry {
         ACTION,
         &[Value::of(param)],
     )
+}
+
+/// INSERT of an entry of [`plain_row`] with parameter 1.
+fn insert(table: u32, field: u128) -> Update {
+    Update::insert(plain(table, field, 1))
+}
+
+/// DELETE of that entry.
+fn delete(table: u32, field: u128) -> Update {
+    Update::delete(plain(table, field, 1))
 }

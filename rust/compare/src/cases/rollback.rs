@@ -7,10 +7,7 @@ use reference::bytes::{
     arbitrate, configure, open, read_all, read_one, write, Entry, Head, Update, Value,
 };
 
-use super::{plain, plain_row, primary, rec, Case, DEVICE};
-
-const ONE: u32 = 0x0200_0001;
-const TWO: u32 = 0x0200_0002;
+use super::{delete, plain, plain_row, primary, rec, Case, DEVICE, ONE, TWO};
 
 pub fn cases() -> Vec<Case> {
     vec![
@@ -33,10 +30,6 @@ fn insert(table: u32, field: u128, param: u128) -> Update {
 
 fn modify(table: u32, field: u128, param: u128) -> Update {
     Update::modify(plain(table, field, param))
-}
-
-fn delete(table: u32, field: u128) -> Update {
-    Update::delete(plain(table, field, 1))
 }
 
 /// The entries that [`halls`] leaves, tables by row.

@@ -1,7 +1,6 @@
 -- Right because no bytes hold no entries. Assumes nothing.
 use mathlib.Core.Path.{refl}
 use Rattle.rules.specs.Bytes.{parts}
-use borrow.Author.Needs.{needs}
 use Rattle.store.proofs.Tables.none.Statement.{statement}
 use Rattle.store.proofs.Tables.none.Tie as tie
 
