@@ -16,6 +16,7 @@ pub mod Formed
 pub mod Streams
 pub mod Shortest
 pub mod Numbers
+pub mod InPlace
 pub mod Checked
 pub mod Rollback
 pub mod Counting

@@ -11,7 +11,7 @@ use Rattle.rules.specs.Bytes.{between, every, allBytes}
 use Rattle.rules.specs.Frame.{keySize, Head, Update, Query, WRITE, READ, onTables}
 use Rattle.rules.specs.Row.{Row, rowFor}
 use Rattle.rules.specs.Value.{value, isValue, short}
-use Rattle.rules.specs.Key.{tableOf, keyFormed, shortKey, keyNumbers, hasKey}
+use Rattle.rules.specs.Key.{tableOf, keyFormed, shortKey, keyNumbers, hasKey, sameKey}
 use Rattle.rules.specs.Update.{stored}
 use Rattle.rules.specs.Call.{Call, fresh, accepted, batchOf, commandOf, run}
 use Rattle.rules.specs.LookBack.{History, present, stateSeen, reasonAt, withUpdates, readSeen}
@@ -31,6 +31,21 @@ abbrev pub KeysSame : Type 0
 KeysSame =
     (row : Row) (k j : List ℕ) → length k ≡ keySize → length j ≡ keySize → allBytes k ≡ true → allBytes j ≡ true
     → keyFormed row k ≡ true → keyFormed row j ≡ true → (keyNumbers k ≡ keyNumbers j) ↔ (shortKey k ≡ shortKey j)
+
+-- ---- a key compared with a stored one where they are (document 02, request Four)
+
+-- Of a stored key e and any key k:
+pub record InPlace (e k : List ℕ) : Type 0 where
+  -- The comparison says of any two keys what the rules ask of an entry that is stored.
+  pub any : sameKey e k ≡ hasKey (shortKey k) e
+  -- What is stored is in shortest form. So "for keys that passed their checks it says yes exactly when their shortest forms are the same",
+  pub shortest : shortKey e ≡ e → (sameKey e k ≡ true) ↔ (shortKey e ≡ shortKey k)
+  -- and exactly when they are the same as numbers: document 01's key.
+  pub numbers : (row : Row) → allBytes e ≡ true → allBytes k ≡ true → keyFormed row e ≡ true → keyFormed row k ≡ true
+      → shortKey e ≡ e → (sameKey e k ≡ true) ↔ (keyNumbers e ≡ keyNumbers k)
+
+abbrev pub KeysInPlace : Type 0
+KeysInPlace = (e k : List ℕ) → length e ≡ keySize → length k ≡ keySize → InPlace e k
 
 -- ---- an update after a list of calls, and after the earlier updates of its batch
 
