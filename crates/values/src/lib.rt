@@ -1,14 +1,15 @@
-// Values of 17 bytes, slots of 35, keys and entries: their shortest form, made in place
-// (document 01, "Configuration and entries").
+// Values of 17 bytes, slots of 35, keys and entries: their shortest form, made in place, and values told from it or compared with it
+// where they are (document 01, "Configuration and entries"; document 02, request Four).
 ghost use mathlib.Core.Path.{_≡_};
-ghost use Prim.Native.Nat.{_+_, _-_, _≤_, _<_};
+ghost use Prim.Native.Nat.{_+_, _-_, _≤_, _<_, min};
 ghost use lib.ListN.{length, drop};
 ghost use Rattle.rules.specs.Frame.{entrySize, keySize};
-ghost use Rattle.rules.specs.Bytes.{part};
-ghost use Rattle.rules.specs.Value.{isValue, fits as below, stripped, padded, short};
-ghost use Rattle.rules.specs.Key.{shortSlot, shortKey};
+ghost use Rattle.rules.specs.Bytes.{byte, part};
+ghost use Rattle.rules.specs.Value.{isValue, fits as below, stripped, padded, short, isShort};
+ghost use Rattle.rules.specs.Key.{sameValue, shortSlot, shortKey};
 ghost use Rattle.rules.specs.Entry.{shortEntry};
 ghost use Rattle.buffers.specs.Splice.{splice};
+ghost use Rattle.buffers.specs.Word.{littleEndian};
 use numbers::Number;
 
 // Whether these 17 bytes are a value: length 1 to 16, padding 0.
@@ -50,6 +51,93 @@ fn significant(v: &[u8], at: usize, n: usize) -> usize
     }
     i
 }
+
+// ---- told from shortest form, and compared with it
+
+// Whether these 17 bytes are in shortest form: no value, or a value without a leading zero.
+pub fn is_short(v: &[u8]) -> bool
+    requires { ⌜ length (now v) ≡ 17 ⌝ }
+    ensures { λ r. ⌜ r ≡ isShort (now (v .entry)) ⌝ }
+{
+    let n = v[0];
+    if n == 0 {
+        return true;
+    }
+    if 1 < n {
+        if v[1] == 0 {
+            return false;
+        }
+    }
+    formed(v)
+}
+
+// The number of digits of a value of 17 bytes; a length over 16 reads as 16.
+fn digit_count(v: &[u8]) -> usize
+    requires { ⌜ length (now v) ≡ 17 ⌝ }
+    ensures { λ r. ⌜ r ≡ min 16 (byte 0 (now (v .entry))) ⌝ }
+{
+    let n = v[0] as usize;
+    if 16 < n {
+        return 16;
+    }
+    n
+}
+
+// Whether e is the shortest form of v, each of 17 bytes: it has the digits of v from where its number begins, and zeros after them.
+// Where v is no value, its bytes are compared as they are.
+pub fn is_shortest_of(e: &[u8], v: &[u8]) -> bool
+    requires { ⌜ (length (now e) ≡ 17) × (length (now v) ≡ 17) ⌝ }
+    ensures { λ r. ⌜ r ≡ sameValue (now (e .entry)) (now (v .entry)) ⌝ }
+{
+    let n = digit_count(v);
+    if n == 0 {
+        return buffers::equal(e, v);
+    }
+    let first = significant(v, 0, n);
+    let count = n + 1 - first;
+    if e[0] as usize != count {
+        return false;
+    }
+    let past = count + 1;
+    let end = n + 1;
+    if !buffers::equal(&e[1..past], &v[first..end]) {
+        return false;
+    }
+    buffers::all_zero(&e[past..])
+}
+
+// Byte i, 1 to 16, of the shortest form of a value of n digits whose number begins at `first`.
+fn short_digit(v: &[u8], first: usize, n: usize, i: usize) -> u8
+    requires { ⌜ (1 ≤ first) × (first ≤ n) × (n ≤ 16) × (1 ≤ i) × (i ≤ 16) × (length (now v) ≡ 17) ⌝ }
+    ensures { λ r. ⌜ r ≡ byte i (padded (part first (n + 1 - first) (now (v .entry)))) ⌝ }
+{
+    let at = first + i - 1;
+    if n < at {
+        return 0;
+    }
+    v[at]
+}
+
+// The word of the eight bytes from place `at` of the shortest form of a value of 17 bytes; it is not made.
+pub fn short_word(v: &[u8], at: usize) -> u64
+    requires { ⌜ (length (now v) ≡ 17) × (1 ≤ at) × (at ≤ 9) ⌝ }
+    ensures { λ r. ⌜ r ≡ littleEndian (part at 8 (short (now (v .entry)))) ⌝ }
+{
+    let n = digit_count(v);
+    if n == 0 {
+        return buffers::word(v, at);
+    }
+    let first = significant(v, 0, n);
+    let mut x: u64 = 0;
+    let mut k: usize = 8;
+    while 0 < k {
+        k -= 1;
+        x = x * 256 + buffers::wide(short_digit(v, first, n, at + k));
+    }
+    x
+}
+
+// ---- brought into shortest form
 
 // Moves the digits of the shortest form, of the n digits after `at`, down to the first place; how many they are.
 fn strip_at(dst: &mut [u8], at: usize, n: usize) -> usize

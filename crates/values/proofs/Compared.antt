@@ -1,0 +1,164 @@
+-- Comparing bytes with a value in shortest form, which is its count, its digits and zeros, part by part. Assumes nothing.
+use Prim.Native.Nat.{ℕ, zero, suc, _+_, _-_, _≤_, _<_, min, max}
+use native.Mathlib.Nat.{zero-add}
+use native.Mathlib.Omega.{arith}
+use mathlib.Core.Path.{_≡_, refl, sym, ap, ap₂, _∙_}
+use mathlib.Core.Bool.{Bool, true, false, _&&_}
+use mathlib.Core.List.{List, [], _∷_, _++_}
+use lib.Dec.{eqb, leb}
+use lib.ListN.{length, take, drop, getD, replicate, length-append, length-take, length-drop, length-replicate, take-append-drop}
+use lib.ListN.{List·getD-append}
+use lib.Seq.{take-all, drop-drop, drop-cons, getD-append-add}
+use borrow.Author.Tests.{eq-eqb, ne-eqb, leb-true, leb-false, le-leb, lt-leb}
+use Rattle.rules.specs.Bytes.{if_then_else_, byte, part, same, allZero}
+use Rattle.rules.specs.Value.{isValue, stripped, padded, short}
+use Rattle.rules.proofs.Tests.{same-refl}
+use Rattle.rules.proofs.Lists.{byte-part}
+use Rattle.rules.proofs.Rollback.{eqb-sym}
+use Rattle.rules.proofs.Shortest.{part-length, stripped-length}
+use Rattle.rules.proofs.InPlace.{same-append}
+use Rattle.values.proofs.Digits.{zero-goes, other-stays, last-stays, part-all}
+
+-- ---- compared with digits and zeros
+
+same-zeros : (n : ℕ) (x : List ℕ) → length x ≡ n → same x (replicate n 0) ≡ allZero x
+same-zeros zero [] h = refl
+same-zeros zero (a ∷ x) h = absurd (omega arith)
+same-zeros (suc n) [] h = absurd (omega arith)
+same-zeros (suc n) (a ∷ x) h = ap₂ _&&_ (eqb-sym a 0) (same-zeros n x (omega arith))
+
+module _ (e d : List ℕ) (size : length e ≡ 17) (few : length d ≤ 16) where
+  -- another count
+  pub other-count : (byte 0 e ≡ length d → ⊥) → same e (padded d) ≡ false
+  other-count n = rw (drop-cons e 0 0 (omega arith), ne-eqb (byte 0 e) (length d) n)
+
+  -- the same count: then the digits, and what is after them
+  pub same-count : byte 0 e ≡ length d → same e (padded d) ≡ (same (part 1 (length d) e) d && allZero (drop (length d + 1) e))
+  same-count n =
+      let m : ℕ = length d in
+      let ld : length (part 1 m e) ≡ m = part-length 1 m e (omega arith) in
+      let lz : length (drop (1 + m) e) ≡ 16 - m = simp length-drop (omega arith) in
+      let split : drop 1 e ≡ part 1 m e ++ drop (1 + m) e =
+      sym (ap (λ (x : List ℕ). part 1 m e ++ x) (sym (drop-drop m 1 e)) ∙ take-append-drop m (drop 1 e)) in
+      let swap : 1 + m ≡ m + 1 = omega arith in
+      ap (λ (x : List ℕ). same x (padded d)) (drop-cons e 0 0 (omega arith))
+      ∙ ap (λ (b : Bool). b && same (drop 1 e) (d ++ replicate (16 - m) 0)) (eq-eqb (byte 0 e) m n)
+      ∙ ap (λ (x : List ℕ). same x (d ++ replicate (16 - m) 0)) split
+      ∙ same-append (part 1 m e) d (drop (1 + m) e) (replicate (16 - m) 0) ld
+      ∙ ap (_&&_ (same (part 1 m e) d)) (same-zeros (16 - m) (drop (1 + m) e) lz)
+      ∙ ap (λ (j : ℕ). same (part 1 m e) d && allZero (drop j e)) swap
+
+-- ---- the digits of a value
+
+-- as many as its length byte says, 16 at most
+pub digits-at-most : (v : List ℕ) (n : ℕ) → length v ≡ 17 → n ≡ min 16 (byte 0 v) → part 1 n v ≡ part 1 (byte 0 v) v
+digits-at-most v n h e = go (leb (byte 0 v) 16) refl
+  where
+    go : (b : Bool) → leb (byte 0 v) 16 ≡ b → part 1 n v ≡ part 1 (byte 0 v) v
+    go true q =
+        let f : byte 0 v ≤ 16 = leb-true (byte 0 v) 16 q in
+        let m : n ≡ byte 0 v = omega arith in
+        ap (λ (j : ℕ). part 1 j v) m
+    go false q =
+        let f : 16 < byte 0 v = leb-false (byte 0 v) 16 q in
+        let l : length (drop 1 v) ≤ n = simp length-drop (omega arith) in
+        part-all 1 n (byte 0 v) v l (omega arith)
+
+-- the shortest form, by where its number begins
+pub short-from : (v : List ℕ) (n first : ℕ) → length v ≡ 17 → n ≡ min 16 (byte 0 v) → 1 ≤ n
+    → stripped (part (0 + 1) n v) ≡ part (0 + first) (n + 1 - first) v → short v ≡ padded (part first (n + 1 - first) v)
+unfolding short
+short-from v n first h e some s =
+    rw (ne-eqb (byte 0 v) 0 (λ z. omega arith))
+    (ap (λ (x : List ℕ). padded (stripped x)) (sym (digits-at-most v n h e))
+    ∙ ap padded (s ∙ ap (λ (j : ℕ). part j (n + 1 - first) v) (zero-add first)))
+
+-- the digits from a place on, as many as there are
+pub from-length : (v : List ℕ) (n first : ℕ) → length v ≡ 17 → n ≤ 16 → 1 ≤ first → first ≤ n → length (part first (n + 1 - first) v) ≡ n + 1 - first
+from-length v n first h few some inside = part-length first (n + 1 - first) v (omega arith)
+
+-- ---- bytes of a value that is padded
+
+module _ (d : List ℕ) (i : ℕ) (some : 1 ≤ i) where
+  after-count : byte i (padded d) ≡ getD (d ++ replicate (16 - length d) 0) (i - 1) 0
+  after-count = let e : i ≡ suc (i - 1) = omega arith in ap (λ (k : ℕ). byte k (padded d)) e
+
+  pub digit-at : i ≤ length d → byte i (padded d) ≡ byte (i - 1) d
+  digit-at h = after-count ∙ List·getD-append d (replicate (16 - length d) 0) 0 (i - 1) (omega arith)
+
+  pub zero-after : length d < i → byte i (padded d) ≡ 0
+  zero-after h =
+      let j : ℕ = i - 1 - length d in
+      let e : i - 1 ≡ length d + j = omega arith in
+      after-count ∙ ap (λ (k : ℕ). getD (d ++ replicate (16 - length d) 0) k 0) e
+      ∙ getD-append-add d (replicate (16 - length d) 0) j 0 ∙ zeros (16 - length d) j
+    where
+      zeros : (n j : ℕ) → byte j (replicate n 0) ≡ 0
+      zeros zero zero = refl
+      zeros zero (suc j) = refl
+      zeros (suc n) zero = refl
+      zeros (suc n) (suc j) = zeros n j
+
+-- ---- in shortest form already
+
+module _ (v : List ℕ) (size : length v ≡ 17) (used : byte 0 v ≡ 0 → ⊥) where
+  digits : List ℕ
+  digits = part 1 (byte 0 v) v
+
+  by-digits : short v ≡ padded (stripped (part 1 (byte 0 v) v))
+  unfolding short
+  by-digits = rw (ne-eqb (byte 0 v) 0 used)
+
+  few-digits : length (stripped (part 1 (byte 0 v) v)) ≤ 16
+  few-digits =
+      let a : length (part 1 (byte 0 v) v) ≤ 16 = simp (length-take, length-drop) (omega arith) in
+      omega (arith, stripped-length (part 1 (byte 0 v) v))
+
+  -- a leading zero before another digit
+  pub leading-zero : 1 < byte 0 v → byte 1 v ≡ 0 → same v (short v) ≡ false
+  leading-zero more z =
+      let k : ℕ = byte 0 v - 1 in
+      let e : byte 0 v ≡ suc k = omega arith in
+      let s : stripped (part 1 (byte 0 v) v) ≡ stripped (part 2 k v) =
+      ap (λ (n : ℕ). stripped (part 1 n v)) e ∙ zero-goes v 1 k (omega arith) z in
+      let l : length (part 2 k v) ≤ k = simp length-take (omega arith) in
+      ap (same v) by-digits
+      ∙ other-count v (stripped (part 1 (byte 0 v) v)) size few-digits
+      (λ q. omega (arith, q, ap length s, stripped-length (part 2 k v)))
+
+  -- none
+  pub no-leading-zero : (1 < byte 0 v → byte 1 v ≡ 0 → ⊥) → same v (short v) ≡ isValue v
+  unfolding isValue
+  no-leading-zero first = ap (same v) by-digits ∙ go (leb (byte 0 v) 16) refl
+    where
+      n : ℕ
+      n = byte 0 v
+
+      -- so the digits stay
+      stays : stripped (part 1 n v) ≡ part 1 n v
+      stays = by (leb n 1) refl
+        where
+          by : (b : Bool) → leb n 1 ≡ b → stripped (part 1 n v) ≡ part 1 n v
+          by true q =
+              let f : n ≤ 1 = leb-true n 1 q in
+              let e : n ≡ 1 = omega arith in
+              rw e (last-stays v 1 (omega arith))
+          by false q =
+              let f : 1 < n = leb-false n 1 q in
+              let e : n ≡ suc (n - 1) = omega arith in
+              rw e (other-stays v 1 (n - 1) (omega arith) (first f))
+
+      go : (b : Bool) → leb n 16 ≡ b → same v (padded (stripped (part 1 n v))) ≡ ((leb 1 n && b) && allZero (drop (1 + n) v))
+      go true q =
+          let f : n ≤ 16 = leb-true n 16 q in
+          let l : length (part 1 n v) ≡ n = part-length 1 n v (omega arith) in
+          let swap : n + 1 ≡ 1 + n = omega arith in
+          let one : leb 1 n ≡ true = le-leb 1 n (omega (arith, used)) in
+          ap (λ (x : List ℕ). same v (padded x)) stays
+          ∙ same-count v (part 1 n v) size (omega arith) (sym l)
+          ∙ ap (λ (m : ℕ). same (part 1 m v) (part 1 n v) && allZero (drop (m + 1) v)) l
+          ∙ rw (same-refl (part 1 n v), swap, one) refl
+      go false q =
+          let f : 16 < n = leb-false n 16 q in
+          other-count v (stripped (part 1 n v)) size few-digits (λ e. omega (arith, few-digits))
+          ∙ rw (le-leb 1 n (omega arith)) refl
