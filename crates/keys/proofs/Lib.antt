@@ -1,0 +1,2 @@
+-- Laws of what follows the table in a key.
+pub mod Rest

@@ -1,0 +1,125 @@
+-- Right because every place that is handed back is that of a value of slot i. Assumes nothing.
+use Prim.Native.Nat.{_-_, _≤_}
+use native.Mathlib.Omega.{arith}
+use mathlib.Core.Path.{refl}
+use mathlib.Core.Logic.{inl, inr}
+use borrow.Author.Needs.{needs}
+use Rattle.keys.proofs.differing_value.Statement.{statement}
+use Rattle.keys.proofs.differing_value.Tie as tie
+
+abbrev Inv-loop : tie.InvT-loop
+Inv-loop stored key i₀ i = i ≤ 4
+
+abbrev μ-loop : tie.MeasureT-loop
+μ-loop stored key i₀ i = 4 - i
+
+loop-holds : tie.Need-loop-holds Inv-loop μ-loop
+loop-holds c = search needs
+
+mul-first : tie.Need-mul-first Inv-loop μ-loop
+mul-first c = search needs
+
+add-first : tie.Need-add-first Inv-loop μ-loop
+add-first c = search needs
+
+add-second : tie.Need-add-second Inv-loop μ-loop
+add-second c = search needs
+
+add-end : tie.Need-add-end Inv-loop μ-loop
+add-end c = search needs
+
+sub-is-shortest-of : tie.Need-sub-is-shortest-of Inv-loop μ-loop
+sub-is-shortest-of c = search needs
+
+part-is-shortest-of-start : tie.Need-part-is-shortest-of-start Inv-loop μ-loop
+part-is-shortest-of-start c = search needs
+
+part-is-shortest-of-end : tie.Need-part-is-shortest-of-end Inv-loop μ-loop
+part-is-shortest-of-end c = search needs
+
+sub-is-shortest-of-2 : tie.Need-sub-is-shortest-of-2 Inv-loop μ-loop
+sub-is-shortest-of-2 c = search needs
+
+part-is-shortest-of-start-2 : tie.Need-part-is-shortest-of-start-2 Inv-loop μ-loop
+part-is-shortest-of-start-2 c = search needs
+
+part-is-shortest-of-end-2 : tie.Need-part-is-shortest-of-end-2 Inv-loop μ-loop
+part-is-shortest-of-end-2 c = search needs
+
+is-shortest-of-requires : tie.Need-is-shortest-of-requires Inv-loop μ-loop
+is-shortest-of-requires c κs = search needs
+
+returns : tie.Need-returns Inv-loop μ-loop
+returns c =
+    let l = c .before .before .before .before .before in
+    record { slot = l .loop .i; few = omega arith; place = inl refl }
+
+sub-is-shortest-of-3 : tie.Need-sub-is-shortest-of-3 Inv-loop μ-loop
+sub-is-shortest-of-3 c = search needs
+
+part-is-shortest-of-start-3 : tie.Need-part-is-shortest-of-start-3 Inv-loop μ-loop
+part-is-shortest-of-start-3 c = search needs
+
+part-is-shortest-of-end-3 : tie.Need-part-is-shortest-of-end-3 Inv-loop μ-loop
+part-is-shortest-of-end-3 c = search needs
+
+sub-is-shortest-of-4 : tie.Need-sub-is-shortest-of-4 Inv-loop μ-loop
+sub-is-shortest-of-4 c = search needs
+
+part-is-shortest-of-start-4 : tie.Need-part-is-shortest-of-start-4 Inv-loop μ-loop
+part-is-shortest-of-start-4 c = search needs
+
+part-is-shortest-of-end-4 : tie.Need-part-is-shortest-of-end-4 Inv-loop μ-loop
+part-is-shortest-of-end-4 c = search needs
+
+is-shortest-of-requires-2 : tie.Need-is-shortest-of-requires-2 Inv-loop μ-loop
+is-shortest-of-requires-2 c κs = search needs
+
+returns-2 : tie.Need-returns-2 Inv-loop μ-loop
+returns-2 c =
+    let l = c .before .before .before .before .before .before .before .before .before in
+    record { slot = l .loop .i; few = omega arith; place = inr (omega arith) }
+
+add-i : tie.Need-add-i Inv-loop μ-loop
+add-i c = search needs
+
+loop-less : tie.Need-loop-less Inv-loop μ-loop
+loop-less c = search needs
+
+loop-again : tie.Need-loop-again Inv-loop μ-loop
+loop-again c = search needs
+
+returns-3 : tie.Need-returns-3 Inv-loop μ-loop
+returns-3 c = record { slot = 0; few = omega arith; place = inl refl }
+
+pub differing-value-spec : {M : Type 1} → statement M
+differing-value-spec =
+    tie.close
+    (tie.spec
+    Inv-loop
+    μ-loop
+    loop-holds
+    mul-first
+    add-first
+    add-second
+    add-end
+    sub-is-shortest-of
+    part-is-shortest-of-start
+    part-is-shortest-of-end
+    sub-is-shortest-of-2
+    part-is-shortest-of-start-2
+    part-is-shortest-of-end-2
+    is-shortest-of-requires
+    returns
+    sub-is-shortest-of-3
+    part-is-shortest-of-start-3
+    part-is-shortest-of-end-3
+    sub-is-shortest-of-4
+    part-is-shortest-of-start-4
+    part-is-shortest-of-end-4
+    is-shortest-of-requires-2
+    returns-2
+    add-i
+    loop-less
+    loop-again
+    returns-3)

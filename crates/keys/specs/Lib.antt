@@ -1,0 +1,2 @@
+-- What follows the table in a key.
+pub mod Rest
