@@ -4,6 +4,7 @@ ghost use mathlib.Core.Path.{_≡_};
 ghost use mathlib.Core.Bool.{true};
 ghost use mathlib.Core.List.{_++_};
 ghost use Prim.Native.Nat.{_+_, _≤_};
+ghost use lib.Dec.{eqb};
 ghost use lib.ListN.{length, drop};
 ghost use Rattle.rules.specs.Frame.{keySize, restSize};
 ghost use Rattle.rules.specs.Bytes.{part, same};
@@ -94,6 +95,17 @@ pub fn same_key(stored: &[u8], table: &[u8], key: &[u8], short: bool) -> bool
 pub struct Probe {
     pub at: usize,
     pub word: u64,
+}
+
+impl Probe {
+    // Whether a stored key has the word, by the 144 bytes after its table.
+    pub fn meets(self, stored: &[u8]) -> bool
+        requires { ⌜ (length (now stored) ≡ restSize) × (self .at + 8 ≤ restSize) ⌝ }
+        ensures { λ r. ⌜ r ≡ eqb (littleEndian (part (self .at) 8 (now (stored .entry)))) (self .word) ⌝ }
+    {
+        let at = self.at;
+        buffers::word(stored, at) == self.word
+    }
 }
 
 // The place of the first value in which a stored key is not the key as it came, by the 144 bytes after the table of each; that of the

@@ -4,22 +4,29 @@ use Prim.Native.Nat.{ℕ, _+_, _*_, _/_, _≤_, _<_, min}
 use native.Mathlib.Omega.{arith}
 use native.Mathlib.Numerals.{add-one}
 use mathlib.Core.Path.{_≡_, sym, ap, _∙_}
-use mathlib.Core.Bool.{Bool, false, true≢false}
-use mathlib.Core.List.{List, [], _∷_}
+use mathlib.Core.Bool.{Bool, false}
+use mathlib.Core.List.{List, [], _∷_, _++_}
 use mathlib.Core.Option.{Option, none, some}
-use lib.ListN.{length, take, drop, drop-of-length-le}
-use lib.Seq.{take-at, take-take}
-use borrow.Author.Tests.{eq-eqb, ne-eqb}
+use lib.Dec.{eqb}
+use lib.ListN.{length, take, drop, length-append, drop-of-length-le}
+use lib.Seq.{take-at, take-all, take-take, drop-at}
+use borrow.Author.Tests.{eqb-false, eq-eqb, ne-eqb}
 use Rattle.rules.specs.Bytes.{if_then_else_, keep, concat, part, number, int, same}
-use Rattle.rules.specs.Key.{tableOf, hasKey}
+use Rattle.rules.specs.Key.{tableOf, hasKey, shortKey, sameKey}
 use Rattle.rules.specs.Update.{inTable, held as heldIn}
 use Rattle.rules.proofs.Formed.{parts-count}
-use Rattle.rules.proofs.Tests.{eq-same, ne-same}
+use Rattle.rules.proofs.Tests.{ne-same}
+use Rattle.rules.proofs.Shortest.{part-length}
+use Rattle.rules.proofs.InPlace.{key-compared}
+use Rattle.buffers.specs.Word.{littleEndian}
+use Rattle.keys.specs.declared.Probe.{Probe}
+use Rattle.keys.specs.Rest.{shortRest, ProbeOf}
+use Rattle.keys.proofs.Rest.{short-key, rest-length}
 use Rattle.buffers.specs.Splice.{splice}
 use Rattle.buffers.proofs.Splice.{length-window}
 use Rattle.buffers.proofs.Written.{Written, written-none, written-next, written-same, written-length}
 use Rattle.store.specs.declared.Tables.{Tables}
-use Rattle.store.specs.Store.{entriesIn, tablesIn, placeFrom}
+use Rattle.store.specs.Store.{entriesIn, tablesIn, placeFrom, placeAfter}
 use Rattle.rules.proofs.Lists.{parts-from, part-part}
 
 none-left : (tables : Tables) (i : ℕ) (s : List ℕ) → tables .count ≤ i → drop i (entriesIn tables s) ≡ []
@@ -31,14 +38,30 @@ none-left tables i s h = drop-of-length-le (entriesIn tables s) {i = i} (omega (
 key-at : (a : ℕ) (s k : List ℕ) → hasKey k (part a 220 s) ≡ same (part a 148 s) k
 key-at a s k = ap (λ (x : List ℕ). same x k) (take-take 148 220 (drop a s) (omega arith))
 
--- keys that differ in one word differ
-pub word-differs : (a i : ℕ) (s k : List ℕ) → i + 8 ≤ 148 → same (part (a + i) 8 s) (part i 8 k) ≡ false → same (part a 148 s) k ≡ false
-word-differs a i s k h d = ne-same (λ z. true≢false (sym (eq-same (sym (part-part a 148 i 8 s h) ∙ ap (part i 8) z)) ∙ d))
+-- a stored key that has another word where a probe looks is another key
+pub probe-differs : (a n : ℕ) (s t r : List ℕ) (p : Probe) → a + 148 ≤ length s → length t ≡ 4 → length r ≡ 144 → n ≡ 144 → ProbeOf r p
+    → eqb (littleEndian (part (p .at) 8 (part (a + 4) n s))) (p .word) ≡ false → same (part a 148 s) (shortKey (t ++ r)) ≡ false
+probe-differs a n s t r p h l g w o d = ne-same (λ z. eqb-false _ _ d (words z))
+  where
+    words : part a 148 s ≡ shortKey (t ++ r) → littleEndian (part (p .at) 8 (part (a + 4) n s)) ≡ p .word
+    words z =
+        let rest : part 4 144 (part a 148 s) ≡ shortRest r =
+        ap (part 4 144) (z ∙ short-key t r l g) ∙ ap (take 144) (drop-at t (shortRest r) 4 l)
+        ∙ take-all 144 (shortRest r) (omega (arith, rest-length r g)) in
+        ap (λ (m : ℕ). littleEndian (part (p .at) 8 (part (a + 4) m s))) w
+        ∙ ap (λ (x : List ℕ). littleEndian (part (p .at) 8 x)) (sym (part-part a 148 4 144 s (omega arith)) ∙ rest) ∙ sym (o .word)
+
+-- and the comparison of a stored key says whether its entry has the key
+pub key-said : (a n : ℕ) (s t r : List ℕ) → a + 148 ≤ length s → length t ≡ 4 → length r ≡ 144 → n ≡ 148
+    → sameKey (part a n s) (t ++ r) ≡ same (part a 148 s) (shortKey (t ++ r))
+key-said a n s t r h l g w =
+    let k : 148 ≤ length (t ++ r) = simp length-append (omega arith) in
+    ap (λ (m : ℕ). sameKey (part a m s) (t ++ r)) w ∙ key-compared (part a 148 s) (t ++ r) (part-length a 148 s h) k
 
 module _ (tables : Tables) (s k : List ℕ) where
   -- what searching the entries from i on finds
   abbrev pub searched : ℕ → Option ℕ
-  searched i = placeFrom i k (drop i (entriesIn tables s))
+  searched i = placeAfter i k (entriesIn tables s)
 
   pub searched-next : (i : ℕ) (t : Bool) → i < tables .count → same (part (220 * i) 148 s) k ≡ t
       → searched i ≡ (if t then some i else searched (i + 1))

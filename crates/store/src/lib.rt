@@ -1,14 +1,18 @@
 // Where entries are in the store: key search, counting, deletion, putting back, and gathering for READ.
 ghost use mathlib.Core.Path.{_≡_};
-ghost use mathlib.Core.List.{List};
+ghost use mathlib.Core.List.{List, _++_};
 ghost use Prim.Native.Nat.{ℕ, _+_, _-_, _/_, _≤_, _<_, min};
 ghost use lib.Dec.{leb};
 ghost use lib.ListN.{length, take};
-ghost use Rattle.rules.specs.Frame.{entrySize, keySize};
-ghost use Rattle.rules.specs.Bytes.{concat, part, same};
+ghost use Rattle.rules.specs.Frame.{entrySize, restSize};
+ghost use Rattle.rules.specs.Bytes.{concat};
+ghost use Rattle.rules.specs.Key.{shortKey};
 ghost use Rattle.rules.specs.Update.{noEntries, held as heldIn};
 ghost use Rattle.buffers.specs.Splice.{splice};
-ghost use Rattle.store.specs.Store.{entriesIn, entriesOf, tablesIn, InStore, place, placeOf, InRange, without, insertedAt, changedAt, Holds};
+ghost use Rattle.keys.specs.Rest.{ShortIf, ProbeOf};
+ghost use Rattle.store.specs.Store.{entriesIn, entriesOf, tablesIn, InStore, placeAfter, place, placeOf, InRange, without, insertedAt};
+ghost use Rattle.store.specs.Store.{changedAt, Holds};
+use keys::Probe;
 use numbers::integer;
 
 // What the record knows of a store: how many entries are in it.
@@ -46,40 +50,55 @@ pub enum Found {
     Absent,
 }
 
-// Whether the entry at a place has the key. First the words where the keys of one table mostly differ, the first and the last digits
-// of the first slot and the end of the last slot; then all bytes.
-fn has_key(store: &[u8], at: usize, key: &[u8]) -> bool
-    requires { ⌜ (at + keySize ≤ length (now store)) × (length (now key) ≡ keySize) ⌝ }
-    ensures { λ r. ⌜ r ≡ same (part at keySize (now (store .entry))) (now (key .entry)) ⌝ }
-{
-    if !buffers::equal_eight(store, at + 8, key, 8) {
-        return false;
-    }
-    if !buffers::equal_eight(store, at + 18, key, 18) {
-        return false;
-    }
-    if !buffers::equal_eight(store, at + 140, key, 140) {
-        return false;
-    }
-    let end = at + rules::KEY;
-    buffers::equal(&store[at..end], key)
-}
-
-// The place of the entry that has the key, 148 bytes in shortest form.
-pub fn find(store: &[u8], tables: Tables, key: &[u8]) -> Found
-    requires { ⌜ InStore tables (now store) × (length (now key) ≡ keySize) ⌝ }
-    ensures place { λ r. ⌜ placeOf r ≡ place (now (key .entry)) (entriesIn tables (now (store .entry))) ⌝ }
+// Where the entry of a key is, from the second entry on. An entry is looked at where the one compared last differs from the key, and
+// compared where it has the key's word there.
+fn search(
+    store: &[u8],
+    tables: Tables,
+    table: &[u8],
+    key: &[u8],
+    short: bool,
+    first: Probe,
+) -> Found
+    requires { ⌜ InStore tables (now store) × (length (now table) ≡ 4) × (length (now key) ≡ restSize) × ShortIf short (now key)
+        × ProbeOf (now key) first ⌝ }
+    ensures place { λ r. ⌜ placeOf r ≡ placeAfter 1 (shortKey (now (table .entry) ++ now (key .entry))) (entriesIn tables (now (store .entry))) ⌝ }
     ensures range { λ r. ⌜ InRange r tables ⌝ }
 {
     let count = tables.count;
-    let mut i: usize = 0;
+    let mut probe = first;
+    let mut i: usize = 1;
     while i < count {
-        if has_key(store, rules::ENTRY * i, key) {
-            return Found::At(i);
+        let at = rules::ENTRY * i;
+        let from = at + 4;
+        let end = at + rules::KEY;
+        if probe.meets(&store[from..end]) {
+            if keys::same_key(&store[at..end], table, key, short) {
+                return Found::At(i);
+            }
+            probe = keys::next_probe(&store[from..end], key, short);
         }
         i += 1;
     }
     Found::Absent
+}
+
+// The place of the entry that has a key, lent as it came: its table, and the 144 bytes after it. The first entry is compared, and where it
+// differs is where the others are looked at first.
+pub fn find(store: &[u8], tables: Tables, table: &[u8], key: &[u8]) -> Found
+    requires { ⌜ InStore tables (now store) × (length (now table) ≡ 4) × (length (now key) ≡ restSize) ⌝ }
+    ensures place { λ r. ⌜ placeOf r ≡ place (shortKey (now (table .entry) ++ now (key .entry))) (entriesIn tables (now (store .entry))) ⌝ }
+    ensures range { λ r. ⌜ InRange r tables ⌝ }
+{
+    if tables.count == 0 {
+        return Found::Absent;
+    }
+    let short = keys::is_short(key);
+    if keys::same_key(&store[0..rules::KEY], table, key, short) {
+        return Found::At(0);
+    }
+    let first = keys::next_probe(&store[4..rules::KEY], key, short);
+    search(store, tables, table, key, short, first)
 }
 
 // The number of entries of a table.
