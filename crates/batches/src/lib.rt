@@ -79,8 +79,7 @@ fn step(
     ensures { λ r. ⌜ Stepped (rowsIn count (now (rows .entry))) role atomicity i (now (update .entry)) tables (now (store .entry))
         (now (store .exit)) (now (log .entry)) (now (log .exit)) (now (answer .entry)) (now (answer .exit)) r ⌝ }
 {
-    let mut short = [0; rules::KEY];
-    let verdict = judging::judge(rows, count, role, store, tables, update, &mut short);
+    let verdict = judging::judge(rows, count, role, store, tables, update);
     let reason = verdict.reason();
     let at = 2 * i;
     write_pair(reason, &mut answer[at..]);
@@ -88,7 +87,7 @@ fn step(
         return Taken { tables, reason };
     }
     note_update(atomicity, verdict, store, tables, log, i);
-    let left = changes::apply(verdict, store, tables, update, &short);
+    let left = changes::apply(verdict, store, tables, update);
     Taken {
         tables: left,
         reason,

@@ -6,7 +6,6 @@ ghost use Prim.Native.Nat.{_+_, _*_, _≤_, _<_};
 ghost use lib.ListN.{length, drop};
 ghost use Rattle.rules.specs.Frame.{entrySize, keySize, updateSize};
 ghost use Rattle.rules.specs.Bytes.{part};
-ghost use Rattle.rules.specs.Key.{shortKey};
 ghost use Rattle.rules.specs.Entry.{shortEntry};
 ghost use Rattle.buffers.specs.Splice.{splice};
 ghost use Rattle.store.specs.Store.{entriesIn};
@@ -26,28 +25,26 @@ fn write_action(store: &mut [u8], i: usize, entry: &[u8])
     values::shorten_action(entry, &mut store[at..]);
 }
 
-// Writes an entry after the last one, in shortest form, which its key has already.
-fn insert(store: &mut [u8], tables: Tables, entry: &[u8], short: &[u8]) -> Tables
-    requires { ⌜ (tables .count < 256) × (56320 ≤ length (now store)) × (length (now entry) ≡ entrySize)
-        × (now short ≡ shortKey (now entry)) ⌝ }
+// Writes an entry after the last one, in shortest form: its key goes from the frame to its place.
+fn insert(store: &mut [u8], tables: Tables, entry: &[u8]) -> Tables
+    requires { ⌜ (tables .count < 256) × (56320 ≤ length (now store)) × (length (now entry) ≡ entrySize) ⌝ }
     ensures { λ r. ⌜ Done Insert (now (entry .entry)) tables (now (store .entry)) (now (store .exit)) r ⌝ }
 {
     let count = tables.count;
     let at = rules::ENTRY * count;
-    buffers::copy(short, &mut store[at..]);
+    values::shorten_key(entry, &mut store[at..]);
     write_action(store, count, entry);
     Tables { count: count + 1 }
 }
 
-// Does what a verdict says with an entry, whose key in shortest form is `short`.
-fn perform(verdict: Verdict, store: &mut [u8], tables: Tables, entry: &[u8], short: &[u8]) -> Tables
-    requires { ⌜ Possible verdict tables × (tables .count ≤ 256) × (56320 ≤ length (now store)) × (length (now entry) ≡ entrySize)
-        × (now short ≡ shortKey (now entry)) ⌝ }
+// Does what a verdict says with an entry.
+fn perform(verdict: Verdict, store: &mut [u8], tables: Tables, entry: &[u8]) -> Tables
+    requires { ⌜ Possible verdict tables × (tables .count ≤ 256) × (56320 ≤ length (now store)) × (length (now entry) ≡ entrySize) ⌝ }
     ensures { λ r. ⌜ Done verdict (now (entry .entry)) tables (now (store .entry)) (now (store .exit)) r ⌝ }
 {
     match verdict {
         Verdict::Refused(_) => tables,
-        Verdict::Insert => insert(store, tables, entry, short),
+        Verdict::Insert => insert(store, tables, entry),
         Verdict::Modify(i) => {
             write_action(store, i, entry);
             tables
@@ -56,20 +53,13 @@ fn perform(verdict: Verdict, store: &mut [u8], tables: Tables, entry: &[u8], sho
     }
 }
 
-// Does what was judged of an update of 221 bytes, whose key in shortest form is `short`.
-pub fn apply(
-    verdict: Verdict,
-    store: &mut [u8],
-    tables: Tables,
-    update: &[u8],
-    short: &[u8],
-) -> Tables
-    requires { ⌜ Possible verdict tables × (tables .count ≤ 256) × (56320 ≤ length (now store)) × (length (now update) ≡ updateSize)
-        × (now short ≡ shortKey (drop 1 (now update))) ⌝ }
+// Does what was judged of an update of 221 bytes.
+pub fn apply(verdict: Verdict, store: &mut [u8], tables: Tables, update: &[u8]) -> Tables
+    requires { ⌜ Possible verdict tables × (tables .count ≤ 256) × (56320 ≤ length (now store)) × (length (now update) ≡ updateSize) ⌝ }
     ensures done { λ r. ⌜ Done verdict (drop 1 (now (update .entry))) tables (now (store .entry)) (now (store .exit)) r ⌝ }
     ensures left { λ r. ⌜ Ruled verdict (now (update .entry)) tables (now (store .entry)) (now (store .exit)) r ⌝ }
 {
-    perform(verdict, store, tables, &update[1..], short)
+    perform(verdict, store, tables, &update[1..])
 }
 
 // ---- undoing

@@ -4,7 +4,6 @@ use mathlib.Core.Bool.{Bool, true, false, not}
 use mathlib.Core.List.{List, _∷_, _++_}
 use mathlib.Core.Option.{some}
 use Prim.Native.Nat.{ℕ, _<_}
-use lib.ListN.{drop}
 use Rattle.rules.specs.Bytes.{between}
 use Rattle.rules.specs.Reason.{first}
 use Rattle.rules.specs.Frame.{Update, updateOf}
@@ -65,7 +64,3 @@ abbrev pub PlaceJudged : Verdict → Found → Row → ℕ → List (List ℕ) �
 PlaceJudged v found row type es =
     (e : List ℕ) → placeOf found ≡ place (shortKey e) es
     → (reasonOf v ≡ first (placesIn row type e (record { entries = es }))) × Justified v type e es
-
--- where an update of 221 bytes takes effect, its key in shortest form
-abbrev pub Shortened : Verdict → List ℕ → List ℕ → Type 0
-Shortened v u short = reasonOf v ≡ 0 → short ≡ shortKey (drop 1 u)

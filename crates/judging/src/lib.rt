@@ -6,15 +6,14 @@ ghost use Prim.Native.Nat.{ℕ};
 ghost use lib.ListN.{length, drop};
 ghost use Rattle.rules.specs.Bytes.{byte};
 ghost use Rattle.rules.specs.Reason.{first};
-ghost use Rattle.rules.specs.Frame.{keySize, rowSize, updateSize, updateOf};
+ghost use Rattle.rules.specs.Frame.{rowSize, updateSize, updateOf};
 ghost use Rattle.rules.specs.Row as rules;
-ghost use Rattle.rules.specs.Key.{shortKey};
 ghost use Rattle.rules.specs.Update.{isInsert};
 ghost use Rattle.rules.specs.Full.{judgeFullBy};
 ghost use Rattle.rows.specs.Meaning.{rowOf, rowsSize, rowsIn};
 ghost use Rattle.store.specs.declared.Tables as stored;
-ghost use Rattle.store.specs.Store.{entriesIn, tablesIn, InStore, InRange, place, placeOf};
-ghost use Rattle.judging.specs.Verdict.{rowOrder, reasonOf, judged, Justified, Possible, PlaceJudged, Shortened};
+ghost use Rattle.store.specs.Store.{entriesIn, tablesIn, InStore, InRange};
+ghost use Rattle.judging.specs.Verdict.{rowOrder, reasonOf, judged, Justified, Possible, PlaceJudged};
 use numbers::integer;
 use store::Found;
 use store::Tables;
@@ -39,17 +38,6 @@ impl Verdict {
             Verdict::Delete(_) => 0,
         }
     }
-}
-
-// Where the entry of a key of 148 bytes is. Keys are compared in shortest form, into which this one is brought at `short`.
-fn look_up(store: &[u8], tables: Tables, key: &[u8], short: &mut [u8]) -> Found
-    requires { ⌜ InStore tables (now store) × (length (now key) ≡ keySize) × (length (now short) ≡ keySize) ⌝ }
-    ensures place { λ r. ⌜ placeOf r ≡ place (shortKey (now (key .entry))) (entriesIn tables (now (store .entry))) ⌝ }
-    ensures range { λ r. ⌜ InRange r tables ⌝ }
-    ensures short { λ _. ⌜ now (short .exit) ≡ shortKey (now (key .entry)) ⌝ }
-{
-    values::shorten_key(key, short);
-    store::find(store, tables, short)
 }
 
 // 20 and 22 of an INSERT, by where its key was found.
@@ -114,8 +102,8 @@ fn row_reason(known: bool, row: &[u8], role: u8, update: &[u8]) -> u8
     checks::entry_reason(row, kind, &update[1..])
 }
 
-// Judges an update of 221 bytes by whether its table is known, the table's row, the role and the entries stored. Its key is brought
-// into shortest form at `short` when it is searched for.
+// Judges an update of 221 bytes by whether its table is known, the table's row, the role and the entries stored. Its key is searched for
+// as it is in the frame.
 fn judge_by(
     known: bool,
     row: &[u8],
@@ -123,21 +111,18 @@ fn judge_by(
     store: &[u8],
     tables: Tables,
     update: &[u8],
-    short: &mut [u8],
 ) -> Verdict
-    requires { ⌜ (length (now row) ≡ rowSize) × InStore tables (now store) × (length (now update) ≡ updateSize)
-        × (length (now short) ≡ keySize) ⌝ }
+    requires { ⌜ (length (now row) ≡ rowSize) × InStore tables (now store) × (length (now update) ≡ updateSize) ⌝ }
     ensures reason { λ r. ⌜ reasonOf r ≡ judgeFullBy 2 known (rowOf (now (row .entry))) role (tablesIn tables (now (store .entry)))
         (updateOf (now (update .entry))) ⌝ }
     ensures justified { λ r. ⌜ Justified r (byte 0 (now (update .entry))) (drop 1 (now (update .entry))) (entriesIn tables (now (store .entry))) ⌝ }
     ensures possible { λ r. ⌜ Possible r tables ⌝ }
-    ensures short { λ r. ⌜ Shortened r (now (update .entry)) (now (short .exit)) ⌝ }
 {
     let wrong = row_reason(known, row, role, update);
     if wrong != 0 {
         return Verdict::Refused(wrong);
     }
-    let found = look_up(store, tables, &update[1..149], short);
+    let found = store::find(store, tables, &update[1..5], &update[5..149]);
     let kind = update[0];
     if kind == 1 {
         return judge_insert(found, row, store, tables);
@@ -146,7 +131,6 @@ fn judge_by(
 }
 
 // Judges an update of 221 bytes by the rows in force, the role and the entries stored. The row of its table is looked up once, and lent.
-// Where the update takes effect, `short` is its key in shortest form.
 pub fn judge(
     rows: &[u8],
     count: u8,
@@ -154,14 +138,11 @@ pub fn judge(
     store: &[u8],
     tables: Tables,
     update: &[u8],
-    short: &mut [u8],
 ) -> Verdict
-    requires { ⌜ (length (now rows) ≡ rowsSize) × InStore tables (now store) × (length (now update) ≡ updateSize)
-        × (length (now short) ≡ keySize) ⌝ }
+    requires { ⌜ (length (now rows) ≡ rowsSize) × InStore tables (now store) × (length (now update) ≡ updateSize) ⌝ }
     ensures reason { λ r. ⌜ reasonOf r ≡ judged (rowsIn count (now (rows .entry))) role tables (now (store .entry)) (now (update .entry)) ⌝ }
     ensures justified { λ r. ⌜ Justified r (byte 0 (now (update .entry))) (drop 1 (now (update .entry))) (entriesIn tables (now (store .entry))) ⌝ }
     ensures possible { λ r. ⌜ Possible r tables ⌝ }
-    ensures short { λ r. ⌜ Shortened r (now (update .entry)) (now (short .exit)) ⌝ }
 {
     let found = rows::find(rows, count, integer(update, 1, 4));
     let at = found.at;
@@ -173,6 +154,5 @@ pub fn judge(
         store,
         tables,
         update,
-        short,
     )
 }

@@ -1,12 +1,12 @@
 // What a READ shows, and why its query is refused (document 01, "Configuration and entries").
 ghost use mathlib.Core.Path.{_≡_};
+ghost use mathlib.Core.List.{_++_};
 ghost use Prim.Native.Nat.{_≤_};
 ghost use lib.ListN.{length};
-ghost use Rattle.rules.specs.Frame.{entrySize, keySize, rowSize};
+ghost use Rattle.rules.specs.Frame.{entrySize, restSize, rowSize};
 ghost use Rattle.rules.specs.Reason.{first};
 ghost use Rattle.rules.specs.Key.{shortKey};
 ghost use Rattle.rules.specs.Call.{queryOrder, asked, gathered};
-ghost use Rattle.buffers.specs.Splice.{splice};
 ghost use Rattle.rows.specs.Meaning.{rowOf, rowsSize, rowsIn};
 ghost use Rattle.store.specs.Store.{tablesIn, InStore};
 ghost use Rattle.reads.specs.Read.{keyIn, tableQueryOrder, Reads, ReadsKey, ReadsQuery};
@@ -91,12 +91,13 @@ fn read_all(
     n
 }
 
-// Writes the entry of a key of 148 bytes in shortest form, if it is there; the number of entries written.
-fn read_one(store: &[u8], tables: Tables, key: &[u8], answer: &mut [u8]) -> usize
-    requires { ⌜ InStore tables (now store) × (length (now key) ≡ keySize) × (entrySize ≤ length (now answer)) ⌝ }
-    ensures { λ r. ⌜ ReadsKey (now (key .entry)) tables (now (store .entry)) (now (answer .entry)) (now (answer .exit)) r ⌝ }
+// Writes the entry of a key, lent as it came, if it is there: its table, and the 144 bytes after it. The number of entries written.
+fn read_one(store: &[u8], tables: Tables, table: &[u8], key: &[u8], answer: &mut [u8]) -> usize
+    requires { ⌜ InStore tables (now store) × (length (now table) ≡ 4) × (length (now key) ≡ restSize) × (entrySize ≤ length (now answer)) ⌝ }
+    ensures { λ r. ⌜ ReadsKey (shortKey (now (table .entry) ++ now (key .entry))) tables (now (store .entry)) (now (answer .entry))
+        (now (answer .exit)) r ⌝ }
 {
-    let found = store::find(store, tables, key);
+    let found = store::find(store, tables, table, key);
     match found {
         Found::At(i) => {
             let from = rules::ENTRY * i;
@@ -108,25 +109,13 @@ fn read_one(store: &[u8], tables: Tables, key: &[u8], answer: &mut [u8]) -> usiz
     }
 }
 
-// Copies the key of a READ to the start of key: its table, and what follows `only`.
-fn copy_key(query: &[u8], key: &mut [u8])
-    requires { ⌜ (length (now query) ≡ 149) × (keySize ≤ length (now key)) ⌝ }
-    ensures { λ _. ⌜ now (key .exit) ≡ splice (now (key .entry)) 0 (keyIn (now (query .entry))) ⌝ }
-{
-    buffers::copy(&query[0..4], key);
-    buffers::copy(&query[5..149], &mut key[4..]);
-}
-
-// Writes the entry of the key of a READ, if it is there; the number of entries written.
+// Writes the entry of the key of a READ, if it is there; the number of entries written. The table and the rest of the key are where they
+// are in the frame, `only` between them.
 fn read_key(query: &[u8], store: &[u8], tables: Tables, answer: &mut [u8]) -> usize
     requires { ⌜ (length (now query) ≡ 149) × InStore tables (now store) × (entrySize ≤ length (now answer)) ⌝ }
     ensures { λ r. ⌜ ReadsKey (shortKey (keyIn (now (query .entry)))) tables (now (store .entry)) (now (answer .entry)) (now (answer .exit)) r ⌝ }
 {
-    let mut key = [0; rules::KEY];
-    copy_key(query, &mut key);
-    let mut short = [0; rules::KEY];
-    values::shorten_key(&key, &mut short);
-    read_one(store, tables, &short, answer)
+    read_one(store, tables, &query[0..4], &query[5..149], answer)
 }
 
 // Writes the entries that a READ asks for into an answer with room for 256 entries; their number.

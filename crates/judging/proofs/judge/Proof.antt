@@ -35,21 +35,17 @@ part-judge-by-end c = search needs
 judge-by-requires : tie.Need-judge-by-requires
 judge-by-requires c κs = search needs
 
-same-length : tie.Need-same-length
-same-length c = search needs
-
 returns : tie.Need-returns
 returns c =
-    let j = c .before .before in
-    let f = j .before .before .before in
-    let a = f .before .before .before .before .before .before .args in
+    let f = c .before .before in
+    let a = f .before .before .before .before .before .args in
     let u : List ℕ = now (a .update) in
     let rows = rowsIn (a .count) (now (a .rows)) in
     let at = f .find .result .at in
     let w : at + 53 - at ≡ 53 = omega arith in
     let its : f .before .integer .result ≡ tableOf (updateOf u .entry) = f .before .integer .ensures in
     let isKnown = f .find .ensures .0 ∙ ap (λ (n : ℕ). known n rows) its in
-    let v = j .judge-by .ensures in (
+    let v = c .judge-by .ensures in (
       judged-by-rows rows (a .role) (tablesIn (a .tables) (now (a .store))) (updateOf u) (rw w at (v .0)) isKnown
           (λ e. f .find .ensures .1 .0 e ∙ ap (λ (n : ℕ). rowFor n rows) its),
       v .1,
@@ -66,5 +62,4 @@ judge-spec =
     part-judge-by-start
     part-judge-by-end
     judge-by-requires
-    same-length
     returns)
