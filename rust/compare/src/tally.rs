@@ -208,10 +208,8 @@ impl Tally {
                     self.see("a CONFIGURE that empties the store");
                 }
             }
-            Frame::Write { updates, .. } if seen.reason == 13 => {
-                if updates.is_empty() {
-                    self.see("13 without updates");
-                }
+            Frame::Write { updates, .. } if seen.reason == 13 && updates.is_empty() => {
+                self.see("13 without updates");
             }
             Frame::Write { updates, .. } if is_done(seen.reason) => match updates.len() {
                 0 => self.see("no update"),
@@ -221,29 +219,34 @@ impl Tally {
             Frame::Read {
                 table, only, key, ..
             } if seen.reason == 0 => {
-                if view.entries.len() == 256 {
-                    self.see("a store of 256 entries");
-                }
-                if count == 256 {
-                    self.see("a READ of 256 entries");
-                }
-                if (*only, count) == (1, 0) {
-                    self.see("a READ of a key that is absent");
-                }
-                if *only == 1 {
-                    let (table, key) = (*table, parts::key(key));
-                    let entry = Entry {
-                        table,
-                        key,
-                        ..Entry::default()
-                    };
-                    self.padded.count_read(view, &entry, count > 0);
-                }
-                if seen.after_rollback && count > 0 {
-                    self.see("a READ of entries before and after a rollback");
-                }
+                let (table, key) = (*table, parts::key(key));
+                let entry = Entry {
+                    table,
+                    key,
+                    ..Entry::default()
+                };
+                self.look_at_read(view, (*only == 1).then_some(entry), seen, count);
             }
             _ => {}
+        }
+    }
+
+    /// A READ that was accepted, of a key or not; the entry has its table.
+    fn look_at_read(&mut self, view: &View, key: Option<Entry>, seen: &Seen<'_>, count: usize) {
+        if view.entries.len() == 256 {
+            self.see("a store of 256 entries");
+        }
+        if count == 256 {
+            self.see("a READ of 256 entries");
+        }
+        if let Some(entry) = key {
+            if count == 0 {
+                self.see("a READ of a key that is absent");
+            }
+            self.padded.count_read(view, &entry, count > 0);
+        }
+        if seen.after_rollback && count > 0 {
+            self.see("a READ of entries before and after a rollback");
         }
     }
 

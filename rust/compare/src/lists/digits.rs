@@ -65,6 +65,23 @@ pub fn pad_key(dice: &mut Dice, key: &mut Key) {
     }
 }
 
+/// Moves the last digit of one value of a key to the start of the next; nothing
+/// where that leaves no digit, or is not seen.
+pub fn move_digit(dice: &mut Dice, key: &mut Key) {
+    let slots = key.slots.iter_mut();
+    let values = slots.flat_map(|slot| [&mut slot.first, &mut slot.second]);
+    let mut present: Vec<&mut Value> = values.filter(|value| value.length > 0).collect();
+    let at = dice.below(present.len().saturating_sub(1));
+    if let Some([one, other]) = present.get_mut(at..at + 2) {
+        let (from, to) = (number(one), number(other));
+        let (digit, length) = (from & 0xff, digits(other).len());
+        if from > 0xff && digit > 0 && length < 16 {
+            **one = Value::of(from >> 8);
+            **other = Value::of(to | digit << (8 * length));
+        }
+    }
+}
+
 /// The ways in which a number may be nearly another.
 pub const WAYS: usize = 9;
 

@@ -8,7 +8,7 @@
 use std::collections::BTreeMap;
 use std::fmt;
 
-use reference::bytes::{Entry, Slot, Value};
+use reference::bytes::{Entry, Key, Slot, Value};
 
 use super::padded::paddings;
 use crate::lists::digits::{digits, number, padding};
@@ -33,6 +33,8 @@ pub enum Miss {
     Value(usize, Which),
     /// A padded value, in this way.
     Digits(Which, Way),
+    /// Where one value ends and the next starts, but in no digit.
+    Ends,
 }
 
 #[derive(Clone, Copy, Debug, PartialEq, Eq, PartialOrd, Ord)]
@@ -128,7 +130,7 @@ pub fn cells() -> impl Iterator<Item = Cell> {
 }
 
 fn all_misses() -> Vec<Miss> {
-    let mut all = vec![Miss::Table, Miss::Zero];
+    let mut all = vec![Miss::Table, Miss::Zero, Miss::Ends];
     for at in 0..4 {
         all.extend([Miss::Priority(at), Miss::Omitted(at), Miss::Present(at)]);
         all.extend(WHICH.map(|(which, _)| Miss::Value(at, which)));
@@ -157,13 +159,25 @@ fn misses(entry: &Entry, short: &Entry, stored: &Entry) -> Vec<Miss> {
                 _ => Vec::new(),
             }
         }
-        (true, true, &[at]) => {
+        (true, true, &[at]) if !has_digits_of(asked, kept) => {
             let padded = [entry.key.slots[at].first, entry.key.slots[at].second]
                 .map(|value| padding(&value) > 0);
             in_a_slot(at, padded, &asked.slots[at], &kept.slots[at])
         }
+        (true, true, _) if has_digits_of(asked, kept) => vec![Miss::Ends],
         _ => Vec::new(),
     }
+}
+
+/// Do two keys have the same kinds, and the same digits one after the other?
+fn has_digits_of(asked: &Key, stored: &Key) -> bool {
+    let kinds = |key: &Key| key.slots.map(|slot| slot.kind);
+    let digits = |key: &Key| -> Vec<u8> {
+        let slots = key.slots.iter();
+        let values = slots.flat_map(|slot| [digits(&slot.first), digits(&slot.second)]);
+        values.flatten().copied().collect()
+    };
+    kinds(asked) == kinds(stored) && digits(asked) == digits(stored)
 }
 
 /// The same of a slot, whose values are padded or not.
@@ -248,6 +262,7 @@ impl fmt::Display for Miss {
         let name = |wanted: Which| WHICH[wanted as usize].1;
         match *self {
             Miss::Table => write!(f, "its table"),
+            Miss::Ends => write!(f, "where its values end, but in no digit"),
             Miss::Priority(at) => write!(f, "byte {} of its priority", 1 + at),
             Miss::Omitted(at) => write!(f, "slot {}, which is omitted", 1 + at),
             Miss::Present(at) => write!(f, "slot {}, which is present", 1 + at),
@@ -264,7 +279,6 @@ impl fmt::Display for Miss {
 mod tests {
     use super::*;
     use crate::lists::view::short_entry;
-    use reference::bytes::Key;
 
     const TABLE: u32 = 0x0200_0001;
 
@@ -310,6 +324,20 @@ mod tests {
         // Two parts, and a key without padding.
         assert!(seen(at_priority(8), stored).is_empty());
         assert!(seen(entry(8, &stored.key.slots), stored).is_empty());
+    }
+
+    #[test]
+    fn where_values_end() {
+        let of = |one: &[u8], two: &[u8]| entry(1, &[Slot::ternary(padded(one), padded(two))]);
+        let stored = short_entry(of(&[1, 2], &[3]));
+        assert_eq!(seen(of(&[1], &[2, 3]), stored), [Miss::Ends]);
+        assert!(seen(of(&[1], &[3, 2]), stored).is_empty());
+        let of = |one: &[u8], two: &[u8]| {
+            let slots = [Slot::exact(padded(one)), Slot::exact(padded(two))];
+            entry(1, &slots)
+        };
+        let stored = short_entry(of(&[1, 2], &[3]));
+        assert_eq!(seen(of(&[1], &[2, 3]), stored), [Miss::Ends]);
     }
 
     #[test]

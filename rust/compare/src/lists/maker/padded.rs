@@ -9,13 +9,14 @@ use reference::bytes::{kind, read_one, write, Entry, Row, Slot, Update, Value};
 
 use super::writing::of_table;
 use super::Maker;
-use crate::lists::digits::{nearly, number, pad_key, WAYS};
+use crate::lists::digits::{move_digit, nearly, number, pad_key, WAYS};
 use crate::lists::entries::{self, Spread};
 use crate::lists::view::View;
 
 /// How likely it is that a key differs in its table, its priority, a slot that
-/// is omitted, one that is not, and a value in each of its [`WAYS`].
-const CHANGES: [usize; 4 + WAYS] = [2, 2, 2, 5, 2, 3, 2, 2, 2, 2, 2, 4, 8];
+/// is omitted, one that is not, the place of a digit, and a value in each of
+/// its [`WAYS`].
+const CHANGES: [usize; 5 + WAYS] = [2, 2, 2, 5, 3, 2, 3, 2, 2, 2, 2, 2, 6, 8];
 
 impl Maker {
     /// A WRITE of updates whose keys are padded; READs of such keys are due
@@ -89,7 +90,8 @@ impl Maker {
                     1 => other.key.priority ^= 1 << self.dice.below(31),
                     2 => *slot = Slot::OMITTED,
                     3 => self.fill(field, slot),
-                    _ => self.alter(slot, change - 4),
+                    4 => move_digit(&mut self.dice, &mut other.key),
+                    _ => self.alter(slot, change - 5),
                 }
                 if other != entry && entries::allows(row, &other.key) {
                     return other;

@@ -132,21 +132,8 @@ impl Maker {
                 return frame;
             }
         }
-        let filling = self.mood == Mood::Flood && view.entries.len() <= 200;
-        if self.mood == Mood::Flood && !filling && self.dice.percent(10) {
-            return self.fill_up(view);
-        }
-        let atomic = if filling { 8 } else { 25 };
-        if !view.rows.is_empty() && self.dice.percent(atomic) {
-            return self.atomic(view, aims);
-        }
-        if !view.rows.is_empty() && !filling && self.dice.percent(15) {
-            return self.clean_up(view, aims);
-        }
-        // Few in a list that is to fill the store: they take entries out of it.
-        let padded = if self.mood == Mood::Flood { 8 } else { 25 };
-        if !view.rows.is_empty() && !filling && self.dice.percent(padded) {
-            return self.padded(view);
+        if let Some(frame) = self.planned(view, aims) {
+            return frame;
         }
         let head = self.speaker(view);
         let plain = if view.rows.is_empty() { 4 } else { 40 };
@@ -163,6 +150,30 @@ impl Maker {
             .map(|at| self.update(view, head.role, at, aims))
             .collect();
         write(head, atomicity, &updates)
+    }
+
+    /// A WRITE that is planned as a whole, if it is to be one.
+    fn planned(&mut self, view: &View, aims: &mut Vec<Aim>) -> Option<Vec<u8>> {
+        if view.rows.is_empty() {
+            return None;
+        }
+        let flood = self.mood == Mood::Flood;
+        let filling = flood && view.entries.len() <= 200;
+        if self.dice.percent(if filling { 8 } else { 25 }) {
+            return Some(self.atomic(view, aims));
+        }
+        if filling {
+            return None;
+        }
+        if flood && self.dice.percent(10) {
+            return Some(self.fill_up(view));
+        }
+        if self.dice.percent(15) {
+            return Some(self.clean_up(view, aims));
+        }
+        // Few in a list that is to fill the store: they take entries out of it.
+        let padded = if flood { 8 } else { 25 };
+        self.dice.percent(padded).then(|| self.padded(view))
     }
 
     /// A WRITE of new entries for all the room that there is, up to 64.
