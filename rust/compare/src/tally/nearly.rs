@@ -211,7 +211,7 @@ fn in_a_slot(at: usize, padded: [bool; 2], asked: &Slot, stored: &Slot) -> Vec<M
 fn ways(asked: &Value, stored: &Value) -> Vec<Way> {
     let (one, other) = (digits(asked), digits(stored));
     let mut all = Vec::new();
-    if one.len() == other.len() {
+    if one.len() == other.len() && one.len() > 1 {
         let mut differing = (0..one.len()).filter(|&at| one[at] != other[at]);
         if let (Some(at), None) = (differing.next(), differing.next()) {
             all.push(match at {
@@ -349,6 +349,7 @@ mod tests {
             (&[1, 2, 3], &[1, 9, 3], &[MiddleDigit]),
             (&[1, 2, 3], &[1, 2, 9], &[LastDigit]),
             (&[1, 2, 3], &[1, 9, 9], &[]),
+            (&[1], &[9], &[]),
             (&[0x0a], &[0x0a, 0], &[Start]),
             (&[0x0a, 0], &[0x0a], &[LongerEnd]),
             (&[0x0a], &[1, 0x0a], &[End]),

@@ -177,7 +177,7 @@ impl fmt::Display for Cell {
 /// The table of the values that were padded, by any number of bytes.
 impl fmt::Display for Counts {
     fn fmt(&self, f: &mut fmt::Formatter<'_>) -> fmt::Result {
-        write!(f, "{:26}", "padded values, by slot")?;
+        write!(f, "{:26}", "padded, by slot and value")?;
         for slot in 1..=VALUES.len() {
             write!(f, " {:>7}.1 {:>7}.2", slot, slot)?;
         }

@@ -43,19 +43,18 @@ impl Maker {
 
     fn padded_update(&mut self, view: &View, role: u8) -> Option<Update> {
         let mut entry = self.looked_up(view, role)?;
-        let kind = match view.place(&entry) {
-            Some(_) => self.dice.pick(&[1, 2, 3]),
-            None => self.dice.pick(&[1, 2, 3]),
-        };
+        let kind = self.dice.between(1, 3) as u8;
         entries::act(&mut self.dice, view.row(entry.table)?, &mut entry);
         pad_key(&mut self.dice, &mut entry.key);
         Some(self.littered(view, Update { kind, entry }))
     }
 
     /// An entry to be looked up: one that is stored, one that nearly is, or a
-    /// new one. Its key is in shortest form.
+    /// new one; mostly of a table whose keys have many values. Its key is in
+    /// shortest form.
     fn looked_up(&mut self, view: &View, role: u8) -> Option<Entry> {
-        let row = self.best_of_three(|maker| maker.own_row(view, role), values)?;
+        let drawn: Vec<Row> = (0..3).filter_map(|_| self.own_row(view, role)).collect();
+        let row = drawn.into_iter().max_by_key(values)?;
         let held = of_table(&view.entries, row.table);
         let stored = self.dice.choose(&held).map(|entry| **entry);
         Some(match (stored, self.dice.below(100)) {
@@ -63,16 +62,6 @@ impl Maker {
             (Some(stored), 45..=89) => self.nearly(view, &row, stored),
             _ => entries::entry(&mut self.dice, &row, Spread::Long),
         })
-    }
-
-    /// Draws three times, and takes what has the most of something.
-    fn best_of_three<T>(
-        &mut self,
-        draw: impl Fn(&mut Maker) -> Option<T>,
-        most: impl Fn(&T) -> usize,
-    ) -> Option<T> {
-        let drawn: Vec<T> = (0..3).filter_map(|_| draw(self)).collect();
-        drawn.into_iter().max_by_key(most)
     }
 
     /// An entry that differs in its table, or in one part of its key; as it is
