@@ -47,12 +47,16 @@ pub fn update(update: &wire::Update) -> Update {
 fn entry(entry: &wire::Entry) -> Entry {
     Entry {
         table: entry.table,
-        key: Key {
-            priority: entry.key.priority,
-            slots: entry.key.slots.map(slot),
-        },
+        key: key(&entry.key),
         action: entry.action,
         params: entry.parameters.map(value),
+    }
+}
+
+pub fn key(key: &wire::Key) -> Key {
+    Key {
+        priority: key.priority,
+        slots: key.slots.map(slot),
     }
 }
 

@@ -3,11 +3,13 @@
 mod after_key;
 mod atomic;
 mod full;
+mod nearly;
+mod padded;
 
 use std::collections::BTreeMap;
 use std::fmt;
 
-use reference::bytes::Update;
+use reference::bytes::{Entry, Update};
 use savorylatch::answer::{self, Status};
 use savorylatch::wire::Frame;
 use savorylatch::Command;
@@ -52,7 +54,8 @@ const OF_BATCHES: &[u8] = &[15, 16, 17, 18, 19, 20, 21, 22];
 const TYPES: [&str; 4] = ["other", "INSERT", "MODIFY", "DELETE"];
 
 /// Situations that a run has to come by, beside those of [`atomic::SIGHTS`],
-/// [`full::SIGHTS`] and [`after_key::cells`].
+/// [`full::SIGHTS`], [`after_key::cells`], [`padded::cells`] and
+/// [`nearly::cells`].
 const SIGHTS: [&str; 25] = [
     "status 0",
     "status 5",
@@ -93,6 +96,7 @@ pub struct Tally {
     free: [u64; 2],
     after_keys: after_key::Counts,
     full: full::Watch,
+    padded: padded::Counts,
     ways: BTreeMap<(u8, &'static str), u64>,
     sights: BTreeMap<&'static str, u64>,
 }
@@ -159,6 +163,7 @@ impl Tally {
             }
         }
         self.after_keys.count(view, *atomicity, &updates, reasons);
+        self.padded.count(view, *atomicity, &updates, reasons);
         for sight in self.full.sights(view, *atomicity, &updates, reasons) {
             self.see(sight);
         }
@@ -203,31 +208,45 @@ impl Tally {
                     self.see("a CONFIGURE that empties the store");
                 }
             }
-            Frame::Write { updates, .. } if seen.reason == 13 => {
-                if updates.is_empty() {
-                    self.see("13 without updates");
-                }
+            Frame::Write { updates, .. } if seen.reason == 13 && updates.is_empty() => {
+                self.see("13 without updates");
             }
             Frame::Write { updates, .. } if is_done(seen.reason) => match updates.len() {
                 0 => self.see("no update"),
                 64 => self.see("64 updates"),
                 _ => {}
             },
-            Frame::Read { only, .. } if seen.reason == 0 => {
-                if view.entries.len() == 256 {
-                    self.see("a store of 256 entries");
-                }
-                if count == 256 {
-                    self.see("a READ of 256 entries");
-                }
-                if (*only, count) == (1, 0) {
-                    self.see("a READ of a key that is absent");
-                }
-                if seen.after_rollback && count > 0 {
-                    self.see("a READ of entries before and after a rollback");
-                }
+            Frame::Read {
+                table, only, key, ..
+            } if seen.reason == 0 => {
+                let (table, key) = (*table, parts::key(key));
+                let entry = Entry {
+                    table,
+                    key,
+                    ..Entry::default()
+                };
+                self.look_at_read(view, (*only == 1).then_some(entry), seen, count);
             }
             _ => {}
+        }
+    }
+
+    /// A READ that was accepted, of a key or not; the entry has its table.
+    fn look_at_read(&mut self, view: &View, key: Option<Entry>, seen: &Seen<'_>, count: usize) {
+        if view.entries.len() == 256 {
+            self.see("a store of 256 entries");
+        }
+        if count == 256 {
+            self.see("a READ of 256 entries");
+        }
+        if let Some(entry) = key {
+            if count == 0 {
+                self.see("a READ of a key that is absent");
+            }
+            self.padded.count_read(view, &entry, count > 0);
+        }
+        if seen.after_rollback && count > 0 {
+            self.see("a READ of entries before and after a rollback");
         }
     }
 
@@ -269,6 +288,15 @@ impl Tally {
         }
     }
 
+    /// The situations that are told apart by what an update or a key has, each
+    /// with how often it was met.
+    fn cells(&self) -> Vec<(String, u64)> {
+        let after = after_key::cells().map(|cell| (cell.to_string(), self.after_keys.of(cell)));
+        let padded = padded::cells().map(|cell| (cell.to_string(), self.padded.of(cell)));
+        let nearly = nearly::cells().map(|cell| (cell.to_string(), self.padded.nearly.of(cell)));
+        after.chain(padded).chain(nearly).collect()
+    }
+
     /// What can be met and was not.
     fn missing(&self) -> Vec<String> {
         let mut missing = Vec::new();
@@ -301,8 +329,8 @@ impl Tally {
                 missing.push(sight.to_owned());
             }
         }
-        let cells = after_key::cells().filter(|&cell| self.after_keys.of(cell) == 0);
-        missing.extend(cells.map(|cell| cell.to_string()));
+        let unmet = self.cells().into_iter().filter(|(_, count)| *count == 0);
+        missing.extend(unmet.map(|(cell, _)| cell));
         missing
     }
 }
@@ -363,11 +391,11 @@ impl fmt::Display for Tally {
             }
             writeln!(f)?;
         }
-        writeln!(f, "\n{}\n", self.after_keys)?;
+        writeln!(f, "\n{}\n\n{}\n", self.after_keys, self.padded)?;
         let met = |count: Option<&u64>| count.copied().unwrap_or(0);
         let ways: Vec<u64> = ways::all().map(|way| met(self.ways.get(&way))).collect();
         let sights = all_sights().map(|sight| met(self.sights.get(sight)));
-        let cells = after_key::cells().map(|cell| self.after_keys.of(cell));
+        let cells = self.cells().into_iter().map(|(_, count)| count);
         let situations: Vec<u64> = sights.chain(cells).collect();
         let rarest = |counts: &[u64]| counts.iter().min().copied().unwrap_or(0);
         write!(

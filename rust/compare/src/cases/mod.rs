@@ -2,10 +2,10 @@
 //!
 //! A [`Case`] is a fresh agent and some calls, each with the bytes that must
 //! be answered. They come from document 01 (its bench cases and examples), from
-//! requests One, Two and Five of document 02, and from the published examples
-//! of P4Runtime as these rules decide them. Each is played to the library, to
-//! the second implementation and to looking back; most also to the program
-//! `play`.
+//! requests One, Two, Four and Five of document 02, and from the published
+//! examples of P4Runtime as these rules decide them. Each is played to the
+//! library, to the second implementation and to looking back; most also to the
+//! program `play`.
 
 mod arbitration;
 mod batches;
@@ -14,6 +14,7 @@ mod document;
 mod forms;
 mod full_store;
 mod matches;
+mod padded;
 mod reading;
 mod rollback;
 mod values;
@@ -57,6 +58,7 @@ pub fn all() -> Vec<Case> {
     cases.extend(deletes::cases());
     cases.extend(rollback::cases());
     cases.extend(full_store::cases());
+    cases.extend(padded::cases());
     cases
 }
 

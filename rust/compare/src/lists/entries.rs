@@ -2,6 +2,7 @@
 
 use reference::bytes::{kind, Action, Entry, Key, Row, Slot, Value};
 
+use super::digits::{self, pad_by};
 use crate::dice::Dice;
 
 /// Widths at and around the places where bytes and words end.
@@ -16,6 +17,8 @@ pub enum Spread {
     Narrow,
     /// Many, so that tables fill up.
     Wide,
+    /// Of any number of bytes, for keys that are nearly the same.
+    Long,
 }
 
 /// The number with the lowest `width` bits set.
@@ -31,8 +34,9 @@ pub fn ones(width: u8) -> u128 {
 pub fn number(dice: &mut Dice, width: u8, spread: Spread) -> u128 {
     let top = ones(width);
     let weights = match spread {
-        Spread::Narrow => [15, 15, 15, 10, 35, 10],
-        Spread::Wide => [2, 2, 2, 2, 2, 90],
+        Spread::Narrow => [15, 15, 15, 10, 35, 10, 0],
+        Spread::Wide => [2, 2, 2, 2, 2, 90, 0],
+        Spread::Long => [5, 5, 5, 5, 15, 5, 60],
     };
     match dice.weighted(&weights) {
         0 => 0,
@@ -40,7 +44,8 @@ pub fn number(dice: &mut Dice, width: u8, spread: Spread) -> u128 {
         2 => top,
         3 => top ^ (top >> 1),
         4 => dice.below(6) as u128 & top,
-        _ => dice.wide() & top,
+        5 => dice.wide() & top,
+        _ => dice.wide() >> (8 * dice.below(16)) & top,
     }
 }
 
@@ -82,6 +87,38 @@ pub fn present_slot(dice: &mut Dice, (kind, width): (u8, u8), spread: Spread) ->
     }
 }
 
+/// Does the row allow a key with values of good form, in slots that are as it
+/// has them?
+pub fn allows(row: &Row, key: &Key) -> bool {
+    let mut slots = fields(row).iter().zip(&key.slots);
+    let priority = match is_prioritised(row) {
+        true => 1..=i32::MAX as u32,
+        false => 0..=0,
+    };
+    priority.contains(&key.priority) && slots.all(|(&field, slot)| allows_slot(field, slot))
+}
+
+fn allows_slot((kind, width): (u8, u8), slot: &Slot) -> bool {
+    if slot.kind == kind::OMITTED {
+        return kind != kind::EXACT;
+    }
+    let (top, first, second) = (
+        ones(width),
+        digits::number(&slot.first),
+        digits::number(&slot.second),
+    );
+    first <= top
+        && match kind {
+            kind::LPM => {
+                let allowed = 1..=u128::from(width);
+                allowed.contains(&second) && first & ones(width - second as u8) == 0
+            }
+            kind::TERNARY => second != 0 && second <= top && first & !second == 0,
+            kind::RANGE => first <= second && second <= top && (first, second) != (0, top),
+            _ => true,
+        }
+}
+
 /// Do the fields of the row ask for a priority?
 pub fn is_prioritised(row: &Row) -> bool {
     fields(row).iter().any(|&(kind, _)| kind >= kind::TERNARY)
@@ -110,7 +147,7 @@ pub fn entry(dice: &mut Dice, row: &Row, spread: Spread) -> Entry {
         .collect();
     let priority = match (is_prioritised(row), spread) {
         (false, _) => 0,
-        (true, Spread::Narrow) => dice.pick(&[1, 1, 1, 2, 3, 0x7fff_ffff]),
+        (true, Spread::Narrow | Spread::Long) => dice.pick(&[1, 1, 1, 2, 3, 0x7fff_ffff]),
         (true, Spread::Wide) => dice.between(1, 0x7fff_ffff) as u32,
     };
     let mut entry = Entry {
@@ -153,8 +190,7 @@ fn pad_value(dice: &mut Dice, value: &mut Value) {
             1 => 16 - length,
             _ => dice.between(1, 16 - length),
         };
-        value.bytes.rotate_right(more);
-        value.length += more as u8;
+        pad_by(value, more);
     }
 }
 
@@ -176,18 +212,20 @@ pub fn rows(dice: &mut Dice, sizes: Sizes, owners: &[u8]) -> Vec<Row> {
     tables.extend([0x0200_0000, 0x02ff_ffff, 0x0212_ab34]);
     dice.shuffle(&mut tables);
     let drawn = draw_sizes(dice, sizes, count);
-    tables
-        .into_iter()
-        .zip(drawn)
-        .map(|(table, size)| {
-            let mut row = row(dice, table, size, owners);
-            // A table that is to be filled needs keys enough.
-            if sizes == Sizes::Full {
-                row.fields[0].1 = row.fields[0].1.max(16);
-            }
-            row
-        })
-        .collect()
+    let mut rows: Vec<Row> = Vec::new();
+    for (table, size) in tables.into_iter().zip(drawn) {
+        let mut row = row(dice, table, size, owners);
+        // A table that is to be filled needs keys enough.
+        if sizes == Sizes::Full {
+            row.fields[0].1 = row.fields[0].1.max(16);
+        }
+        // Keys of two tables are the same only where their fields allow it.
+        if let (Some(before), true) = (rows.last(), dice.percent(25)) {
+            (row.field_count, row.fields) = (before.field_count, before.fields);
+        }
+        rows.push(row);
+    }
+    rows
 }
 
 fn draw_sizes(dice: &mut Dice, sizes: Sizes, count: usize) -> Vec<u16> {

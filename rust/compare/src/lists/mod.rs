@@ -3,6 +3,7 @@
 //! A list is made call by call: its [`maker`] sees what the answers so far
 //! tell a host ([`view`]) and aims by it. The same seed gives the same list.
 
+pub mod digits;
 pub mod entries;
 pub mod maker;
 pub mod view;

@@ -8,6 +8,7 @@ use savorylatch::answer;
 use savorylatch::wire::Frame;
 use savorylatch::{Command, Reason};
 
+use super::digits::digits;
 use crate::parts;
 
 /// How many bygone entries and batches are remembered.
@@ -204,15 +205,8 @@ pub fn short_entry(mut entry: Entry) -> Entry {
 
 /// A value without leading zero bytes; one of no length, or too long, as it is.
 fn short(value: Value) -> Value {
-    let length = usize::from(value.length);
-    match value.bytes.get(..length) {
-        None | Some([]) => value,
-        Some(number) => {
-            let zeros = number[..length - 1]
-                .iter()
-                .take_while(|&&byte| byte == 0)
-                .count();
-            Value::string(&number[zeros..])
-        }
+    match digits(&value) {
+        [] => value,
+        shortest => Value::string(shortest),
     }
 }

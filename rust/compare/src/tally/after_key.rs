@@ -10,6 +10,7 @@ use std::fmt;
 use reference::bytes::{Action, Entry, Update, Value};
 
 use super::REASONS;
+use crate::lists::digits::number;
 use crate::lists::entries::{actions, ones, widths};
 use crate::lists::view::View;
 
@@ -213,14 +214,6 @@ fn fault(widths: &[u8], params: &[Value; 4]) -> After {
 fn has_no_form(value: &Value) -> bool {
     let after = value.bytes.get(usize::from(value.length)..);
     after.is_none_or(|after| after.iter().any(|&byte| byte != 0))
-}
-
-/// The number of a value of good form.
-fn number(value: &Value) -> u128 {
-    let shift = 8 * (16 - u32::from(value.length));
-    u128::from_be_bytes(value.bytes)
-        .checked_shr(shift)
-        .unwrap_or(0)
 }
 
 #[cfg(test)]

@@ -8,6 +8,7 @@
 mod atomic;
 mod deletes;
 mod frames;
+mod padded;
 mod stories;
 mod streams;
 mod writing;

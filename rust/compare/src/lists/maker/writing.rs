@@ -3,7 +3,7 @@
 use reference::bytes::{configure, read_all, read_one, write, Entry, Head, Row, Update};
 
 use super::{Aim, Maker, Mood};
-use crate::lists::entries::{self, Sizes};
+use crate::lists::entries::{self, Sizes, Spread};
 use crate::lists::view::View;
 use crate::lists::ways::{self, EntryWay, ENTRY_WAYS, ROWS_WAYS};
 
@@ -132,13 +132,8 @@ impl Maker {
                 return frame;
             }
         }
-        let filling = self.mood == Mood::Flood && view.entries.len() <= 200;
-        let atomic = if filling { 8 } else { 25 };
-        if !view.rows.is_empty() && self.dice.percent(atomic) {
-            return self.atomic(view, aims);
-        }
-        if !view.rows.is_empty() && !filling && self.dice.percent(15) {
-            return self.clean_up(view, aims);
+        if let Some(frame) = self.planned(view, aims) {
+            return frame;
         }
         let head = self.speaker(view);
         let plain = if view.rows.is_empty() { 4 } else { 40 };
@@ -155,6 +150,43 @@ impl Maker {
             .map(|at| self.update(view, head.role, at, aims))
             .collect();
         write(head, atomicity, &updates)
+    }
+
+    /// A WRITE that is planned as a whole, if it is to be one.
+    fn planned(&mut self, view: &View, aims: &mut Vec<Aim>) -> Option<Vec<u8>> {
+        if view.rows.is_empty() {
+            return None;
+        }
+        let flood = self.mood == Mood::Flood;
+        let filling = flood && view.entries.len() <= 200;
+        if self.dice.percent(if filling { 8 } else { 25 }) {
+            return Some(self.atomic(view, aims));
+        }
+        if filling {
+            return None;
+        }
+        if flood && self.dice.percent(10) {
+            return Some(self.fill_up(view));
+        }
+        if self.dice.percent(15) {
+            return Some(self.clean_up(view, aims));
+        }
+        // Few in a list that is to fill the store: they take entries out of it.
+        let padded = if flood { 8 } else { 25 };
+        self.dice.percent(padded).then(|| self.padded(view))
+    }
+
+    /// A WRITE of new entries for all the room that there is, up to 64.
+    fn fill_up(&mut self, view: &View) -> Vec<u8> {
+        let mut updates = Vec::new();
+        for row in &view.rows {
+            let room = usize::from(row.size).saturating_sub(view.held(row.table));
+            for _ in 0..room.min(64 - updates.len()) {
+                let entry = entries::entry(&mut self.dice, row, Spread::Wide);
+                updates.push(Update::insert(entry));
+            }
+        }
+        write(self.primary_head(view, 0), 0, &updates)
     }
 
     /// How many updates a WRITE has.
@@ -347,7 +379,10 @@ impl Maker {
         match self.dice.below(100) {
             0..=24 => read_all(device, role, 0),
             25..=44 => read_all(device, role, table),
-            45..=79 => {
+            45..=62 => self
+                .padded_read(view, device, role)
+                .unwrap_or_else(|| read_all(device, role, table)),
+            63..=79 => {
                 let mut entry = self.entry(view, &row);
                 if self.dice.percent(50) {
                     entries::pad(&mut self.dice, &mut entry);
