@@ -69,7 +69,7 @@ cargo run --release -p bench -- --quick         # to see that it runs
 cargo run --release -p bench -- --only TEXT     # only cases with this text in their names
 ```
 
-It takes about half a minute; `taskset -c 1` before it keeps it on one core. The release profile is \
+It takes about a minute; `taskset -c 1` before it keeps it on one core. The release profile is \
 Cargo's own. Link-time optimisation is off: the archive could take no part in it, so it would help \
 the second only. The program ends with 0 unless the two sides disagree: no time makes it fail.
 
