@@ -236,11 +236,8 @@ fn padded(benches: &[Bench]) -> String {
     if pairs.is_empty() {
         return String::new();
     }
-    let ratios = || {
-        pairs
-            .iter()
-            .map(|pair| pair.padded.proved / pair.shortest.proved)
-    };
+    let proved = |pair: &Pair| pair.ratio(|summary| summary.proved);
+    let ratios = || pairs.iter().filter_map(proved);
     let above = ratios().filter(|&ratio| ratio > PADDED_GOAL).count();
     let highest = ratios().fold(0.0, f64::max);
     let rows: String = pairs.iter().map(Pair::row).collect();
@@ -264,15 +261,15 @@ fn padded(benches: &[Bench]) -> String {
     )
 }
 
-/// A call with keys in both forms.
+/// A call with keys in both forms, as far as they were measured.
 struct Pair {
     task: Task,
     narrow: Narrow,
-    shortest: Summary,
-    padded: Summary,
+    shortest: Option<Summary>,
+    padded: Option<Summary>,
 }
 
-/// The pairs of which both forms were measured.
+/// The pairs of which a form was measured.
 fn pairs(benches: &[Bench]) -> Vec<Pair> {
     let find = |task: Task, keys: Keys| {
         let is_it = |bench: &&Bench| bench.case.task == Some(task) && bench.case.keys == Some(keys);
@@ -280,33 +277,42 @@ fn pairs(benches: &[Bench]) -> Vec<Pair> {
     };
     let mut pairs = Vec::new();
     for narrow in Narrow::ALL {
-        pairs.extend(Task::ALL.iter().filter_map(|&task| {
-            Some(Pair {
-                task,
-                narrow,
-                shortest: find(task, Keys::Narrow(narrow, Form::Shortest))?,
-                padded: find(task, Keys::Narrow(narrow, Form::Padded))?,
-            })
+        pairs.extend(Task::ALL.map(|task| Pair {
+            task,
+            narrow,
+            shortest: find(task, Keys::Narrow(narrow, Form::Shortest)),
+            padded: find(task, Keys::Narrow(narrow, Form::Padded)),
         }));
     }
+    pairs.retain(|pair| pair.shortest.is_some() || pair.padded.is_some());
     pairs
 }
 
 impl Pair {
+    /// Padded to shortest, of one side.
+    fn ratio(&self, time: fn(Summary) -> f64) -> Option<f64> {
+        Some(time(self.padded?) / time(self.shortest?))
+    }
+
+    /// Times and ratio of one side; a cell is empty where nothing was measured.
+    fn cells(&self, time: fn(Summary) -> f64) -> String {
+        let nanos = |form: Option<Summary>| form.map(time).map_or(String::new(), nanos);
+        let ratio = self.ratio(time).map(|ratio| format!("{ratio:.2}"));
+        let ratio = ratio.unwrap_or_default();
+        format!(
+            "{} | {} | {ratio}",
+            nanos(self.shortest),
+            nanos(self.padded)
+        )
+    }
+
     fn row(&self) -> String {
-        let Pair {
-            shortest, padded, ..
-        } = self;
-        let cells = |one: f64, other: f64| {
-            let ratio = other / one;
-            format!("{} | {} | {ratio:.2}", nanos(one), nanos(other))
-        };
         format!(
             "| {} | {} | {} | {} |\n",
             self.task.name(),
             self.narrow.name(),
-            cells(shortest.proved, padded.proved),
-            cells(shortest.second, padded.second),
+            self.cells(|summary| summary.proved),
+            self.cells(|summary| summary.second),
         )
     }
 }
@@ -497,11 +503,17 @@ mod tests {
         let pair = Pair {
             task: Task::ReadLast,
             narrow: Narrow::Late,
-            shortest: summary(200.0, 100.0),
-            padded: summary(250.0, 110.0),
+            shortest: Some(summary(200.0, 100.0)),
+            padded: Some(summary(250.0, 110.0)),
         };
         let row = "| READ of 1 key, last of 256 | late | 200 | 250 | 1.25 | 100 | 110 | 1.10 |\n";
         assert_eq!(pair.row(), row);
+        let one = Pair {
+            shortest: None,
+            ..pair
+        };
+        let row = "| READ of 1 key, last of 256 | late |  | 250 |  |  | 110 |  |\n";
+        assert_eq!(one.row(), row);
     }
 
     #[test]
