@@ -1,8 +1,12 @@
 /* Counts the copies of memory in one call of each kind: memcpy and memmove are replaced by ones that count. Prints a table, with the
  * counts of the library's first version beside it (docs/SPEED.md); atomic batches, which it did not have, are shown without. Each call is
- * made on a stack of its own, of which it is seen afterwards how much was used. Exit status 0: no call makes more than half as many
- * copies as it did then, nor moves more than half as many bytes, beside one copy of the key for each entry that it stores; and none uses
- * more stack than the header says.
+ * made on a stack of its own, of which it is seen afterwards how much was used.
+ * A second table is of keys alone: that an update or a READ of one key searches for it where it lies, in the frame. A short copy is no
+ * call of memcpy, so the stack is searched for the key after each call: a local array would have left it there. The copies that are
+ * calls are held to those of a WRITE of no update and of a READ of all.
+ * Exit status 0: no call makes more than half as many copies as the first version, nor moves more than half as many bytes, beside one
+ * copy of the key for each entry that it stores; none uses more stack than the header says; none that searches for a key makes one copy
+ * more than one that does not, but for the key that an INSERT stores; and none leaves more of a key on its stack than a register holds.
  * cc -std=c11 -O1 -fno-builtin -Ic/include c/tests/copies.c target/staticlib/libsavorylatch.a -o copies && ./copies */
 #define _XOPEN_SOURCE 700
 #include "savorylatch.h"
@@ -147,17 +151,15 @@ static size_t but(size_t length, size_t at, uint8_t byte) {
 enum { UNUSED = 0xA5 };
 static uint8_t stack[1 << 17];
 static ucontext_t here, there;
-static size_t length, buffer, deepest;
+static size_t length, buffer, left, deepest;
 static uint8_t returned;
 
 static void on_stack(void) {
     returned = savorylatch_call(&agent, frame, length, store, sizeof store, answer, buffer);
 }
 
-/* One call on a stack that is marked beforehand; it grows down, so that the marks that are left are at its start. */
-static uint8_t call_in(size_t frame_length, size_t buffer_length) {
-    length = frame_length;
-    buffer = buffer_length;
+/* Runs a function on a stack that is marked beforehand; it grows down, so that the marks that are left are at its start. */
+static void run(void (*function)(void)) {
     for (size_t i = 0; i < sizeof stack; i++) {
         stack[i] = UNUSED;
     }
@@ -165,12 +167,17 @@ static uint8_t call_in(size_t frame_length, size_t buffer_length) {
     there.uc_stack.ss_sp = stack;
     there.uc_stack.ss_size = sizeof stack;
     there.uc_link = &here;
-    makecontext(&there, on_stack, 0);
+    makecontext(&there, function, 0);
     swapcontext(&here, &there);
-    size_t left = 0;
-    while (left < sizeof stack && stack[left] == UNUSED) {
+    for (left = 0; left < sizeof stack && stack[left] == UNUSED;) {
         left++;
     }
+}
+
+static uint8_t call_in(size_t frame_length, size_t buffer_length) {
+    length = frame_length;
+    buffer = buffer_length;
+    run(on_stack);
     if (deepest < sizeof stack - left) {
         deepest = sizeof stack - left;
     }
@@ -185,27 +192,54 @@ static uint8_t call(size_t length) {
     return call_in(length, sizeof answer);
 }
 
-/* Each INSERT that takes effect copies its key in shortest form, 148 bytes, to the store, once: these are counted apart. The first version
- * moved the bytes of stored keys one by one. */
-static void counted(const char *what, unsigned reason, unsigned returned, size_t inserted, size_t first, size_t first_bytes) {
-    size_t copies = 0, bytes = 0, keys = 0, found = kinds;
-    printf("| %s | %u |", what, returned);
+/* The sizes of a key, with its table and without. */
+enum { KEY = 148, SLOTS = 144 };
+
+/* how many copies there were and of how many bytes, and those of them that have the size of a key */
+struct sums {
+    size_t copies, bytes, keys, key_bytes;
+};
+
+static struct sums sums(void) {
+    struct sums all = {0, 0, 0, 0};
+    for (size_t k = 0; k < kinds; k++) {
+        size_t times = seen[k].times, bytes = times * seen[k].size;
+        int key = seen[k].size == KEY || seen[k].size == SLOTS;
+        all.copies += times;
+        all.bytes += bytes;
+        all.keys += key ? times : 0;
+        all.key_bytes += key ? bytes : 0;
+    }
+    return all;
+}
+
+static void print_seen(void) {
+    size_t found = kinds;
     for (size_t k = 0; k < found; k++) {
         printf("%s %zu of %zu", k ? "," : "", seen[k].times, seen[k].size);
-        copies += seen[k].times;
-        bytes += seen[k].times * seen[k].size;
-        keys += seen[k].size == 148 ? seen[k].times : 0;
     }
-    printf(" | %zu | %zu | %zu | %zu |\n", copies, bytes, first, first_bytes);
+}
+
+static void expect(const char *what, unsigned reason, unsigned returned) {
     if (returned != reason) {
         printf("%s: the reason is %u, and not %u\n", what, returned, reason);
         failed = 1;
     }
-    if (keys > inserted) {
-        printf("%s: %zu copies of a key, and not %zu\n", what, keys, inserted);
+}
+
+/* Each INSERT that takes effect copies its key in shortest form, 148 bytes, to the store, once: these are counted apart. The first version
+ * moved the bytes of stored keys one by one. */
+static void counted(const char *what, unsigned reason, unsigned returned, size_t inserted, size_t first, size_t first_bytes) {
+    struct sums all = sums();
+    printf("| %s | %u |", what, returned);
+    print_seen();
+    printf(" | %zu | %zu | %zu | %zu |\n", all.copies, all.bytes, first, first_bytes);
+    expect(what, reason, returned);
+    if (all.keys > inserted) {
+        printf("%s: %zu copies of a key, and not %zu\n", what, all.keys, inserted);
         failed = 1;
     }
-    if (2 * (copies - keys) > first || 2 * (bytes - 148 * keys) > first_bytes) {
+    if (2 * (all.copies - all.keys) > first || 2 * (all.bytes - all.key_bytes) > first_bytes) {
         printf("%s: not halved\n", what);
         failed = 1;
     }
@@ -290,16 +324,10 @@ static void malformed(void) {
 static void new_row(const char *what, unsigned reason, size_t length) {
     kinds = 0;
     unsigned returned = call(length);
-    size_t found = kinds;
     printf("| %s | %u |", what, returned);
-    for (size_t k = 0; k < found; k++) {
-        printf("%s %zu of %zu", k ? "," : "", seen[k].times, seen[k].size);
-    }
+    print_seen();
     printf(" | | | | |\n");
-    if (returned != reason) {
-        printf("%s: the reason is %u, and not %u\n", what, returned, reason);
-        failed = 1;
-    }
+    expect(what, reason, returned);
 }
 
 /* batches of atomicity 1, while the keys 1 to 64 are stored, as they are again after these */
@@ -343,6 +371,182 @@ static void commands(void) {
     row("READ of one key", 0, read(1, 0, 1), 7, 7960);
 }
 
+/* ---- keys that are searched for
+
+ * A key of four slots, each digit of which is another: no part of it is on a stack by chance, but zeros. Keys of two numbers differ in
+ * their last digit. */
+
+enum { DIGITS = 12, EXACT = 8, LPM = 43, TERNARY = 78, RANGE = 113, SECOND = 18 };
+
+/* how the values of keys are sent, and the key of the frame that was made last, as it is sent and in shortest form */
+static enum form { SHORTEST, PADDED } form;
+static const char *const form_names[] = {"shortest", "padded"};
+static uint8_t sent[KEY], shortest[KEY];
+
+/* a value of so many digits, the first of them this one and each one more than that before it; where its last digit is */
+static uint8_t *value(uint8_t *at, uint8_t first, uint8_t digits, enum form form) {
+    uint8_t zeros = form == PADDED ? 16 - digits : 0;
+    at[0] = zeros + digits;
+    for (uint8_t i = 0; i < digits; i++) {
+        at[1 + zeros + i] = first + i;
+    }
+    return at + zeros + digits;
+}
+
+/* the key of a number with its table before it; the mask is the value with the highest bit of each digit set */
+static void make_key(uint8_t *key, uint8_t number, enum form form) {
+    memset(key, 0, KEY);
+    key[0] = 2;
+    key[3] = 1;
+    key[7] = 1;
+    for (uint8_t slot = 0; slot < 4; slot++) {
+        key[EXACT + 35 * slot] = slot + 1;
+        value(key + EXACT + 35 * slot + 1, 1 + 24 * slot, DIGITS, form);
+    }
+    value(key + LPM + SECOND, 128, 1, form);
+    value(key + TERNARY + SECOND, 128 + 49, DIGITS, form);
+    *value(key + RANGE + SECOND, 97, DIGITS, form) = 0xF0 + number;
+}
+
+static void make_keys(uint8_t number) {
+    make_key(sent, number, form);
+    make_key(shortest, number, SHORTEST);
+}
+
+/* one table, 0x02000001, of two entries: an exact, an lpm, a ternary and a range field of 128 bits, and an action without parameters */
+static size_t configure_four(void) {
+    static const uint8_t fields[] = {0, 2, 4, 1, 128, 2, 128, 3, 128, 4, 128};
+    size_t length = configure(1, 0, 9);
+    move(frame + 33, fields, sizeof fields);
+    return length;
+}
+
+static size_t write_key(uint8_t atomicity, uint8_t type, uint8_t number) {
+    size_t length = write(1, 0, 9, atomicity, type, 1);
+    make_keys(number);
+    move(frame + 30, sent, KEY);
+    return length;
+}
+
+static size_t read_key(uint8_t number) {
+    size_t length = read(1, 0, 1);
+    make_keys(number);
+    move(frame + 15, sent + 4, SLOTS);
+    return length;
+}
+
+/* ---- and whether they were copied */
+
+/* What a register leaves on the stack is no array: the widest that an archive may use has 32 bytes, as have two of 16 side by side. A slot
+ * has 35, and a key four of them. */
+enum { REGISTER = 32 };
+
+static size_t searches, longest;
+
+/* How many bytes of the key, from one place on, are on the stack from another on, up to one that is not zero: zeros are anywhere. */
+static size_t run_at(const uint8_t *key, size_t from, size_t at) {
+    size_t bytes = 0;
+    for (size_t i = 0; from + i < KEY && at + i < sizeof stack && stack[at + i] == key[from + i]; i++) {
+        if (key[from + i] != 0) {
+            bytes = i + 1;
+        }
+    }
+    return bytes;
+}
+
+/* the longest run of the key's bytes in what was used of the stack */
+static size_t run_of(const uint8_t *key) {
+    size_t most = 0;
+    for (size_t at = left; at < sizeof stack; at++) {
+        for (size_t from = 0; from < KEY; from++) {
+            size_t bytes = key[from] == stack[at] && key[from] != 0 ? run_at(key, from, at) : 0;
+            most = bytes > most ? bytes : most;
+        }
+    }
+    return most;
+}
+
+static size_t key_on_stack(void) {
+    size_t one = run_of(sent), other = run_of(shortest);
+    return one > other ? one : other;
+}
+
+/* A call with a key: it makes the copies of one without, and at most so many more, of the key that it stores; and leaves no key behind. */
+static void keyed(const char *what, unsigned reason, size_t length, struct sums without, size_t stored) {
+    kinds = 0;
+    unsigned returned = call(length);
+    struct sums all = sums();
+    size_t bytes = key_on_stack();
+    printf("| %s | %s | %u |", what, form_names[form], returned);
+    print_seen();
+    printf(" | %zu |\n", bytes);
+    expect(what, reason, returned);
+    size_t copies = all.copies - without.copies, more = all.bytes - without.bytes;
+    if (copies > stored || more > KEY * stored) {
+        printf("%s, %s: %zu copies of %zu bytes, where without a key they are %zu of %zu\n", what, form_names[form], all.copies, all.bytes,
+               without.copies, without.bytes);
+        failed = 1;
+    }
+    if (bytes > REGISTER) {
+        printf("%s, %s: %zu bytes of the key in a row are on the stack\n", what, form_names[form], bytes);
+        failed = 1;
+    }
+    searches++;
+    longest = bytes > longest ? bytes : longest;
+}
+
+/* the copies of a call without a key */
+static struct sums sums_of(size_t length) {
+    kinds = 0;
+    expect("a call without a key", 0, call(length));
+    return sums();
+}
+
+/* WRITEs of one update to a table with room for two entries; 1 is left in it. What is refused under 20 to 22 ends with its search, so
+ * that nothing comes after it that could hide what it left. A DELETE that is rolled back is not among these: its entry is made anew in
+ * an array, which is no search. */
+static void written(void) {
+    struct sums none = sums_of(write(1, 0, 9, 0, 1, 0)), atomic = sums_of(write(1, 0, 9, 1, 1, 0));
+    keyed("WRITE of 1 INSERT, store empty", 0, write_key(0, 1, 1), none, 1);
+    keyed("WRITE of 1 MODIFY, absent: 21", 23, write_key(0, 2, 2), none, 0);
+    keyed("WRITE of 1 DELETE, absent: 21", 23, write_key(0, 3, 2), none, 0);
+    keyed("WRITE of 1 INSERT", 0, write_key(0, 1, 2), none, 1);
+    keyed("WRITE of 1 INSERT, stored: 20", 23, write_key(0, 1, 2), none, 0);
+    keyed("WRITE of 1 INSERT, table full: 22", 23, write_key(0, 1, 3), none, 0);
+    keyed("WRITE of 1 MODIFY", 0, write_key(0, 2, 2), none, 0);
+    keyed("WRITE of 1 DELETE", 0, write_key(0, 3, 2), none, 0);
+    keyed("atomic WRITE of 1 INSERT", 0, write_key(1, 1, 2), atomic, 1);
+    keyed("atomic WRITE of 1 INSERT, stored: 20", 23, write_key(1, 1, 2), atomic, 0);
+    keyed("atomic WRITE of 1 MODIFY", 0, write_key(1, 2, 2), atomic, 0);
+    keyed("atomic WRITE of 1 DELETE", 0, write_key(1, 3, 2), atomic, 0);
+}
+
+static void with_array(void) {
+    uint8_t key[KEY];
+    move(key, frame + 30, KEY);
+}
+
+/* An array with a key, to see that it is found. */
+static void array_found(void) {
+    write_key(0, 1, 1);
+    run(with_array);
+    if (key_on_stack() < SLOTS) {
+        printf("%s: an array with the key is not found\n", form_names[form]);
+        failed = 1;
+    }
+}
+
+/* calls with keys whose values are sent in a form */
+static void searched(enum form values) {
+    form = values;
+    array_found();
+    expect("CONFIGURE of four fields", 0, call(configure_four()));
+    written();
+    struct sums all = sums_of(read(1, 0, 0));
+    keyed("READ of one key", 0, read_key(1), all, 0);
+    keyed("READ of one key, absent", 0, read_key(2), all, 0);
+}
+
 int main(void) {
     setvbuf(stdout, NULL, _IONBF, 0);
     savorylatch_new(&agent, 1);
@@ -351,6 +555,10 @@ int main(void) {
     events();
     refused_events();
     commands();
+    printf("\n| call with a key | values | reason | copies | bytes of the key in a row on the stack |\n|---|---|--:|---|--:|\n");
+    searched(SHORTEST);
+    searched(PADDED);
     printf("stack: %zu bytes at most, where the header says %d\n", deepest, SAVORYLATCH_STACK);
+    printf("keys: %zu calls with a key, of which %zu bytes in a row are on the stack at most\n", searches, longest);
     return failed || deepest > SAVORYLATCH_STACK;
 }

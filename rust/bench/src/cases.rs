@@ -8,6 +8,7 @@ mod atomic;
 mod entries;
 mod growth;
 mod keys;
+mod padded;
 mod refusals;
 mod state;
 mod streams;
@@ -15,6 +16,7 @@ mod streams;
 pub use atomic::{Batch, Way};
 pub use growth::Growth;
 pub use keys::Keys;
+pub use padded::{Form, Narrow, Task};
 pub use state::DEVICE;
 
 /// Entries that a store holds.
@@ -78,6 +80,8 @@ pub struct Case {
     pub growth: Option<(Growth, usize)>,
     /// The row of the table of atomic batches that the case is in, and the way it goes.
     pub atomic: Option<(Batch, Way)>,
+    /// What the case does with a key, if it is in the table of padded keys.
+    pub task: Option<Task>,
 }
 
 /// Every case of the table, in its order.
@@ -93,6 +97,7 @@ pub fn table() -> Vec<Case> {
         atomic::all(),
         entries::read_many(),
         entries::read_key(),
+        padded::all(),
         refusals::calls(),
         refusals::updates(),
     ]
@@ -108,10 +113,10 @@ pub fn series() -> Vec<Case> {
 
 impl Case {
     /// Is it in the table of all commands? The series are not, nor the plain batches that are
-    /// measured again beside atomic ones.
+    /// measured again beside atomic ones, nor the cases of padded keys.
     pub fn in_commands(&self) -> bool {
         let plain = matches!(self.atomic, Some((_, Way::Plain)));
-        self.growth.is_none() && !plain
+        self.growth.is_none() && self.task.is_none() && !plain
     }
 
     /// Is there nothing to undo?

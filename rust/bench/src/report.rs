@@ -2,7 +2,7 @@
 
 use std::fs;
 
-use crate::cases::{Batch, Growth, Keys, Way, ENTRY, FULL};
+use crate::cases::{Batch, Form, Growth, Keys, Narrow, Task, Way, ENTRY, FULL};
 use crate::measure::{Bench, Plan, Summary, QUIET};
 use crate::plot::{self, Line};
 
@@ -15,6 +15,7 @@ pub fn tables(benches: &[Bench]) -> String {
     [
         commands(benches),
         atomic(benches),
+        padded(benches),
         copies(benches),
         series(benches),
     ]
@@ -68,7 +69,7 @@ cargo run --release -p bench -- --quick         # to see that it runs
 cargo run --release -p bench -- --only TEXT     # only cases with this text in their names
 ```
 
-It takes about half a minute; `taskset -c 1` before it keeps it on one core. The release profile is \
+It takes about a minute; `taskset -c 1` before it keeps it on one core. The release profile is \
 Cargo's own. Link-time optimisation is off: the archive could take no part in it, so it would help \
 the second only. The program ends with 0 unless the two sides disagree: no time makes it fail.
 
@@ -94,7 +95,8 @@ the next entry is the first. What the clock takes by itself is measured and subt
 - Keys that differ *early* differ in the first byte of a 16-byte exact value (one of 256 in the \
 second), those that differ *late* in the last byte. *Four slots* is a table of four fields of 128 \
 bits (exact, lpm, ternary, range) and four parameters of 128 bits, where keys differ in the last \
-byte of the fourth slot. Elsewhere keys differ late, or there are none.
+byte of the fourth slot. Elsewhere keys differ late, or there are none; *Padded keys* has keys of its \
+own.
 - Nanoseconds are for one call, also where the call has 64 updates.
 - How the linker lays the code out sways single cases from one build to the next. Of the second: by up \
 to a half where CLOSE and ARBITRATE notify many streams, elsewhere by a few percent. Of the proved \
@@ -223,6 +225,96 @@ fn atomic_cells(proved: impl Fn(Way) -> Option<f64>) -> String {
         ratio(Way::SecondFails, Way::Accepted),
     ]
     .join(" | ")
+}
+
+/// The highest ratio of padded keys to shortest ones that is asked for.
+const PADDED_GOAL: f64 = 1.5;
+
+/// Calls with padded keys beside the same ones with keys in shortest form.
+fn padded(benches: &[Bench]) -> String {
+    let pairs = pairs(benches);
+    if pairs.is_empty() {
+        return String::new();
+    }
+    let proved = |pair: &Pair| pair.ratio(|summary| summary.proved);
+    let ratios = || pairs.iter().filter_map(proved);
+    let above = ratios().filter(|&ratio| ratio > PADDED_GOAL).count();
+    let highest = ratios().fold(0.0, f64::max);
+    let rows: String = pairs.iter().map(Pair::row).collect();
+    format!(
+        "## Padded keys\n\n\
+         Nanoseconds for one call whose keys are in shortest form, and for the same call with every \
+         value of its keys padded with leading zeros to 16 bytes, masks and prefix lengths too; \
+         *ratio* is padded to shortest, of these medians, of the proved agent and of the second, all \
+         measured in the same passes. The entries stored are the same, and so are parameters.\n\n\
+         In shortest form a value has 12 bytes, and 4 in the keys named so: addresses in a field of 32 \
+         bits. Keys that differ *early* differ in the first byte of one exact value (one of 256 in the \
+         second), *late* ones and addresses in the last byte. *Four slots* are exact, lpm, ternary and \
+         range, of 128 bits: keys differ in the last byte of the last slot's second value, or, in the \
+         *middle*, of the second slot's first value.\n\n\
+         Goal: at most {PADDED_GOAL:.2}. {} pairs; in {above} of them the proved agent's ratio is above \
+         it, and {highest:.2} is the highest.\n\n\
+         | Case | Keys | Proved, shortest, ns | Padded, ns | Ratio | Second, shortest, ns | Padded, ns | \
+         Ratio |\n\
+         |---|---|--:|--:|--:|--:|--:|--:|\n{rows}\n",
+        pairs.len()
+    )
+}
+
+/// A call with keys in both forms, as far as they were measured.
+struct Pair {
+    task: Task,
+    narrow: Narrow,
+    shortest: Option<Summary>,
+    padded: Option<Summary>,
+}
+
+/// The pairs of which a form was measured.
+fn pairs(benches: &[Bench]) -> Vec<Pair> {
+    let find = |task: Task, keys: Keys| {
+        let is_it = |bench: &&Bench| bench.case.task == Some(task) && bench.case.keys == Some(keys);
+        benches.iter().find(is_it).map(Bench::summary)
+    };
+    let mut pairs = Vec::new();
+    for narrow in Narrow::ALL {
+        pairs.extend(Task::ALL.map(|task| Pair {
+            task,
+            narrow,
+            shortest: find(task, Keys::Narrow(narrow, Form::Shortest)),
+            padded: find(task, Keys::Narrow(narrow, Form::Padded)),
+        }));
+    }
+    pairs.retain(|pair| pair.shortest.is_some() || pair.padded.is_some());
+    pairs
+}
+
+impl Pair {
+    /// Padded to shortest, of one side.
+    fn ratio(&self, time: fn(Summary) -> f64) -> Option<f64> {
+        Some(time(self.padded?) / time(self.shortest?))
+    }
+
+    /// Times and ratio of one side; a cell is empty where nothing was measured.
+    fn cells(&self, time: fn(Summary) -> f64) -> String {
+        let nanos = |form: Option<Summary>| form.map(time).map_or(String::new(), nanos);
+        let ratio = self.ratio(time).map(|ratio| format!("{ratio:.2}"));
+        let ratio = ratio.unwrap_or_default();
+        format!(
+            "{} | {} | {ratio}",
+            nanos(self.shortest),
+            nanos(self.padded)
+        )
+    }
+
+    fn row(&self) -> String {
+        format!(
+            "| {} | {} | {} | {} |\n",
+            self.task.name(),
+            self.narrow.name(),
+            self.cells(|summary| summary.proved),
+            self.cells(|summary| summary.second),
+        )
+    }
 }
 
 /// READ of all entries beside a plain copy of the same bytes.
@@ -396,6 +488,32 @@ mod tests {
         assert_eq!(atomic_cells(full), cells);
         let one = |way: Way| (way == Way::Accepted).then_some(99.0);
         assert_eq!(atomic_cells(one), " | 99.0 |  |  |  |  | ");
+    }
+
+    #[test]
+    fn a_row_of_padded_keys() {
+        let summary = |proved, second| Summary {
+            proved,
+            second,
+            ratio: proved / second,
+            low: 1.0,
+            high: 1.0,
+            copy: None,
+        };
+        let pair = Pair {
+            task: Task::ReadLast,
+            narrow: Narrow::Late,
+            shortest: Some(summary(200.0, 100.0)),
+            padded: Some(summary(250.0, 110.0)),
+        };
+        let row = "| READ of 1 key, last of 256 | late | 200 | 250 | 1.25 | 100 | 110 | 1.10 |\n";
+        assert_eq!(pair.row(), row);
+        let one = Pair {
+            shortest: None,
+            ..pair
+        };
+        let row = "| READ of 1 key, last of 256 | late |  | 250 |  |  | 110 |  |\n";
+        assert_eq!(one.row(), row);
     }
 
     #[test]

@@ -25,9 +25,7 @@ pub fn write(keys: Keys) -> Vec<Case> {
             .timed(vec![batch(keys, Update::insert, FULL..FULL + BATCH)]),
         modify("1 MODIFY, first of 256", keys, 0),
         modify("1 MODIFY, last of 256", keys, last),
-        on("64 MODIFYs, every fourth of 256", keys, FULL)
-            .pairs(BATCH, 0)
-            .timed(vec![batch(keys, Update::modify, (0..FULL).step_by(4))]),
+        modify_many("64 MODIFYs, every fourth of 256", keys),
         delete_first("1 DELETE, first of 256", keys, 1),
         delete_first("64 DELETEs, each the first, of 256", keys, BATCH),
     ];
@@ -102,15 +100,11 @@ pub fn read_many() -> Vec<Case> {
 pub fn read_key() -> Vec<Case> {
     let mut cases = Vec::new();
     for keys in [Keys::Early, Keys::Late, Keys::Four] {
-        for (name, number, records) in [
-            ("1 key, first of 256", 0, 1),
-            ("1 key, last of 256", FULL - 1, 1),
-            ("1 key, absent from 256", FULL, 0),
-        ] {
-            let frame = bytes::read_one(DEVICE, 0, TABLE, keys.key(number));
-            let case = Case::new("READ", name, stored(keys, FULL));
-            cases.push(case.keys(keys).timed(vec![frame]).records(records));
-        }
+        cases.extend([
+            read_one("1 key, first of 256", keys, 0),
+            read_one("1 key, last of 256", keys, FULL - 1),
+            read_one("1 key, absent from 256", keys, FULL),
+        ]);
     }
     let keys = Keys::Late;
     let last = bytes::read_one(DEVICE, 0, TABLE + 7, keys.key(31));
@@ -121,6 +115,13 @@ pub fn read_key() -> Vec<Case> {
     );
     cases.push(case.keys(keys).timed(vec![last]).records(1));
     cases
+}
+
+/// READ of the key of a number, which is there if it is one of the first 256.
+pub fn read_one(name: &str, keys: Keys, number: usize) -> Case {
+    let frame = bytes::read_one(DEVICE, 0, TABLE, keys.key(number));
+    let case = Case::new("READ", name, stored(keys, FULL)).keys(keys);
+    case.timed(vec![frame]).records(usize::from(number < FULL))
 }
 
 /// A WRITE where the first `count` entries are stored.
@@ -144,10 +145,19 @@ fn insert_many(name: &str, keys: Keys, count: usize) -> Case {
     )
 }
 
-fn modify(name: &str, keys: Keys, number: usize) -> Case {
+pub fn modify(name: &str, keys: Keys, number: usize) -> Case {
     on(name, keys, FULL)
         .pairs(1, 0)
         .timed(modifies(keys, number))
+}
+
+/// MODIFY of every fourth entry.
+pub fn modify_many(name: &str, keys: Keys) -> Case {
+    on(name, keys, FULL).pairs(BATCH, 0).timed(vec![batch(
+        keys,
+        Update::modify,
+        (0..FULL).step_by(4),
+    )])
 }
 
 /// DELETE of the first entries, so many in a WRITE. They are inserted again at the end, so the next
@@ -176,7 +186,7 @@ fn deletes_at_the_end(keys: Keys) -> [Case; 4] {
 }
 
 /// DELETE of the last entries, so many in a WRITE and each the last when it is its turn.
-fn delete_last(name: &str, keys: Keys, each: usize, delete: fn(Entry) -> Update) -> Case {
+pub fn delete_last(name: &str, keys: Keys, each: usize, delete: fn(Entry) -> Update) -> Case {
     let numbers = FULL - each..FULL;
     on(name, keys, FULL).pairs(each, 0).step(
         vec![batch(keys, delete, numbers.clone().rev())],

@@ -2,6 +2,8 @@
 
 use reference::bytes::{kind, Action, Entry, Key, Row, Slot, Value};
 
+use super::{Form, Narrow};
+
 /// The table of the cases with one.
 pub const TABLE: u32 = 0x0200_0001;
 /// The action of all entries.
@@ -16,6 +18,8 @@ pub enum Keys {
     Late,
     /// Four fields of 128 bits and four parameters; only the last byte of the last slot differs.
     Four,
+    /// Of values with fewer than sixteen bytes, which are sent in a form.
+    Narrow(Narrow, Form),
 }
 
 impl Keys {
@@ -25,6 +29,7 @@ impl Keys {
             Keys::Early => "early",
             Keys::Late => "late",
             Keys::Four => "four slots",
+            Keys::Narrow(narrow, _) => narrow.name(),
         }
     }
 
@@ -40,10 +45,11 @@ impl Keys {
                 let action = Action::new(ACTION, &[128; 4]);
                 Row::new(table, 0, size, &fields.map(|kind| (kind, 128)), &[action])
             }
+            Keys::Narrow(narrow, _) => narrow.row(table, size),
         }
     }
 
-    /// The key of a number; all values in it but a prefix length have sixteen bytes.
+    /// The key of a number; unless narrow, all values in it but a prefix length have sixteen bytes.
     pub fn key(self, number: usize) -> Key {
         let mut value = [0x5a; 16];
         match self {
@@ -68,13 +74,14 @@ impl Keys {
                 ];
                 Key::new(1, &slots)
             }
+            Keys::Narrow(narrow, form) => narrow.key(number, form),
         }
     }
 
     /// The entry of a number in a table, to a port.
     pub fn entry_in(self, table: u32, number: usize, port: u128) -> Entry {
         let params: &[Value] = match self {
-            Keys::Early | Keys::Late => &[Value::of(port)],
+            Keys::Early | Keys::Late | Keys::Narrow(..) => &[Value::of(port)],
             Keys::Four => &[Value::of(u128::MAX - port); 4],
         };
         Entry::new(table, self.key(number), ACTION, params)
