@@ -9,7 +9,6 @@ use Rattle.rules.specs.Frame.{restSize}
 use Rattle.rules.specs.Bytes.{concat, part, parts}
 use Rattle.rules.specs.Key.{shortSlot}
 use Rattle.buffers.specs.Word.{littleEndian}
-use Rattle.keys.specs.declared.Probe.{Probe}
 
 -- the shortest form of a key is its table and this (proofs/Rest: short-key)
 unfoldable pub shortRest : List ℕ → List ℕ
@@ -25,7 +24,7 @@ pub record ValueAt (at : ℕ) : Type 0 where
   pub few : slot < 4
   pub place : (at ≡ 35 * slot + 5) ⊎ (at ≡ 35 * slot + 22)
 
--- a probe is for a key: its word is the one that the shortest form has there
-pub record ProbeOf (r : List ℕ) (p : Probe) : Type 0 where
-  pub inside : p .at + 8 ≤ restSize
-  pub word : p .word ≡ littleEndian (part (p .at) 8 (shortRest r))
+-- a place and a word are a probe for a key: the word is the one that the shortest form has there
+pub record ProbeOf (r : List ℕ) (at word : ℕ) : Type 0 where
+  pub inside : at + 8 ≤ restSize
+  pub there : word ≡ littleEndian (part at 8 (shortRest r))

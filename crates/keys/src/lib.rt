@@ -4,7 +4,6 @@ ghost use mathlib.Core.Path.{_≡_};
 ghost use mathlib.Core.Bool.{true};
 ghost use mathlib.Core.List.{_++_};
 ghost use Prim.Native.Nat.{_+_, _≤_};
-ghost use lib.Dec.{eqb};
 ghost use lib.ListN.{length, drop};
 ghost use Rattle.rules.specs.Frame.{keySize, restSize};
 ghost use Rattle.rules.specs.Bytes.{part, same};
@@ -97,17 +96,6 @@ pub struct Probe {
     pub word: u64,
 }
 
-impl Probe {
-    // Whether a stored key has the word, by the 144 bytes after its table.
-    pub fn meets(self, stored: &[u8]) -> bool
-        requires { ⌜ (length (now stored) ≡ restSize) × (self .at + 8 ≤ restSize) ⌝ }
-        ensures { λ r. ⌜ r ≡ eqb (littleEndian (part (self .at) 8 (now (stored .entry)))) (self .word) ⌝ }
-    {
-        let at = self.at;
-        buffers::word(stored, at) == self.word
-    }
-}
-
 // The place of the first value in which a stored key is not the key as it came, by the 144 bytes after the table of each; that of the
 // first value where there is none.
 fn differing_value(stored: &[u8], key: &[u8]) -> usize
@@ -146,7 +134,7 @@ fn word_at(key: &[u8], at: usize, from: usize, short: bool) -> u64
 // one value.
 pub fn next_probe(stored: &[u8], key: &[u8], short: bool) -> Probe
     requires { ⌜ (length (now stored) ≡ restSize) × (length (now key) ≡ restSize) × ShortIf short (now key) ⌝ }
-    ensures { λ r. ⌜ ProbeOf (now (key .entry)) r ⌝ }
+    ensures { λ r. ⌜ ProbeOf (now (key .entry)) (r .at) (r .word) ⌝ }
 {
     let at = differing_value(stored, key);
     let head = word_at(key, at, 1, short);

@@ -7,10 +7,9 @@ use mathlib.Core.Path.{_≡_, sym, ap, _∙_}
 use mathlib.Core.Bool.{Bool, false}
 use mathlib.Core.List.{List, [], _∷_, _++_}
 use mathlib.Core.Option.{Option, none, some}
-use lib.Dec.{eqb}
 use lib.ListN.{length, take, drop, length-append, drop-of-length-le}
 use lib.Seq.{take-at, take-all, take-take, drop-at}
-use borrow.Author.Tests.{eqb-false, eq-eqb, ne-eqb}
+use borrow.Author.Tests.{eq-eqb, ne-eqb}
 use Rattle.rules.specs.Bytes.{if_then_else_, keep, concat, part, number, int, same}
 use Rattle.rules.specs.Key.{tableOf, hasKey, shortKey, sameKey}
 use Rattle.rules.specs.Update.{inTable, held as heldIn}
@@ -19,7 +18,6 @@ use Rattle.rules.proofs.Tests.{ne-same}
 use Rattle.rules.proofs.Shortest.{part-length}
 use Rattle.rules.proofs.InPlace.{key-compared}
 use Rattle.buffers.specs.Word.{littleEndian}
-use Rattle.keys.specs.declared.Probe.{Probe}
 use Rattle.keys.specs.Rest.{shortRest, ProbeOf}
 use Rattle.keys.proofs.Rest.{short-key, rest-length}
 use Rattle.buffers.specs.Splice.{splice}
@@ -39,17 +37,20 @@ key-at : (a : ℕ) (s k : List ℕ) → hasKey k (part a 220 s) ≡ same (part a
 key-at a s k = ap (λ (x : List ℕ). same x k) (take-take 148 220 (drop a s) (omega arith))
 
 -- a stored key that has another word where a probe looks is another key
-pub probe-differs : (a n : ℕ) (s t r : List ℕ) (p : Probe) → a + 148 ≤ length s → length t ≡ 4 → length r ≡ 144 → n ≡ 144 → ProbeOf r p
-    → eqb (littleEndian (part (p .at) 8 (part (a + 4) n s))) (p .word) ≡ false → same (part a 148 s) (shortKey (t ++ r)) ≡ false
-probe-differs a n s t r p h l g w o d = ne-same (λ z. eqb-false _ _ d (words z))
+pub probe-differs : (a : ℕ) (s t r : List ℕ) (at word : ℕ) → a + 148 ≤ length s → length t ≡ 4 → length r ≡ 144 → ProbeOf r at word
+    → (littleEndian (part (a + 4 + at) 8 s) ≡ word → ⊥) → same (part a 148 s) (shortKey (t ++ r)) ≡ false
+probe-differs a s t r at word h l g o d = ne-same (λ z. d (words z))
   where
-    words : part a 148 s ≡ shortKey (t ++ r) → littleEndian (part (p .at) 8 (part (a + 4) n s)) ≡ p .word
+    inside : at + 8 ≤ 144
+    inside = o .inside
+
+    words : part a 148 s ≡ shortKey (t ++ r) → littleEndian (part (a + 4 + at) 8 s) ≡ word
     words z =
         let rest : part 4 144 (part a 148 s) ≡ shortRest r =
         ap (part 4 144) (z ∙ short-key t r l g) ∙ ap (take 144) (drop-at t (shortRest r) 4 l)
         ∙ take-all 144 (shortRest r) (omega (arith, rest-length r g)) in
-        ap (λ (m : ℕ). littleEndian (part (p .at) 8 (part (a + 4) m s))) w
-        ∙ ap (λ (x : List ℕ). littleEndian (part (p .at) 8 x)) (sym (part-part a 148 4 144 s (omega arith)) ∙ rest) ∙ sym (o .word)
+        ap littleEndian
+        (sym (part-part (a + 4) 144 at 8 s inside) ∙ ap (part at 8) (sym (part-part a 148 4 144 s (omega arith)) ∙ rest)) ∙ sym (o .there)
 
 -- and the comparison of a stored key says whether its entry has the key
 pub key-said : (a n : ℕ) (s t r : List ℕ) → a + 148 ≤ length s → length t ≡ 4 → length r ≡ 144 → n ≡ 148

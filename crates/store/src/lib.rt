@@ -61,22 +61,26 @@ fn search(
     first: Probe,
 ) -> Found
     requires { ⌜ InStore tables (now store) × (length (now table) ≡ 4) × (length (now key) ≡ restSize) × ShortIf short (now key)
-        × ProbeOf (now key) first ⌝ }
+        × ProbeOf (now key) (first .at) (first .word) ⌝ }
     ensures place { λ r. ⌜ placeOf r ≡ placeAfter 1 (shortKey (now (table .entry) ++ now (key .entry))) (entriesIn tables (now (store .entry))) ⌝ }
     ensures range { λ r. ⌜ InRange r tables ⌝ }
 {
     let count = tables.count;
-    let mut probe = first;
+    // two numbers, and not a probe, are kept in registers
+    let mut place = first.at;
+    let mut word = first.word;
     let mut i: usize = 1;
     while i < count {
         let at = rules::ENTRY * i;
         let from = at + 4;
-        let end = at + rules::KEY;
-        if probe.meets(&store[from..end]) {
+        if buffers::word(store, from + place) == word {
+            let end = at + rules::KEY;
             if keys::same_key(&store[at..end], table, key, short) {
                 return Found::At(i);
             }
-            probe = keys::next_probe(&store[from..end], key, short);
+            let next = keys::next_probe(&store[from..end], key, short);
+            place = next.at;
+            word = next.word;
         }
         i += 1;
     }

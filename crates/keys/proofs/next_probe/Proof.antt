@@ -27,7 +27,7 @@ returns : tie.Need-returns
 returns c =
     let d = c .before .before .before in
     let w = value-inside (d .differing-value .result) (d .differing-value .ensures) in
-    record { inside = omega arith; word = c .before .before .word-at .ensures }
+    record { inside = omega arith; there = c .before .before .word-at .ensures }
 
 add-t7 : tie.Need-add-t7
 add-t7 c =
@@ -42,7 +42,7 @@ returns-2 : tie.Need-returns-2
 returns-2 c =
     let d = c .before .before .before .before in
     let w = value-inside (d .differing-value .result) (d .differing-value .ensures) in
-    record { inside = omega arith; word = c .word-at2 .ensures }
+    record { inside = omega arith; there = c .word-at2 .ensures }
 
 pub next-probe-spec : {M : Type 1} → statement M
 next-probe-spec =

@@ -1,8 +1,8 @@
 -- Right because the entries passed do not have the key: each had another word where the key's is known, or was compared. Assumes nothing.
 use Prim.Native.Nat.{ℕ, _*_, _+_, _-_, _≤_}
 use native.Mathlib.Omega.{arith}
-use mathlib.Core.Path.{_≡_, refl, sym, _∙_, subst}
-use mathlib.Core.Bool.{Bool, true, false}
+use mathlib.Core.Path.{_≡_, refl, sym, _∙_}
+use mathlib.Core.Bool.{true, false}
 use mathlib.Core.Logic.{⊎-elim}
 use mathlib.Core.List.{List, _++_}
 use denote.Ref.{now}
@@ -16,12 +16,12 @@ use Rattle.store.proofs.search.Statement.{statement}
 use Rattle.store.proofs.search.Tie as tie
 
 abbrev Inv-loop : tie.InvT-loop
-Inv-loop store table key short count probe₀ i₀ probe i =
-    (1 ≤ i) × ProbeOf key probe
+Inv-loop store table key short count place₀ word₀ i₀ place word i =
+    (1 ≤ i) × ProbeOf key place word
     × (placeAfter 1 (shortKey (table ++ key)) (parts count 220 store) ≡ searched (record { count = count }) store (shortKey (table ++ key)) i)
 
 abbrev μ-loop : tie.MeasureT-loop
-μ-loop store table key short count probe₀ i₀ probe i = count - i
+μ-loop store table key short count place₀ word₀ i₀ place word i = count - i
 
 loop-holds : tie.Need-loop-holds Inv-loop μ-loop
 loop-holds c = (omega arith, c .before .before .before .pre .4, refl)
@@ -32,20 +32,14 @@ mul-at c = search needs
 add-from : tie.Need-add-from Inv-loop μ-loop
 add-from c = search needs
 
+add-word : tie.Need-add-word Inv-loop μ-loop
+add-word c = let o = c .before .loop .inv .1 .inside in omega arith
+
+word-requires : tie.Need-word-requires Inv-loop μ-loop
+word-requires c κs = let o = c .before .loop .inv .1 .inside in omega arith
+
 add-end : tie.Need-add-end Inv-loop μ-loop
 add-end c = search needs
-
-sub-meets : tie.Need-sub-meets Inv-loop μ-loop
-sub-meets c = search needs
-
-part-meets-start : tie.Need-part-meets-start Inv-loop μ-loop
-part-meets-start c = search needs
-
-part-meets-end : tie.Need-part-meets-end Inv-loop μ-loop
-part-meets-end c = search needs
-
-meets-requires : tie.Need-meets-requires Inv-loop μ-loop
-meets-requires c κs = let o = c .before .before .loop .inv .1 .inside in (omega arith, o)
 
 sub-same-key : tie.Need-sub-same-key Inv-loop μ-loop
 sub-same-key c = search needs
@@ -57,14 +51,12 @@ part-same-key-end : tie.Need-part-same-key-end Inv-loop μ-loop
 part-same-key-end c = search needs
 
 same-key-requires : tie.Need-same-key-requires Inv-loop μ-loop
-same-key-requires c κs =
-    let b = c .before .before .before .before .before .before .before .before .before in
-    (search needs, search needs, search needs, b .pre .3)
+same-key-requires c κs = (search needs, search needs, search needs, c .before .before .before .before .before .before .before .before .pre .3)
 
 returns : tie.Need-returns Inv-loop μ-loop
 returns c =
     let w = c .before in
-    let l = w .before .before .before .before .before .before in
+    let l = w .before .before .before .before .before in
     let a = l .before .before .before .before .args in
     let s : List ℕ = now (a .store) in
     let k : List ℕ = shortKey (now (a .table) ++ now (a .key)) in
@@ -85,9 +77,7 @@ part-next-probe-end : tie.Need-part-next-probe-end Inv-loop μ-loop
 part-next-probe-end c = search needs
 
 next-probe-requires : tie.Need-next-probe-requires Inv-loop μ-loop
-next-probe-requires c κs =
-    let b = c .before .before .before .before .before .before .before .before .before .before .before .before in
-    (search needs, search needs, b .pre .3)
+next-probe-requires c κs = (search needs, search needs, c .before .before .before .before .before .before .before .before .before .before .before .pre .3)
 
 add-i : tie.Need-add-i Inv-loop μ-loop
 add-i c = search needs
@@ -97,7 +87,7 @@ loop-less c = search needs
 
 loop-again : tie.Need-loop-again Inv-loop μ-loop
 loop-again c =
-    let l = c .before .before .before .before in
+    let l = c .before .before .before in
     let a = l .before .before .before .before .args in
     let s : List ℕ = now (a .store) in
     let k : List ℕ = shortKey (now (a .table) ++ now (a .key)) in
@@ -106,19 +96,18 @@ loop-again c =
     → placeAfter 1 k (parts (a .tables .count) 220 s) ≡ searched (a .tables) s k (i + 1) =
     λ t. l .loop .inv .2 ∙ searched-next (a .tables) s k i false (omega arith) t in
     let n : 220 * i + 148 - 220 * i ≡ 148 = omega arith in
-    let m : 220 * i + 148 - (220 * i + 4) ≡ 144 = omega arith in
     ⊎-elim
     (λ w. (
       omega arith,
-      subst (ProbeOf (now (a .key))) (sym (w .6)) (w .5 .ensures),
+      rw (w .6, w .7) (w .5 .ensures),
       next (sym (key-said (220 * i) _ s (now (a .table)) (now (a .key)) (omega arith) (omega arith) (omega arith) n)
       ∙ sym (w .2 .ensures) ∙ w .3 .left),
     ))
     (λ w. (
       omega arith,
-      subst (ProbeOf (now (a .key))) (sym (w .1)) (l .loop .inv .1),
-      next (probe-differs (220 * i) _ s (now (a .table)) (now (a .key)) (l .loop .probe) (omega arith) (omega arith) (omega arith) m (l .loop .inv .1)
-      (sym (c .before .meets .ensures) ∙ w .0 .left)),
+      rw (w .1, w .2) (l .loop .inv .1),
+      next (probe-differs (220 * i) s (now (a .table)) (now (a .key)) (l .loop .place) (l .loop .word) (omega arith) (omega arith) (omega arith)
+      (l .loop .inv .1) (λ e. w .0 .left (c .before .word .ensures ∙ e))),
     ))
     (c .if1 .came)
 
@@ -138,11 +127,9 @@ search-spec =
     loop-holds
     mul-at
     add-from
+    add-word
+    word-requires
     add-end
-    sub-meets
-    part-meets-start
-    part-meets-end
-    meets-requires
     sub-same-key
     part-same-key-start
     part-same-key-end
