@@ -130,8 +130,18 @@ fn word_at(key: &[u8], at: usize, from: usize, short: bool) -> u64
     values::short_word(&key[at..end], from)
 }
 
-// Where to look first at the stored keys after this one, which is not the key that is looked for: keys of one table mostly differ in
-// one value.
+// Where to look at first: the first digits of the first slot, in which the keys of a table mostly differ.
+pub fn first_probe(key: &[u8], short: bool) -> Probe
+    requires { ⌜ (length (now key) ≡ restSize) × ShortIf short (now key) ⌝ }
+    ensures { λ r. ⌜ ProbeOf (now (key .entry)) (r .at) (r .word) ⌝ }
+{
+    Probe {
+        at: 6,
+        word: word_at(key, 5, 1, short),
+    }
+}
+
+// Where to look at the stored keys after this one, which is not the key that is looked for: keys of one table mostly differ in one value.
 pub fn next_probe(stored: &[u8], key: &[u8], short: bool) -> Probe
     requires { ⌜ (length (now stored) ≡ restSize) × (length (now key) ≡ restSize) × ShortIf short (now key) ⌝ }
     ensures { λ r. ⌜ ProbeOf (now (key .entry)) (r .at) (r .word) ⌝ }

@@ -24,7 +24,7 @@ use Rattle.buffers.specs.Splice.{splice}
 use Rattle.buffers.proofs.Splice.{length-window}
 use Rattle.buffers.proofs.Written.{Written, written-none, written-next, written-same, written-length}
 use Rattle.store.specs.declared.Tables.{Tables}
-use Rattle.store.specs.Store.{entriesIn, tablesIn, placeFrom, placeAfter}
+use Rattle.store.specs.Store.{entriesIn, tablesIn, placeFrom}
 use Rattle.rules.proofs.Lists.{parts-from, part-part}
 
 none-left : (tables : Tables) (i : ℕ) (s : List ℕ) → tables .count ≤ i → drop i (entriesIn tables s) ≡ []
@@ -62,7 +62,7 @@ key-said a n s t r h l g w =
 module _ (tables : Tables) (s k : List ℕ) where
   -- what searching the entries from i on finds
   abbrev pub searched : ℕ → Option ℕ
-  searched i = placeAfter i k (entriesIn tables s)
+  searched i = placeFrom i k (drop i (entriesIn tables s))
 
   pub searched-next : (i : ℕ) (t : Bool) → i < tables .count → same (part (220 * i) 148 s) k ≡ t
       → searched i ≡ (if t then some i else searched (i + 1))

@@ -37,10 +37,6 @@ placeFrom i k (e ∷ es) = if hasKey k e then some i else placeFrom (suc i) k es
 abbrev pub place : List ℕ → List (List ℕ) → Option ℕ
 place k es = placeFrom 0 k es
 
--- the same, of the entries after the first i
-abbrev pub placeAfter : ℕ → List ℕ → List (List ℕ) → Option ℕ
-placeAfter i k es = placeFrom i k (drop i es)
-
 -- the answer of a search
 abbrev pub placeOf : Found → Option ℕ
 placeOf (At i) = some i

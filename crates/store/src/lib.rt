@@ -9,10 +9,7 @@ ghost use Rattle.rules.specs.Bytes.{concat};
 ghost use Rattle.rules.specs.Key.{shortKey};
 ghost use Rattle.rules.specs.Update.{noEntries, held as heldIn};
 ghost use Rattle.buffers.specs.Splice.{splice};
-ghost use Rattle.keys.specs.Rest.{ShortIf, ProbeOf};
-ghost use Rattle.store.specs.Store.{entriesIn, entriesOf, tablesIn, InStore, placeAfter, place, placeOf, InRange, without, insertedAt};
-ghost use Rattle.store.specs.Store.{changedAt, Holds};
-use keys::Probe;
+ghost use Rattle.store.specs.Store.{entriesIn, entriesOf, tablesIn, InStore, place, placeOf, InRange, without, insertedAt, changedAt, Holds};
 use numbers::integer;
 
 // What the record knows of a store: how many entries are in it.
@@ -50,26 +47,20 @@ pub enum Found {
     Absent,
 }
 
-// Where the entry of a key is, from the second entry on. An entry is looked at where the one compared last differs from the key, and
-// compared where it has the key's word there.
-fn search(
-    store: &[u8],
-    tables: Tables,
-    table: &[u8],
-    key: &[u8],
-    short: bool,
-    first: Probe,
-) -> Found
-    requires { ⌜ InStore tables (now store) × (length (now table) ≡ 4) × (length (now key) ≡ restSize) × ShortIf short (now key)
-        × ProbeOf (now key) (first .at) (first .word) ⌝ }
-    ensures place { λ r. ⌜ placeOf r ≡ placeAfter 1 (shortKey (now (table .entry) ++ now (key .entry))) (entriesIn tables (now (store .entry))) ⌝ }
+// The place of the entry that has a key, lent as it came: its table, and the 144 bytes after it. An entry is looked at where the one
+// compared last differs from the key, and compared only where it has the key's word there.
+pub fn find(store: &[u8], tables: Tables, table: &[u8], key: &[u8]) -> Found
+    requires { ⌜ InStore tables (now store) × (length (now table) ≡ 4) × (length (now key) ≡ restSize) ⌝ }
+    ensures place { λ r. ⌜ placeOf r ≡ place (shortKey (now (table .entry) ++ now (key .entry))) (entriesIn tables (now (store .entry))) ⌝ }
     ensures range { λ r. ⌜ InRange r tables ⌝ }
 {
     let count = tables.count;
+    let short = keys::is_short(key);
+    let first = keys::first_probe(key, short);
     // two numbers, and not a probe, are kept in registers
     let mut place = first.at;
     let mut word = first.word;
-    let mut i: usize = 1;
+    let mut i: usize = 0;
     while i < count {
         let at = rules::ENTRY * i;
         let from = at + 4;
@@ -85,24 +76,6 @@ fn search(
         i += 1;
     }
     Found::Absent
-}
-
-// The place of the entry that has a key, lent as it came: its table, and the 144 bytes after it. The first entry is compared, and where it
-// differs is where the others are looked at first.
-pub fn find(store: &[u8], tables: Tables, table: &[u8], key: &[u8]) -> Found
-    requires { ⌜ InStore tables (now store) × (length (now table) ≡ 4) × (length (now key) ≡ restSize) ⌝ }
-    ensures place { λ r. ⌜ placeOf r ≡ place (shortKey (now (table .entry) ++ now (key .entry))) (entriesIn tables (now (store .entry))) ⌝ }
-    ensures range { λ r. ⌜ InRange r tables ⌝ }
-{
-    if tables.count == 0 {
-        return Found::Absent;
-    }
-    let short = keys::is_short(key);
-    if keys::same_key(&store[0..rules::KEY], table, key, short) {
-        return Found::At(0);
-    }
-    let first = keys::next_probe(&store[4..rules::KEY], key, short);
-    search(store, tables, table, key, short, first)
 }
 
 // The number of entries of a table.

@@ -83,16 +83,12 @@ fn digit_count(v: &[u8]) -> usize
     n
 }
 
-// Whether e is the shortest form of v, each of 17 bytes: it has the digits of v from where its number begins, and zeros after them.
-// Where v is no value, its bytes are compared as they are.
-pub fn is_shortest_of(e: &[u8], v: &[u8]) -> bool
-    requires { ⌜ (length (now e) ≡ 17) × (length (now v) ≡ 17) ⌝ }
+// Whether e has the digits of v from where its number begins, their count before them and zeros after them; v is a value, and each has 17 bytes.
+fn has_digits_of(e: &[u8], v: &[u8]) -> bool
+    requires { ⌜ (length (now e) ≡ 17) × (length (now v) ≡ 17) × (byte 0 (now v) ≡ 0 → ⊥) ⌝ }
     ensures { λ r. ⌜ r ≡ sameValue (now (e .entry)) (now (v .entry)) ⌝ }
 {
     let n = digit_count(v);
-    if n == 0 {
-        return buffers::equal(e, v);
-    }
     let first = significant(v, 0, n);
     let count = n + 1 - first;
     if e[0] as usize != count {
@@ -104,6 +100,17 @@ pub fn is_shortest_of(e: &[u8], v: &[u8]) -> bool
         return false;
     }
     buffers::all_zero(&e[past..])
+}
+
+// Whether e is the shortest form of v, each of 17 bytes. Where v is no value, its bytes are compared as they are.
+pub fn is_shortest_of(e: &[u8], v: &[u8]) -> bool
+    requires { ⌜ (length (now e) ≡ 17) × (length (now v) ≡ 17) ⌝ }
+    ensures { λ r. ⌜ r ≡ sameValue (now (e .entry)) (now (v .entry)) ⌝ }
+{
+    if v[0] == 0 {
+        return buffers::equal(e, v);
+    }
+    has_digits_of(e, v)
 }
 
 // Byte i, 1 to 16, of the shortest form of a value of n digits whose number begins at `first`.

@@ -1,56 +1,15 @@
--- Right because a shortest form is a count, the digits from where the number begins, and zeros: they are compared in this order.
--- Assumes nothing.
-use Prim.Native.Nat.{ℕ, _+_, _-_, _≤_}
-use native.Mathlib.Omega.{arith}
+-- Right because what is no value is its own shortest form. Assumes nothing.
 use mathlib.Core.Path.{_≡_, sym, ap, _∙_}
-use mathlib.Core.Bool.{Bool, false, _&&_}
-use mathlib.Core.List.{List}
-use lib.ListN.{length, drop}
 use denote.Ref.{now}
-use borrow.Author.Tests.{not-true, not-false}
-use Rattle.rules.specs.Bytes.{byte, part, same, allZero}
-use Rattle.rules.specs.Value.{padded, short}
-use Rattle.rules.specs.Key.{sameValue}
-use Rattle.rules.proofs.Lists.{rest-all}
-use Rattle.rules.proofs.Shortest.{short-unused}
-use Rattle.values.proofs.Compared.{other-count, same-count, short-from, from-length}
 use borrow.Author.Needs.{needs}
+use Rattle.rules.specs.Bytes.{same}
+use Rattle.rules.specs.Key.{sameValue}
+use Rattle.rules.proofs.Shortest.{short-unused}
 use Rattle.values.proofs.is_shortest_of.Statement.{statement}
 use Rattle.values.proofs.is_shortest_of.Tie as tie
 
-abbrev Stored : tie.After-significant → List ℕ
-Stored k = now (k .before .before .before .before .before .args .e)
-
-abbrev Value : tie.After-significant → List ℕ
-Value k = now (k .before .before .before .before .before .args .v)
-
--- how many digits there are from where the number begins
-abbrev Count : tie.After-significant → ℕ
-Count k = k .before .before .digit-count .result + 1 - k .significant .result
-
-abbrev Digits : tie.After-significant → List ℕ
-Digits k = part (k .significant .result) (Count k) (Value k)
-
-counted : (k : tie.After-significant) → length (Digits k) ≡ Count k
-counted k =
-    from-length (Value k) (k .before .before .digit-count .result) (k .significant .result) (omega arith) (omega arith) (omega arith) (omega arith)
-
-found : (k : tie.After-significant) → sameValue (Stored k) (Value k) ≡ same (Stored k) (padded (Digits k))
-unfolding sameValue
-found k =
-    ap (same (Stored k))
-    (short-from (Value k) (k .before .before .digit-count .result) (k .significant .result) (omega arith) (k .before .before .digit-count .ensures)
-    (omega arith) (k .significant .ensures .1))
-
--- where the counts are the same, the digits are compared and then what is after them
-halves : (k : tie.After-significant) → byte 0 (Stored k) ≡ Count k
-    → sameValue (Stored k) (Value k) ≡ (same (part 1 (Count k) (Stored k)) (Digits k) && allZero (drop (Count k + 1) (Stored k)))
-halves k h =
-    found k ∙ same-count (Stored k) (Digits k) (omega arith) (omega (arith, counted k)) (h ∙ sym (counted k))
-    ∙ ap (λ (m : ℕ). same (part 1 m (Stored k)) (Digits k) && allZero (drop (m + 1) (Stored k))) (counted k)
-
-digit-count-requires : tie.Need-digit-count-requires
-digit-count-requires c κs = search needs
+shared-slice-read-if1 : tie.Need-shared-slice-read-if1
+shared-slice-read-if1 c = search needs
 
 equal-requires : tie.Need-equal-requires
 equal-requires c κs = search needs
@@ -59,113 +18,15 @@ returns : tie.Need-returns
 unfolding sameValue
 returns c =
     let a = c .before .before .before .before .before .args in
-    let z : byte 0 (now (a .v)) ≡ 0 = omega (arith, c .before .before .digit-count .ensures, c .before .if1 .taken) in
-    c .equal .ensures ∙ ap (same (now (a .e))) (sym (short-unused (now (a .v)) z))
+    c .equal .ensures ∙ ap (same (now (a .e))) (sym (short-unused (now (a .v)) (c .before .if1 .taken)))
 
-significant-requires : tie.Need-significant-requires
-significant-requires c κs = search needs
-
-add-count : tie.Need-add-count
-add-count c = search needs
-
-sub-count : tie.Need-sub-count
-sub-count c = search needs
-
-shared-slice-read-if2 : tie.Need-shared-slice-read-if2
-shared-slice-read-if2 c = search needs
-
-cast-if2 : tie.Need-cast-if2
-cast-if2 c = record { fits = omega (arith, c .shared-slice-known3 .given 0) }
+has-digits-of-requires : tie.Need-has-digits-of-requires
+has-digits-of-requires c κs = search needs
 
 returns-2 : tie.Need-returns-2
-returns-2 c =
-    let k = c .before .before in
-    sym (found k ∙ other-count (Stored k) (Digits k) (omega arith) (omega (arith, counted k)) (λ q. c .if2 .taken (q ∙ counted k)))
-
-add-past : tie.Need-add-past
-add-past c = search needs
-
-add-end : tie.Need-add-end
-add-end c = search needs
-
-sub-equal : tie.Need-sub-equal
-sub-equal c = search needs
-
-part-equal-start : tie.Need-part-equal-start
-part-equal-start c = search needs
-
-part-equal-end : tie.Need-part-equal-end
-part-equal-end c = search needs
-
-sub-equal-2 : tie.Need-sub-equal-2
-sub-equal-2 c = search needs
-
-part-equal-start-2 : tie.Need-part-equal-start-2
-part-equal-start-2 c = search needs
-
-part-equal-end-2 : tie.Need-part-equal-end-2
-part-equal-end-2 c = search needs
-
-equal-requires-2 : tie.Need-equal-requires-2
-equal-requires-2 c κs = search needs
-
-returns-3 : tie.Need-returns-3
-returns-3 c =
-    let k = c .before .before .before .before .before .before in
-    let m : Count k + 1 - 1 ≡ Count k = omega arith in
-    let q : same (part 1 (Count k) (Stored k)) (Digits k) ≡ c .before .equal2 .result =
-    sym (c .before .equal2 .ensures ∙ ap (λ (j : ℕ). same (part 1 j (Stored k)) (Digits k)) m) in
-    sym (halves k (c .before .before .before .before .if2 .left)
-    ∙ ap (λ (b : Bool). b && allZero (drop (Count k + 1) (Stored k))) (q ∙ not-true (c .before .equal2 .result) (c .if3 .taken)))
-
-sub-all-zero : tie.Need-sub-all-zero
-sub-all-zero c = search needs
-
-part-all-zero-start : tie.Need-part-all-zero-start
-part-all-zero-start c = search needs
-
-part-all-zero-end : tie.Need-part-all-zero-end
-part-all-zero-end c = search needs
-
-all-zero-requires : tie.Need-all-zero-requires
-all-zero-requires c κs = search needs
-
-returns-4 : tie.Need-returns-4
-returns-4 c =
-    let w = c .before .before .before in
-    let k = w .before .before .before .before .before in
-    let m : Count k + 1 - 1 ≡ Count k = omega arith in
-    let q : same (part 1 (Count k) (Stored k)) (Digits k) ≡ w .equal2 .result =
-    sym (w .equal2 .ensures ∙ ap (λ (j : ℕ). same (part 1 j (Stored k)) (Digits k)) m) in
-    c .all-zero .ensures ∙ ap allZero (rest-all (Count k + 1) (Stored k))
-    ∙ sym (halves k (w .before .before .before .if2 .left)
-    ∙ ap (λ (b : Bool). b && allZero (drop (Count k + 1) (Stored k))) (q ∙ not-false (w .equal2 .result) (c .before .before .if3 .left)))
+returns-2 c = search needs
 
 pub is-shortest-of-spec : {M : Type 1} → statement M
 is-shortest-of-spec =
     tie.close
-    (tie.spec
-    digit-count-requires
-    equal-requires
-    returns
-    significant-requires
-    add-count
-    sub-count
-    shared-slice-read-if2
-    cast-if2
-    returns-2
-    add-past
-    add-end
-    sub-equal
-    part-equal-start
-    part-equal-end
-    sub-equal-2
-    part-equal-start-2
-    part-equal-end-2
-    equal-requires-2
-    returns-3
-    sub-all-zero
-    part-all-zero-start
-    part-all-zero-end
-    all-zero-requires
-    returns-4)
+    (tie.spec shared-slice-read-if1 equal-requires returns has-digits-of-requires returns-2)
