@@ -17,6 +17,7 @@ use Rattle.rules.proofs.Lists.{byte-part}
 use Rattle.rules.proofs.Rollback.{eqb-sym}
 use Rattle.rules.proofs.Shortest.{part-length, stripped-length}
 use Rattle.rules.proofs.InPlace.{same-append}
+use Rattle.buffers.proofs.Words.{same-split}
 use Rattle.values.proofs.Digits.{zero-goes, other-stays, last-stays, part-all}
 
 -- ---- compared with digits and zeros
@@ -47,6 +48,20 @@ module _ (e d : List ℕ) (size : length e ≡ 17) (few : length d ≤ 16) where
       ∙ same-append (part 1 m e) d (drop (1 + m) e) (replicate (16 - m) 0) ld
       ∙ ap (_&&_ (same (part 1 m e) d)) (same-zeros (16 - m) (drop (1 + m) e) lz)
       ∙ ap (λ (j : ℕ). same (part 1 m e) d && allZero (drop j e)) swap
+
+-- ---- 17 bytes as they are: the first, and two words
+
+pub by-words : (e v : List ℕ) → length e ≡ 17 → length v ≡ 17
+    → same e v ≡ (eqb (byte 0 e) (byte 0 v) && (same (part 1 8 e) (part 1 8 v) && same (part 9 8 e) (part 9 8 v)))
+by-words e v h g =
+    let a : length (drop 1 e) ≡ 16 = simp length-drop (omega arith) in
+    let b : length (drop 1 v) ≡ 16 = simp length-drop (omega arith) in
+    let rest : (l : List ℕ) → length l ≡ 17 → drop 8 (drop 1 l) ≡ part 9 8 l =
+    λ l q. drop-drop 8 1 l ∙ sym (take-all 8 (drop 9 l) (let z : length (drop 9 l) ≤ 8 = simp length-drop (omega arith) in z)) in
+    ap₂ same (drop-cons e 0 0 (omega arith)) (drop-cons v 0 0 (omega arith))
+    ∙ ap (_&&_ (eqb (byte 0 e) (byte 0 v)))
+    (same-split 8 (drop 1 e) (drop 1 v) (omega arith) (omega arith)
+    ∙ ap₂ (λ (x y : List ℕ). same (part 1 8 e) (part 1 8 v) && same x y) (rest e h) (rest v g))
 
 -- ---- the digits of a value
 

@@ -107,10 +107,13 @@ pub fn is_shortest_of(e: &[u8], v: &[u8]) -> bool
     requires { ⌜ (length (now e) ≡ 17) × (length (now v) ≡ 17) ⌝ }
     ensures { λ r. ⌜ r ≡ sameValue (now (e .entry)) (now (v .entry)) ⌝ }
 {
-    if v[0] == 0 {
-        return buffers::equal(e, v);
+    if v[0] != 0 {
+        return has_digits_of(e, v);
     }
-    has_digits_of(e, v)
+    if e[0] != 0 {
+        return false;
+    }
+    buffers::equal_eight(e, 1, v, 1) && buffers::equal_eight(e, 9, v, 9)
 }
 
 // Byte i, 1 to 16, of the shortest form of a value of n digits whose number begins at `first`.
