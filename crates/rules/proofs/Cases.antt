@@ -6,6 +6,7 @@ use Rattle.rules.proofs.StreamCases.{frames, elections}
 use Rattle.rules.proofs.EntryCases.{entries, configurations, updates}
 use Rattle.rules.proofs.RollbackCases.{rollbacks}
 use Rattle.rules.proofs.DeleteCases.{deletions}
+use Rattle.rules.proofs.KeyCases.{comparisons}
 use Rattle.rules.proofs.Computing.{computing}
 use Rattle.rules.proofs.Runs.{Singly, computed-singly, each}
 
@@ -37,6 +38,7 @@ witnesses = record {
   entries = entries;
   rollbacks = rollbacks;
   deletions = deletions;
+  comparisons = comparisons;
   orders = orders;
   configurations = configurations;
   updates = updates;

@@ -9,11 +9,11 @@ use native.Mathlib.Omega.{arith}
 use lib.Dec.{eqb, leb}
 use lib.ListN.{length, length-take}
 use borrow.Author.Tests.{eqb-true, eqb-false, eq-eqb, ne-eqb, not-false}
-use Rattle.rules.specs.Bytes.{if_then_else_, between, keep, every, some-of, concat, allBytes}
+use Rattle.rules.specs.Bytes.{if_then_else_, between, keep, every, some-of, concat, allBytes, same}
 use Rattle.rules.specs.Reason.{first}
 use Rattle.rules.specs.Frame.{Head, Update, Query, WRITE, READ, onTables}
 use Rattle.rules.specs.Row.{Row, known, rowFor, mayWrite}
-use Rattle.rules.specs.Key.{tableOf, slotNumbers, keyFormed, keyFits, keyRules, shortKey, keyNumbers, keyOf, hasKey}
+use Rattle.rules.specs.Key.{tableOf, slotNumbers, keyFormed, keyFits, keyRules, shortKey, keyNumbers, keyOf, hasKey, sameKey}
 use Rattle.rules.specs.Entry.{actionFormed, actionFits, passes}
 use Rattle.rules.specs.Update.{Tables, isInsert, isDelete, stored, held, entryFormed, entryFits, judge, judgeBy, batch}
 use Rattle.rules.specs.Call.{State, fresh, readReason, refusal, accepted, batchOf, commandOf, run}
@@ -27,6 +27,7 @@ use Rattle.rules.proofs.Orders.{first-clear, first-avoids, first-passes
 use Rattle.rules.proofs.Formed.{Whole, Formed, call-formed, whole-place}
 use Rattle.rules.proofs.Shortest.{key-of-key, slots-of-key, priority-of-key, formed-of-key, table-of-key, table-of-short-key, key-of-short}
 use Rattle.rules.proofs.Numbers.{keys-same}
+use Rattle.rules.proofs.InPlace.{key-compared}
 use Rattle.rules.proofs.Tables.{alone-every, alone-sound}
 use Rattle.rules.proofs.Sound.{sound}
 use Rattle.rules.proofs.LookBack.{alone-shows, noted-control, shown-seen, fresh-shows}
@@ -66,6 +67,14 @@ same-rows rows k j h g p q a b = (λ n. one (cc) .0 n, λ s. one (tables s) .1 s
 
 stored-key : (e : List ℕ) → Stored e → keyOf e ≡ shortKey e
 stored-key e s = ap keyOf (sym (s .shortest)) ∙ key-of-short e (s .size)
+
+-- compared where they are with a stored key
+stored-compared : (e k : List ℕ) → Stored e → 148 ≤ length k → (sameKey (keyOf e) k ≡ true) ↔ (shortKey e ≡ shortKey k)
+stored-compared e k s h =
+    let own : keyOf e ≡ shortKey e = stored-key e s in
+    let l : length (keyOf e) ≡ 148 = simp length-take (omega (arith, s .size)) in
+    let c : sameKey (keyOf e) k ≡ same (keyOf e) (shortKey k) = key-compared (keyOf e) k l h in
+    (λ y. sym own ∙ same-true (keyOf e) (shortKey k) (sym c ∙ y), λ q. c ∙ eq-same (own ∙ q))
 
 -- ---- entries that are sound and bytes
 
@@ -193,6 +202,7 @@ compared : (p : History) (role : ℕ) (u : Update) → length (u .entry) ≡ 220
 unfolding stateSeen reasonAt
 compared p role u l b ok bytes = record {
   each = λ f. each-key rows t ok bytes e whole-key b f;
+  in-place = λ x i. stored-compared x e (whole rows t ok bytes x i) whole-key;
   found = some;
   twenty = twenty;
   twenty-one = twenty-one;
@@ -247,6 +257,7 @@ keys-as-numbers room device before c bs b = record {
   once = once;
   updates = updates;
   entries = entries;
+  in-place = in-place;
   reads = reads;
 }
   where
@@ -294,6 +305,10 @@ keys-as-numbers room device before c bs b = record {
     entries : (h : Head) (earlier : List Update)
         → batchOf (run (fresh device) (commandsOf room before)) h 0 earlier .tables ≡ stateSeen (withUpdates p (h .role) earlier) .tables
     entries h earlier = ap (λ s. batchOf s h 0 earlier .tables) seen ∙ alone-shows p (h .role) earlier
+
+    in-place : (q : Query) → commandOf room c ≡ onTables (READ q) → (e : List ℕ) → In e es → (sameKey (keyOf e) (q .key) ≡ true) ↔ (shortKey e ≡ shortKey (q .key))
+    in-place q is e i =
+        stored-compared e (q .key) (whole rows (stateSeen p .tables) (ok .tables) bytes e i) (omega (arith, subst Formed is (call-formed room c) .0))
 
     reads : (q : Query) → commandOf room c ≡ onTables (READ q) → q .only ≡ 1 → accepted (stateSeen p) (onTables (READ q)) ≡ true → (e : List ℕ)
         → In e (readSeen rows q es) ↔ (In e es × (keyNumbers e ≡ keyNumbers (q .key)))

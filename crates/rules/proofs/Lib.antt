@@ -6,6 +6,7 @@ pub mod StreamCases
 pub mod EntryCases
 pub mod RollbackCases
 pub mod DeleteCases
+pub mod KeyCases
 pub mod Cases
 pub mod Table
 pub mod UnlistedReasons

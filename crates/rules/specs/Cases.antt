@@ -17,6 +17,7 @@ use Rattle.rules.specs.StreamCases.{eight, Frames, Elections}
 use Rattle.rules.specs.EntryCases.{Entries, Configurations, Updates}
 use Rattle.rules.specs.RollbackCases.{Rollbacks}
 use Rattle.rules.specs.DeleteCases.{Deletions}
+use Rattle.rules.specs.KeyCases.{Comparisons}
 
 -- table n of an owner, of size 1: a range of width 8, and action 1 with a parameter of width 8
 abbrev ranges : ℕ → ℕ → List ℕ
@@ -212,6 +213,7 @@ pub record Witnesses : Type 0 where
   pub entries : Entries
   pub rollbacks : Rollbacks
   pub deletions : Deletions
+  pub comparisons : Comparisons
   pub orders : Orders
   pub configurations : Configurations
   pub updates : Updates

@@ -11,7 +11,7 @@ use Rattle.rules.specs.Bytes.{between, every, allBytes}
 use Rattle.rules.specs.Frame.{keySize, Head, Update, Query, WRITE, READ, onTables}
 use Rattle.rules.specs.Row.{Row, rowFor}
 use Rattle.rules.specs.Value.{value, isValue, short}
-use Rattle.rules.specs.Key.{tableOf, keyFormed, shortKey, keyNumbers, hasKey, sameKey}
+use Rattle.rules.specs.Key.{tableOf, keyFormed, shortKey, keyNumbers, keyOf, hasKey, sameKey}
 use Rattle.rules.specs.Update.{stored}
 use Rattle.rules.specs.Call.{Call, fresh, accepted, batchOf, commandOf, run}
 use Rattle.rules.specs.LookBack.{History, present, stateSeen, reasonAt, withUpdates, readSeen}
@@ -61,6 +61,8 @@ pub record Compared (p : History) (role : ℕ) (u : Update) : Type 0 where
   pub each : keyFormed (rowFor (tableOf (u .entry)) (p .control .rows)) (u .entry) ≡ true
       → (e : List ℕ) → In e (present (p .effects))
       → (hasKey (shortKey (u .entry)) e ≡ true) ↔ (keyNumbers e ≡ keyNumbers (u .entry))
+  -- The comparison of an entry's key with it where they are (request Four) says yes exactly when their shortest forms are the same,
+  pub in-place : (e : List ℕ) → In e (present (p .effects)) → (sameKey (keyOf e) (u .entry) ≡ true) ↔ (shortKey e ≡ shortKey (u .entry))
   -- and the key is found exactly when some entry has the same numbers.
   pub found : keyFormed (rowFor (tableOf (u .entry)) (p .control .rows)) (u .entry) ≡ true
       → (stored (shortKey (u .entry)) (stateSeen p .tables) ≡ true) ↔ SameKey (u .entry) (present (p .effects))
@@ -85,6 +87,9 @@ pub record KeysCompared (room device : ℕ) (before : List Call) (c : Call) : Ty
   pub entries : (h : Head) (earlier : List Update)
       → batchOf (run (fresh device) (commandsOf room before)) h 0 earlier .tables
       ≡ stateSeen (withUpdates (historyOf room device before) (h .role) earlier) .tables
+  -- the key of a READ is compared with an entry's where they are as an update's is,
+  pub in-place : (q : Query) → commandOf room c ≡ onTables (READ q) → (e : List ℕ) → In e (present (historyOf room device before .effects))
+      → (sameKey (keyOf e) (q .key) ≡ true) ↔ (shortKey e ≡ shortKey (q .key))
   -- and an accepted READ of one key shows exactly the entries that have the same numbers.
   pub reads : (q : Query) → commandOf room c ≡ onTables (READ q) → q .only ≡ 1
       → accepted (stateSeen (historyOf room device before)) (onTables (READ q)) ≡ true

@@ -27,4 +27,5 @@ pub mod StreamCases
 pub mod EntryCases
 pub mod RollbackCases
 pub mod DeleteCases
+pub mod KeyCases
 pub mod Cases
