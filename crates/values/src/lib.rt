@@ -1,16 +1,42 @@
 // Values of 17 bytes, slots of 35, keys and entries: their shortest form, made in place, and values told from it or compared with it
 // where they are (document 01, "Configuration and entries"; document 02, request Four).
 ghost use mathlib.Core.Path.{_≡_};
-ghost use Prim.Native.Nat.{_+_, _-_, _≤_, _<_, min};
+ghost use Prim.Native.Nat.{_+_, _-_, _^_, _≤_, _<_, min};
 ghost use lib.ListN.{length, drop};
 ghost use Rattle.rules.specs.Frame.{entrySize, keySize};
-ghost use Rattle.rules.specs.Bytes.{byte, part};
+ghost use Rattle.rules.specs.Bytes.{byte, part, allZero};
 ghost use Rattle.rules.specs.Value.{isValue, fits as below, stripped, padded, short, isShort};
 ghost use Rattle.rules.specs.Key.{sameValue, shortSlot, shortKey};
 ghost use Rattle.rules.specs.Entry.{shortEntry};
 ghost use Rattle.buffers.specs.Splice.{splice};
 ghost use Rattle.buffers.specs.Word.{littleEndian};
 use numbers::Number;
+
+// 256 to the k.
+fn power(k: usize) -> u64
+    requires { ⌜ k < 8 ⌝ }
+    ensures { λ r. ⌜ r ≡ 256 ^ k ⌝ }
+{
+    let bits = 8 * k;
+    1 << bits
+}
+
+// Whether the bytes after the n digits of a value are 0: a word is below 256 to the k where its bytes from k on are.
+fn zero_after(v: &[u8], n: usize) -> bool
+    requires { ⌜ (length (now v) ≡ 17) × (n ≤ 16) ⌝ }
+    ensures { λ r. ⌜ r ≡ allZero (drop (1 + n) (now (v .entry))) ⌝ }
+{
+    if n == 16 {
+        return true;
+    }
+    if 8 <= n {
+        return buffers::word(v, 9) < power(n - 8);
+    }
+    if buffers::word(v, 9) != 0 {
+        return false;
+    }
+    buffers::word(v, 1) < power(n)
+}
 
 // Whether these 17 bytes are a value: length 1 to 16, padding 0.
 pub fn formed(v: &[u8]) -> bool
@@ -24,8 +50,7 @@ pub fn formed(v: &[u8]) -> bool
     if 16 < length {
         return false;
     }
-    let past = length + 1;
-    buffers::all_zero(&v[past..])
+    zero_after(v, length)
 }
 
 // Whether the value is below 2 to the width.
