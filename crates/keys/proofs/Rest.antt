@@ -1,19 +1,20 @@
 -- Each slot of a shortest form has the place of the slot that it is of, so that slots, values and words are compared one by one.
 -- Assumes nothing.
-use Prim.Native.Nat.{ℕ, _+_, _*_, _-_, _≤_, _<_}
+use Prim.Native.Nat.{ℕ, _+_, _*_, _≤_, _<_}
 use native.Mathlib.Omega.{arith}
-use mathlib.Core.Path.{_≡_, refl, sym, ap, ap₂, _∙_}
-use mathlib.Core.Bool.{Bool, true, false, _&&_}
+use mathlib.Core.Path.{_≡_, sym, ap, ap₂, _∙_}
+use mathlib.Core.Bool.{Bool, true, _&&_}
 use mathlib.Core.Logic.{⊎-elim}
-use mathlib.Core.List.{List, [], _∷_, _++_, map, append-assoc}
-use lib.ListN.{length, take, drop, length-append, length-take, length-drop, drop-of-length-le}
-use lib.Seq.{take-at, take-all, take-append-le, drop-append-le, drop-at, drop-drop}
+use mathlib.Core.List.{List, [], _∷_, _++_, map}
+use lib.ListN.{length, take, drop, length-append, length-drop, drop-of-length-le}
+use lib.Seq.{take-at, take-all, drop-at, drop-drop}
 use Rattle.rules.specs.Bytes.{concat, part, parts, same}
 use Rattle.rules.specs.Value.{short}
 use Rattle.rules.specs.Key.{slots, shortSlot, shortKey, sameSlot, sameKey}
 use Rattle.rules.proofs.Lists.{drop-map, parts-from, part-part}
 use Rattle.rules.proofs.Shortest.{part-length, parts-length, parts-map, slot-length, value1-of-short, value2-of-short}
-use Rattle.rules.proofs.InPlace.{slot-compared, short-split, key-compared}
+use Rattle.rules.proofs.Numbers.{shortKey-parts}
+use Rattle.rules.proofs.InPlace.{slot-compared, key-compared}
 use Rattle.buffers.proofs.Words.{same-split}
 use Rattle.keys.specs.Rest.{shortRest, ValueAt}
 
@@ -29,7 +30,7 @@ short-key t r l h =
     let a : part 0 4 (t ++ r) ≡ t = take-at t r 4 l in
     let b : drop 4 (t ++ r) ≡ r = drop-at t r 4 l in
     let c : drop 8 (t ++ r) ≡ drop 4 r = sym (drop-drop 4 4 (t ++ r)) ∙ ap (drop 4) b in
-    short-split (t ++ r)
+    shortKey-parts (t ++ r)
     ∙ ap₂ (λ (x y : List ℕ). x ++ (take 4 y ++ concat (map shortSlot (slots (t ++ r))))) a b
     ∙ ap (λ (x : List ℕ). t ++ (take 4 r ++ concat (map shortSlot (parts 4 35 x)))) c
 

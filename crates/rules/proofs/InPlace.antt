@@ -2,20 +2,20 @@
 -- the part that it is of. Assumes nothing.
 use Prim.Native.Nat.{ℕ, zero, suc, _+_, _*_, _≤_}
 use mathlib.Core.Path.{_≡_, refl, sym, ap, ap₂, _∙_}
-use mathlib.Core.Bool.{Bool, true, false, _&&_, and-assoc}
+use mathlib.Core.Bool.{true, _&&_, and-assoc}
 use mathlib.Core.Logic.{_↔_}
-use mathlib.Core.List.{List, [], _∷_, _++_, map, append-assoc}
+use mathlib.Core.List.{List, [], _∷_, _++_, map}
 use native.Mathlib.Omega.{arith}
 use lib.Dec.{eqb}
-use lib.ListN.{length, take, drop, length-append, length-take, length-drop, take-append-drop}
-use lib.Seq.{take-all, take-add, drop-drop, drop-cons}
-use Rattle.rules.specs.Bytes.{byte, part, parts, concat, same}
+use lib.ListN.{length, take, drop, length-drop, take-append-drop}
+use lib.Seq.{take-all, drop-drop, drop-cons}
+use Rattle.rules.specs.Bytes.{part, parts, concat, same}
 use Rattle.rules.specs.Value.{short}
-use Rattle.rules.specs.Key.{kind, value1, value2, pairwise, slots, shortSlot, shortKey, keyOf, hasKey, sameValue, sameSlot, sameKey}
+use Rattle.rules.specs.Key.{kind, value1, value2, pairwise, slots, shortSlot, shortKey, sameValue, sameSlot, sameKey}
 use Rattle.rules.specs.Keys.{KeysInPlace}
 use Rattle.rules.proofs.Tests.{same-true, eq-same}
 use Rattle.rules.proofs.Shortest.{part-length, first-length, others-fit, short-length, value1-length, slot-length}
-use Rattle.rules.proofs.Numbers.{keys-same}
+use Rattle.rules.proofs.Numbers.{shortKey-parts, keys-same}
 
 -- lists that begin with as many bytes each are compared in two steps
 pub same-append : (a b x y : List ℕ) → length a ≡ length b → same (a ++ x) (b ++ y) ≡ (same a b && same x y)
@@ -50,22 +50,17 @@ slots-compared (suc n) e k h g =
     let a : length (take 35 e) ≡ 35 = first-length n 35 e (omega arith) in
     let b : length (take 35 k) ≡ 35 = first-length n 35 k g in
     let l : length (drop 35 e) ≡ n * 35 = simp length-drop (omega arith) in
+    let others : List ℕ = concat (map shortSlot (parts n 35 (drop 35 k))) in
     let more = slots-compared n (drop 35 e) (drop 35 k) l (others-fit n 35 k g) in
     ap₂ _&&_ (slot-compared (take 35 e) (take 35 k) a b) more
-    ∙ sym (same-append (take 35 e) (shortSlot (take 35 k)) (drop 35 e) (concat (map shortSlot (parts n 35 (drop 35 k)))) (a ∙ sym (slot-length (take 35 k) b)))
-    ∙ ap (λ (x : List ℕ). same x (shortSlot (take 35 k) ++ concat (map shortSlot (parts n 35 (drop 35 k))))) (take-append-drop 35 e)
+    ∙ sym (same-append (take 35 e) (shortSlot (take 35 k)) (drop 35 e) others (a ∙ sym (slot-length (take 35 k) b)))
+    ∙ ap (λ (x : List ℕ). same x (shortSlot (take 35 k) ++ others)) (take-append-drop 35 e)
 
 -- a key is its table, its priority and its slots
 key-split : (e : List ℕ) → e ≡ part 0 4 e ++ (part 4 4 e ++ drop 8 e)
 key-split e =
     sym (ap (λ (x : List ℕ). part 0 4 e ++ x) (ap (λ (x : List ℕ). part 4 4 e ++ x) (sym (drop-drop 4 4 e)) ∙ take-append-drop 4 (drop 4 e))
     ∙ take-append-drop 4 e)
-
-pub short-split : (k : List ℕ) → shortKey k ≡ part 0 4 k ++ (part 4 4 k ++ concat (map shortSlot (slots k)))
-unfolding shortKey
-short-split k =
-    let rest : List ℕ = concat (map shortSlot (slots k)) in
-    ap (λ l. l ++ rest) (take-add 4 4 k) ∙ append-assoc (part 0 4 k) (part 4 4 k) rest
 
 -- the comparison is with the shortest form, whatever follows the key in a frame
 pub key-compared : (e k : List ℕ) → length e ≡ 148 → 148 ≤ length k → sameKey e k ≡ same e (shortKey k)
@@ -76,7 +71,7 @@ key-compared e k h g =
     let m : 4 * 35 ≤ length (drop 8 k) = simp length-drop (omega arith) in
     let t : length (part 0 4 e) ≡ length (part 0 4 k) = part-length 0 4 e (omega arith) ∙ sym (part-length 0 4 k (omega arith)) in
     let p : length (part 4 4 e) ≡ length (part 4 4 k) = part-length 4 4 e (omega arith) ∙ sym (part-length 4 4 k (omega arith)) in
-    sym (ap₂ same (key-split e) (short-split k)
+    sym (ap₂ same (key-split e) (shortKey-parts k)
     ∙ same-append (part 0 4 e) (part 0 4 k) (part 4 4 e ++ drop 8 e) (part 4 4 k ++ rest) t
     ∙ ap (_&&_ (same (part 0 4 e) (part 0 4 k)))
     (same-append (part 4 4 e) (part 4 4 k) (drop 8 e) rest p

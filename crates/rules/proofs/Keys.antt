@@ -1,6 +1,6 @@
 -- Keys are compared as numbers after every list of calls: what is stored is bytes and passed 17, so that its shortest forms are
 -- equal where its numbers are, and keys of different tables differ in both. Assumes nothing.
-use Prim.Native.Nat.{ℕ, _+_, _-_, _≤_}
+use Prim.Native.Nat.{ℕ, _+_, _≤_}
 use mathlib.Core.Path.{_≡_, refl, sym, ap, ap₂, _∙_, subst}
 use mathlib.Core.Bool.{Bool, true, false, _&&_, _||_, not, true≢false, false≢true}
 use mathlib.Core.Logic.{inl, inr, _↔_}
@@ -306,7 +306,8 @@ keys-as-numbers room device before c bs b = record {
         → batchOf (run (fresh device) (commandsOf room before)) h 0 earlier .tables ≡ stateSeen (withUpdates p (h .role) earlier) .tables
     entries h earlier = ap (λ s. batchOf s h 0 earlier .tables) seen ∙ alone-shows p (h .role) earlier
 
-    in-place : (q : Query) → commandOf room c ≡ onTables (READ q) → (e : List ℕ) → In e es → (sameKey (keyOf e) (q .key) ≡ true) ↔ (shortKey e ≡ shortKey (q .key))
+    in-place : (q : Query) → commandOf room c ≡ onTables (READ q) → (e : List ℕ) → In e es
+        → (sameKey (keyOf e) (q .key) ≡ true) ↔ (shortKey e ≡ shortKey (q .key))
     in-place q is e i =
         stored-compared e (q .key) (whole rows (stateSeen p .tables) (ok .tables) bytes e i) (omega (arith, subst Formed is (call-formed room c) .0))
 

@@ -1,19 +1,18 @@
 -- Comparing bytes with a value in shortest form, which is its count, its digits and zeros, part by part. Assumes nothing.
-use Prim.Native.Nat.{ℕ, zero, suc, _+_, _-_, _≤_, _<_, min, max}
+use Prim.Native.Nat.{ℕ, zero, suc, _+_, _-_, _≤_, _<_, min}
 use native.Mathlib.Nat.{zero-add}
 use native.Mathlib.Omega.{arith}
 use mathlib.Core.Path.{_≡_, refl, sym, ap, ap₂, _∙_}
 use mathlib.Core.Bool.{Bool, true, false, _&&_}
 use mathlib.Core.List.{List, [], _∷_, _++_}
 use lib.Dec.{eqb, leb}
-use lib.ListN.{length, take, drop, getD, replicate, length-append, length-take, length-drop, length-replicate, take-append-drop}
+use lib.ListN.{length, drop, getD, replicate, length-take, length-drop, take-append-drop}
 use lib.ListN.{List·getD-append}
 use lib.Seq.{take-all, drop-drop, drop-cons, getD-append-add}
-use borrow.Author.Tests.{eq-eqb, ne-eqb, leb-true, leb-false, le-leb, lt-leb}
-use Rattle.rules.specs.Bytes.{if_then_else_, byte, part, same, allZero}
+use borrow.Author.Tests.{eq-eqb, ne-eqb, leb-true, leb-false, le-leb}
+use Rattle.rules.specs.Bytes.{byte, part, same, allZero}
 use Rattle.rules.specs.Value.{isValue, stripped, padded, short}
 use Rattle.rules.proofs.Tests.{same-refl}
-use Rattle.rules.proofs.Lists.{byte-part}
 use Rattle.rules.proofs.Rollback.{eqb-sym}
 use Rattle.rules.proofs.Shortest.{part-length, stripped-length}
 use Rattle.rules.proofs.InPlace.{same-append}
@@ -117,9 +116,6 @@ module _ (d : List ℕ) (i : ℕ) (some : 1 ≤ i) where
 -- ---- in shortest form already
 
 module _ (v : List ℕ) (size : length v ≡ 17) (used : byte 0 v ≡ 0 → ⊥) where
-  digits : List ℕ
-  digits = part 1 (byte 0 v) v
-
   by-digits : short v ≡ padded (stripped (part 1 (byte 0 v) v))
   unfolding short
   by-digits = rw (ne-eqb (byte 0 v) 0 used)

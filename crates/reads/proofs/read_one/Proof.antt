@@ -58,14 +58,16 @@ returns c =
     let a = d .before .before .before .before .before .before .before .args in
     let i : ℕ = d .found .given .0 .0 in
     let k : 220 * i + 220 - 220 * i ≡ 220 = omega arith in
-    one-read (a .tables) (now (a .store)) (shortKey (now (a .table) ++ now (a .key))) (now (a .answer)) i (w .write-entry .last .1 .0) (found d) (inside d) (search needs)
+    let sought : List ℕ = shortKey (now (a .table) ++ now (a .key)) in
+    one-read (a .tables) (now (a .store)) sought (now (a .answer)) i (w .write-entry .last .1 .0) (found d) (inside d) (search needs)
     (rw k at (w .write-entry .ensures))
 
 returns-2 : tie.Need-returns-2
 returns-2 c =
     let d = c .before .before in
     let a = d .before .before .before .before .before .args in
-    λ t. none-read (a .tables) (now (a .store)) (shortKey (now (a .table) ++ now (a .key))) (now (a .answer)) (ap placeOf (sym (c .enum-told .given .1)) ∙ d .find .ensures .0)
+    let sought : List ℕ = shortKey (now (a .table) ++ now (a .key)) in
+    λ t. none-read (a .tables) (now (a .store)) sought (now (a .answer)) (ap placeOf (sym (c .enum-told .given .1)) ∙ d .find .ensures .0)
 
 pub read-one-spec : {M : Type 1} → statement M
 read-one-spec =

@@ -1,5 +1,5 @@
 -- Right because the entries passed do not have the key: each had another word where the key's is known, or was compared. Assumes nothing.
-use Prim.Native.Nat.{ℕ, _*_, _+_, _-_, _≤_}
+use Prim.Native.Nat.{ℕ, _*_, _+_, _-_}
 use native.Mathlib.Omega.{arith}
 use mathlib.Core.Path.{_≡_, refl, sym, _∙_}
 use mathlib.Core.Bool.{true, false}

@@ -1,15 +1,15 @@
 -- Right because a shortest form is a count, the digits from where the number begins, and zeros: they are compared in this order.
 -- Assumes nothing.
-use Prim.Native.Nat.{ℕ, _+_, _-_, _≤_}
+use Prim.Native.Nat.{ℕ, _+_, _-_}
 use native.Mathlib.Omega.{arith}
 use mathlib.Core.Path.{_≡_, sym, ap, _∙_}
-use mathlib.Core.Bool.{Bool, false, _&&_}
+use mathlib.Core.Bool.{Bool, _&&_}
 use mathlib.Core.List.{List}
 use lib.ListN.{length, drop}
 use denote.Ref.{now}
 use borrow.Author.Tests.{not-true, not-false}
 use Rattle.rules.specs.Bytes.{byte, part, same, allZero}
-use Rattle.rules.specs.Value.{padded, short}
+use Rattle.rules.specs.Value.{padded}
 use Rattle.rules.specs.Key.{sameValue}
 use Rattle.rules.proofs.Lists.{rest-all}
 use Rattle.values.proofs.Compared.{other-count, same-count, short-from, from-length}

@@ -1,12 +1,12 @@
 -- Right because a value without a leading zero is stripped of nothing, and one with a leading zero of that. Assumes nothing.
 use Prim.Native.Nat.{_<_}
 use native.Mathlib.Omega.{arith}
-use mathlib.Core.Path.{_≡_, sym, ap, _∙_}
+use mathlib.Core.Path.{_≡_, sym, _∙_}
 use mathlib.Core.List.{List}
 use mathlib.Core.Logic.{⊎-elim}
 use Prim.Native.Nat.{ℕ}
 use denote.Ref.{now}
-use Rattle.rules.specs.Bytes.{byte, same}
+use Rattle.rules.specs.Bytes.{byte}
 use Rattle.rules.proofs.Tests.{eq-same}
 use Rattle.rules.proofs.Shortest.{short-unused}
 use borrow.Author.Needs.{needs}

@@ -1,12 +1,12 @@
 -- Right because each turn puts one byte of the shortest form more below what was read, from the last of the eight down. Assumes nothing.
-use Prim.Native.Nat.{ℕ, _+_, _*_, _-_, _^_, _≤_, _<_}
+use Prim.Native.Nat.{ℕ, _+_, _-_, _^_, _≤_, _<_}
 use native.Mathlib.Omega.{arith}
 use mathlib.Core.Path.{_≡_, refl, sym, ap, _∙_, subst}
 use mathlib.Core.List.{List}
 use lib.ListN.{length, take, drop}
 use denote.Ref.{now}
 use Rattle.rules.specs.Bytes.{byte, part}
-use Rattle.rules.specs.Value.{padded, short}
+use Rattle.rules.specs.Value.{padded}
 use Rattle.rules.proofs.Shortest.{short-unused, padded-length}
 use Rattle.buffers.specs.Word.{littleEndian}
 use Rattle.buffers.proofs.Words.{word-more, pow-seven}
