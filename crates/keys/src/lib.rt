@@ -96,6 +96,21 @@ pub struct Probe {
     pub word: u64,
 }
 
+// The place of the first word in which a stored key is not the key, by the 144 bytes after the table of each; 0 where there is none.
+fn differing_word(stored: &[u8], key: &[u8]) -> usize
+    requires { ⌜ (length (now stored) ≡ restSize) × (length (now key) ≡ restSize) ⌝ }
+    ensures { λ r. ⌜ r + 8 ≤ restSize ⌝ }
+{
+    let mut at: usize = 0;
+    while at <= 136 {
+        if !buffers::equal_eight(stored, at, key, at) {
+            return at;
+        }
+        at += 8;
+    }
+    0
+}
+
 // The place of the first value in which a stored key is not the key as it came, by the 144 bytes after the table of each; that of the
 // first value where there is none.
 fn differing_value(stored: &[u8], key: &[u8]) -> usize
@@ -119,13 +134,10 @@ fn differing_value(stored: &[u8], key: &[u8]) -> usize
 }
 
 // The word from place `from` of the shortest form of the value at a place; it is not made.
-fn word_at(key: &[u8], at: usize, from: usize, short: bool) -> u64
-    requires { ⌜ (length (now key) ≡ restSize) × ValueAt at × (1 ≤ from) × (from ≤ 9) × ShortIf short (now key) ⌝ }
+fn word_at(key: &[u8], at: usize, from: usize) -> u64
+    requires { ⌜ (length (now key) ≡ restSize) × ValueAt at × (1 ≤ from) × (from ≤ 9) ⌝ }
     ensures { λ r. ⌜ r ≡ littleEndian (part (at + from) 8 (shortRest (now (key .entry)))) ⌝ }
 {
-    if short {
-        return buffers::word(key, at + from);
-    }
     let end = at + 17;
     values::short_word(&key[at..end], from)
 }
@@ -135,19 +147,25 @@ pub fn first_probe(key: &[u8], short: bool) -> Probe
     requires { ⌜ (length (now key) ≡ restSize) × ShortIf short (now key) ⌝ }
     ensures { λ r. ⌜ ProbeOf (now (key .entry)) (r .at) (r .word) ⌝ }
 {
+    if short {
+        return Probe {
+            at: 6,
+            word: buffers::word(key, 6),
+        };
+    }
     Probe {
         at: 6,
-        word: word_at(key, 5, 1, short),
+        word: word_at(key, 5, 1),
     }
 }
 
-// Where to look at the stored keys after this one, which is not the key that is looked for: keys of one table mostly differ in one value.
-pub fn next_probe(stored: &[u8], key: &[u8], short: bool) -> Probe
-    requires { ⌜ (length (now stored) ≡ restSize) × (length (now key) ≡ restSize) × ShortIf short (now key) ⌝ }
+// Where to look next for a key that is not in shortest form: a word of the first value in which this stored key is another.
+fn padded_probe(stored: &[u8], key: &[u8]) -> Probe
+    requires { ⌜ (length (now stored) ≡ restSize) × (length (now key) ≡ restSize) ⌝ }
     ensures { λ r. ⌜ ProbeOf (now (key .entry)) (r .at) (r .word) ⌝ }
 {
     let at = differing_value(stored, key);
-    let head = word_at(key, at, 1, short);
+    let head = word_at(key, at, 1);
     if head != buffers::word(stored, at + 1) {
         return Probe {
             at: at + 1,
@@ -156,6 +174,21 @@ pub fn next_probe(stored: &[u8], key: &[u8], short: bool) -> Probe
     }
     Probe {
         at: at + 9,
-        word: word_at(key, at, 9, short),
+        word: word_at(key, at, 9),
+    }
+}
+
+// Where to look at the stored keys after this one, which is not the key that is looked for: keys of one table mostly differ in one place.
+pub fn next_probe(stored: &[u8], key: &[u8], short: bool) -> Probe
+    requires { ⌜ (length (now stored) ≡ restSize) × (length (now key) ≡ restSize) × ShortIf short (now key) ⌝ }
+    ensures { λ r. ⌜ ProbeOf (now (key .entry)) (r .at) (r .word) ⌝ }
+{
+    if !short {
+        return padded_probe(stored, key);
+    }
+    let at = differing_word(stored, key);
+    Probe {
+        at,
+        word: buffers::word(key, at),
     }
 }

@@ -6,13 +6,14 @@ use mathlib.Core.Path.{_≡_, refl, sym, ap, ap₂, _∙_}
 use mathlib.Core.Bool.{Bool, true, false, _&&_}
 use mathlib.Core.List.{List, [], _∷_, _++_}
 use lib.Dec.{eqb, leb}
-use lib.ListN.{length, drop, getD, replicate, length-take, length-drop, take-append-drop}
+use lib.ListN.{length, take, drop, getD, replicate, length-take, length-drop, take-append-drop}
 use lib.ListN.{List·getD-append}
-use lib.Seq.{take-all, drop-drop, drop-cons, getD-append-add}
+use lib.Seq.{take-all, take-take, drop-drop, drop-cons, getD-append-add}
 use borrow.Author.Tests.{eq-eqb, ne-eqb, leb-true, leb-false, le-leb}
 use Rattle.rules.specs.Bytes.{byte, part, same, allZero}
 use Rattle.rules.specs.Value.{isValue, stripped, padded, short}
-use Rattle.rules.proofs.Tests.{same-refl}
+use Rattle.rules.proofs.Tests.{contradiction, same-true, same-refl, eq-same, ne-same}
+use Rattle.rules.proofs.Lists.{drop-take}
 use Rattle.rules.proofs.Rollback.{eqb-sym}
 use Rattle.rules.proofs.Shortest.{part-length, stripped-length}
 use Rattle.rules.proofs.InPlace.{same-append}
@@ -33,20 +34,18 @@ module _ (e d : List ℕ) (size : length e ≡ 17) (few : length d ≤ 16) where
   other-count n = rw (drop-cons e 0 0 (omega arith), ne-eqb (byte 0 e) (length d) n)
 
   -- the same count: then the digits, and what is after them
-  pub same-count : byte 0 e ≡ length d → same e (padded d) ≡ (same (part 1 (length d) e) d && allZero (drop (length d + 1) e))
+  pub same-count : byte 0 e ≡ length d → same e (padded d) ≡ (same (part 1 (length d) e) d && allZero (drop (1 + length d) e))
   same-count n =
       let m : ℕ = length d in
       let ld : length (part 1 m e) ≡ m = part-length 1 m e (omega arith) in
       let lz : length (drop (1 + m) e) ≡ 16 - m = simp length-drop (omega arith) in
       let split : drop 1 e ≡ part 1 m e ++ drop (1 + m) e =
       sym (ap (λ (x : List ℕ). part 1 m e ++ x) (sym (drop-drop m 1 e)) ∙ take-append-drop m (drop 1 e)) in
-      let swap : 1 + m ≡ m + 1 = omega arith in
       ap (λ (x : List ℕ). same x (padded d)) (drop-cons e 0 0 (omega arith))
       ∙ ap (λ (b : Bool). b && same (drop 1 e) (d ++ replicate (16 - m) 0)) (eq-eqb (byte 0 e) m n)
       ∙ ap (λ (x : List ℕ). same x (d ++ replicate (16 - m) 0)) split
       ∙ same-append (part 1 m e) d (drop (1 + m) e) (replicate (16 - m) 0) ld
       ∙ ap (_&&_ (same (part 1 m e) d)) (same-zeros (16 - m) (drop (1 + m) e) lz)
-      ∙ ap (λ (j : ℕ). same (part 1 m e) d && allZero (drop j e)) swap
 
 -- ---- 17 bytes as they are: the first, and two words
 
@@ -61,6 +60,37 @@ by-words e v h g =
     ∙ ap (_&&_ (eqb (byte 0 e) (byte 0 v)))
     (same-split 8 (drop 1 e) (drop 1 v) (omega arith) (omega arith)
     ∙ ap₂ (λ (x y : List ℕ). same (part 1 8 e) (part 1 8 v) && same x y) (rest e h) (rest v g))
+
+-- ---- eight bytes or more: the first eight and the last
+
+-- two words that overlap, or are next to each other, are all of them
+overlap : (a b : List ℕ) (c : ℕ) → length a ≡ c → length b ≡ c → 8 ≤ c → c ≤ 16
+    → same a b ≡ (same (take 8 a) (take 8 b) && same (drop (c - 8) a) (drop (c - 8) b))
+overlap a b c l m h few = go (same (take 8 a) (take 8 b)) refl (same (drop (c - 8) a) (drop (c - 8) b)) refl
+  where
+    later : (x : List ℕ) → drop 8 x ≡ drop (16 - c) (drop (c - 8) x)
+    later x = let e : 8 ≡ c - 8 + (16 - c) = omega arith in ap (λ (j : ℕ). drop j x) e ∙ sym (drop-drop (16 - c) (c - 8) x)
+
+    joined : take 8 a ≡ take 8 b → drop (c - 8) a ≡ drop (c - 8) b → a ≡ b
+    joined p q =
+        sym (take-append-drop 8 a) ∙ ap₂ (λ (x y : List ℕ). x ++ y) p (later a ∙ ap (drop (16 - c)) q ∙ sym (later b)) ∙ take-append-drop 8 b
+
+    go : (s : Bool) → same (take 8 a) (take 8 b) ≡ s → (t : Bool) → same (drop (c - 8) a) (drop (c - 8) b) ≡ t → same a b ≡ (s && t)
+    go true p true q = eq-same (joined (same-true (take 8 a) (take 8 b) p) (same-true (drop (c - 8) a) (drop (c - 8) b) q))
+    go true p false q = ne-same {a = a} {b = b} (λ z. contradiction (eq-same (ap (drop (c - 8)) z)) q)
+    go false p t q = ne-same {a = a} {b = b} (λ z. contradiction (eq-same (ap (take 8) z)) p)
+
+last-eight : (a c : ℕ) (l : List ℕ) → 8 ≤ c → drop (c - 8) (part a c l) ≡ part (a + (c - 8)) 8 l
+last-eight a c l h =
+    let e : c - (c - 8) ≡ 8 = omega arith in
+    drop-take (c - 8) c (drop a l) ∙ ap₂ (λ (n : ℕ) (x : List ℕ). take n x) e (drop-drop (c - 8) a l)
+
+pub two-words : (e v : List ℕ) (i j c x y : ℕ) → i + c ≤ length e → j + c ≤ length v → 8 ≤ c → c ≤ 16 → x ≡ i + (c - 8) → y ≡ j + (c - 8)
+    → same (part i c e) (part j c v) ≡ (same (part i 8 e) (part j 8 v) && same (part x 8 e) (part y 8 v))
+two-words e v i j c x y p q h few ex ey =
+    overlap (part i c e) (part j c v) c (part-length i c e p) (part-length j c v q) h few
+    ∙ ap₂ _&&_ (ap₂ same (take-take 8 c (drop i e) h) (take-take 8 c (drop j v) h))
+    (ap₂ same (last-eight i c e h ∙ ap (λ (n : ℕ). part n 8 e) (sym ex)) (last-eight j c v h ∙ ap (λ (n : ℕ). part n 8 v) (sym ey)))
 
 -- ---- the digits of a value
 
@@ -163,12 +193,11 @@ module _ (v : List ℕ) (size : length v ≡ 17) (used : byte 0 v ≡ 0 → ⊥)
       go true q =
           let f : n ≤ 16 = leb-true n 16 q in
           let l : length (part 1 n v) ≡ n = part-length 1 n v (omega arith) in
-          let swap : n + 1 ≡ 1 + n = omega arith in
           let one : leb 1 n ≡ true = le-leb 1 n (omega (arith, used)) in
           ap (λ (x : List ℕ). same v (padded x)) stays
           ∙ same-count v (part 1 n v) size (omega arith) (sym l)
-          ∙ ap (λ (m : ℕ). same (part 1 m v) (part 1 n v) && allZero (drop (m + 1) v)) l
-          ∙ rw (same-refl (part 1 n v), swap, one) refl
+          ∙ ap (λ (m : ℕ). same (part 1 m v) (part 1 n v) && allZero (drop (1 + m) v)) l
+          ∙ rw (same-refl (part 1 n v), one) refl
       go false q =
           let f : 16 < n = leb-false n 16 q in
           other-count v (stripped (part 1 n v)) size few-digits (λ e. omega (arith, few-digits))

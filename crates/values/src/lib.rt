@@ -4,7 +4,7 @@ ghost use mathlib.Core.Path.{_≡_};
 ghost use Prim.Native.Nat.{_+_, _-_, _^_, _≤_, _<_, min};
 ghost use lib.ListN.{length, drop};
 ghost use Rattle.rules.specs.Frame.{entrySize, keySize};
-ghost use Rattle.rules.specs.Bytes.{byte, part, allZero};
+ghost use Rattle.rules.specs.Bytes.{byte, part, allZero, same};
 ghost use Rattle.rules.specs.Value.{isValue, fits as below, stripped, padded, short, isShort};
 ghost use Rattle.rules.specs.Key.{sameValue, shortSlot, shortKey};
 ghost use Rattle.rules.specs.Entry.{shortEntry};
@@ -108,6 +108,22 @@ fn digit_count(v: &[u8]) -> usize
     n
 }
 
+// Whether e has these digits of v after its count, so many from place `first` on. Eight or more are two words, which may overlap.
+fn same_digits(e: &[u8], v: &[u8], first: usize, count: usize) -> bool
+    requires { ⌜ (length (now e) ≡ 17) × (length (now v) ≡ 17) × (1 ≤ first) × (first + count ≤ 17) ⌝ }
+    ensures { λ r. ⌜ r ≡ same (part 1 count (now (e .entry))) (part first count (now (v .entry))) ⌝ }
+{
+    if count < 8 {
+        let past = count + 1;
+        let end = first + count;
+        return buffers::equal(&e[1..past], &v[first..end]);
+    }
+    if !buffers::equal_eight(e, 1, v, first) {
+        return false;
+    }
+    buffers::equal_eight(e, count - 7, v, first + count - 8)
+}
+
 // Whether e has the digits of v from where its number begins, their count before them and zeros after them; v is a value, and each has 17 bytes.
 fn has_digits_of(e: &[u8], v: &[u8]) -> bool
     requires { ⌜ (length (now e) ≡ 17) × (length (now v) ≡ 17) × (byte 0 (now v) ≡ 0 → ⊥) ⌝ }
@@ -119,12 +135,10 @@ fn has_digits_of(e: &[u8], v: &[u8]) -> bool
     if e[0] as usize != count {
         return false;
     }
-    let past = count + 1;
-    let end = n + 1;
-    if !buffers::equal(&e[1..past], &v[first..end]) {
+    if !same_digits(e, v, first, count) {
         return false;
     }
-    buffers::all_zero(&e[past..])
+    zero_after(e, count)
 }
 
 // Whether e is the shortest form of v, each of 17 bytes. Where v is no value, its bytes are compared as they are.
@@ -206,6 +220,10 @@ fn shorten_at(dst: &mut [u8], at: usize)
     requires { ⌜ at + 17 ≤ length (now dst) ⌝ }
     ensures { λ _. ⌜ now (dst .exit) ≡ splice (now (dst .entry)) at (short (part at 17 (now (dst .entry)))) ⌝ }
 {
+    let to = at + 17;
+    if is_short(&dst[at..to]) {
+        return;
+    }
     let mut n = dst[at] as usize;
     if n == 0 {
         return;

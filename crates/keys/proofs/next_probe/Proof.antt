@@ -1,59 +1,37 @@
--- Right because both words are those of the shortest form of a value. Assumes nothing.
-use native.Mathlib.Omega.{arith}
+-- Right because a key in shortest form has its words where they are. Assumes nothing.
+use Prim.Native.Nat.{ℕ}
+use mathlib.Core.Path.{_≡_, sym, ap, _∙_}
+use mathlib.Core.List.{List}
+use borrow.Author.Tests.{not-false}
 use borrow.Author.Needs.{needs}
-use Rattle.keys.proofs.Rest.{value-inside}
+use Rattle.rules.specs.Bytes.{part}
+use Rattle.buffers.specs.Word.{littleEndian}
 use Rattle.keys.proofs.next_probe.Statement.{statement}
 use Rattle.keys.proofs.next_probe.Tie as tie
 
-differing-value-requires : tie.Need-differing-value-requires
-differing-value-requires c κs = search needs
-
-word-at-requires : tie.Need-word-at-requires
-word-at-requires c κs = search needs
-
-add-word : tie.Need-add-word
-add-word c = let w = value-inside (c .before .differing-value .result) (c .before .differing-value .ensures) in omega arith
-
-word-requires : tie.Need-word-requires
-word-requires c κs = let w = value-inside (c .before .differing-value .result) (c .before .differing-value .ensures) in omega arith
-
-add-t9 : tie.Need-add-t9
-add-t9 c =
-    let d = c .before .before .before in
-    let w = value-inside (d .differing-value .result) (d .differing-value .ensures) in
-    omega arith
+padded-probe-requires : tie.Need-padded-probe-requires
+padded-probe-requires c κs = search needs
 
 returns : tie.Need-returns
-returns c =
-    let d = c .before .before .before in
-    let w = value-inside (d .differing-value .result) (d .differing-value .ensures) in
-    record { inside = omega arith; there = c .before .before .word-at .ensures }
+returns c = search needs
 
-add-t7 : tie.Need-add-t7
-add-t7 c =
-    let d = c .before .before .before in
-    let w = value-inside (d .differing-value .result) (d .differing-value .ensures) in
-    omega arith
+differing-word-requires : tie.Need-differing-word-requires
+differing-word-requires c κs = search needs
 
-word-at-requires-2 : tie.Need-word-at-requires-2
-word-at-requires-2 c κs = search needs
+word-requires : tie.Need-word-requires
+word-requires c κs = search needs
 
 returns-2 : tie.Need-returns-2
 returns-2 c =
-    let d = c .before .before .before .before in
-    let w = value-inside (d .differing-value .result) (d .differing-value .ensures) in
-    record { inside = omega arith; there = c .word-at2 .ensures }
+    let e = c .before .before in
+    let b = e .before .before .before in
+    record {
+      inside = c .before .differing-word .ensures;
+      there = c .word .ensures
+          ∙ ap (λ (l : List ℕ). littleEndian (part (c .before .differing-word .result) 8 l)) (sym (b .pre .2 (not-false (b .args .short) (e .if1 .left))));
+    }
 
 pub next-probe-spec : {M : Type 1} → statement M
 next-probe-spec =
     tie.close
-    (tie.spec
-    differing-value-requires
-    word-at-requires
-    add-word
-    word-requires
-    add-t9
-    returns
-    add-t7
-    word-at-requires-2
-    returns-2)
+    (tie.spec padded-probe-requires returns differing-word-requires word-requires returns-2)

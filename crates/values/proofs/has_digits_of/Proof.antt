@@ -11,7 +11,6 @@ use borrow.Author.Tests.{not-true, not-false}
 use Rattle.rules.specs.Bytes.{byte, part, same, allZero}
 use Rattle.rules.specs.Value.{padded}
 use Rattle.rules.specs.Key.{sameValue}
-use Rattle.rules.proofs.Lists.{rest-all}
 use Rattle.values.proofs.Compared.{other-count, same-count, short-from, from-length}
 use borrow.Author.Needs.{needs}
 use Rattle.values.proofs.has_digits_of.Statement.{statement}
@@ -43,10 +42,10 @@ found k =
 
 -- where the counts are the same, the digits are compared and then what is after them
 halves : (k : tie.After-significant) → byte 0 (Stored k) ≡ Count k
-    → sameValue (Stored k) (Value k) ≡ (same (part 1 (Count k) (Stored k)) (Digits k) && allZero (drop (Count k + 1) (Stored k)))
+    → sameValue (Stored k) (Value k) ≡ (same (part 1 (Count k) (Stored k)) (Digits k) && allZero (drop (1 + Count k) (Stored k)))
 halves k h =
     found k ∙ same-count (Stored k) (Digits k) (omega arith) (omega (arith, counted k)) (h ∙ sym (counted k))
-    ∙ ap (λ (m : ℕ). same (part 1 m (Stored k)) (Digits k) && allZero (drop (m + 1) (Stored k))) (counted k)
+    ∙ ap (λ (m : ℕ). same (part 1 m (Stored k)) (Digits k) && allZero (drop (1 + m) (Stored k))) (counted k)
 
 digit-count-requires : tie.Need-digit-count-requires
 digit-count-requires c κs = search needs
@@ -71,64 +70,27 @@ returns c =
     let k = c .before .before in
     sym (found k ∙ other-count (Stored k) (Digits k) (omega arith) (omega (arith, counted k)) (λ q. c .if1 .taken (q ∙ counted k)))
 
-add-past : tie.Need-add-past
-add-past c = search needs
-
-add-end : tie.Need-add-end
-add-end c = search needs
-
-sub-equal : tie.Need-sub-equal
-sub-equal c = search needs
-
-part-equal-start : tie.Need-part-equal-start
-part-equal-start c = search needs
-
-part-equal-end : tie.Need-part-equal-end
-part-equal-end c = search needs
-
-sub-equal-2 : tie.Need-sub-equal-2
-sub-equal-2 c = search needs
-
-part-equal-start-2 : tie.Need-part-equal-start-2
-part-equal-start-2 c = search needs
-
-part-equal-end-2 : tie.Need-part-equal-end-2
-part-equal-end-2 c = search needs
-
-equal-requires : tie.Need-equal-requires
-equal-requires c κs = search needs
+same-digits-requires : tie.Need-same-digits-requires
+same-digits-requires c κs = search needs
 
 returns-2 : tie.Need-returns-2
 returns-2 c =
-    let k = c .before .before .before .before .before .before in
-    let m : Count k + 1 - 1 ≡ Count k = omega arith in
-    let q : same (part 1 (Count k) (Stored k)) (Digits k) ≡ c .before .equal .result =
-    sym (c .before .equal .ensures ∙ ap (λ (j : ℕ). same (part 1 j (Stored k)) (Digits k)) m) in
-    sym (halves k (c .before .before .before .before .if1 .left)
-    ∙ ap (λ (b : Bool). b && allZero (drop (Count k + 1) (Stored k))) (q ∙ not-true (c .before .equal .result) (c .if2 .taken)))
+    let w = c .before in
+    let k = w .before .before .before in
+    sym (halves k (w .before .if1 .left)
+    ∙ ap (λ (b : Bool). b && allZero (drop (1 + Count k) (Stored k))) (sym (w .same-digits .ensures) ∙ not-true (w .same-digits .result) (c .if2 .taken)))
 
-sub-all-zero : tie.Need-sub-all-zero
-sub-all-zero c = search needs
-
-part-all-zero-start : tie.Need-part-all-zero-start
-part-all-zero-start c = search needs
-
-part-all-zero-end : tie.Need-part-all-zero-end
-part-all-zero-end c = search needs
-
-all-zero-requires : tie.Need-all-zero-requires
-all-zero-requires c κs = search needs
+zero-after-requires : tie.Need-zero-after-requires
+zero-after-requires c κs = search needs
 
 returns-3 : tie.Need-returns-3
 returns-3 c =
-    let w = c .before .before .before in
-    let k = w .before .before .before .before .before in
-    let m : Count k + 1 - 1 ≡ Count k = omega arith in
-    let q : same (part 1 (Count k) (Stored k)) (Digits k) ≡ w .equal .result =
-    sym (w .equal .ensures ∙ ap (λ (j : ℕ). same (part 1 j (Stored k)) (Digits k)) m) in
-    c .all-zero .ensures ∙ ap allZero (rest-all (Count k + 1) (Stored k))
-    ∙ sym (halves k (w .before .before .before .if1 .left)
-    ∙ ap (λ (b : Bool). b && allZero (drop (Count k + 1) (Stored k))) (q ∙ not-false (w .equal .result) (c .before .before .if2 .left)))
+    let w = c .before .before in
+    let k = w .before .before .before in
+    c .zero-after .ensures
+    ∙ sym (halves k (w .before .if1 .left)
+    ∙ ap (λ (b : Bool). b && allZero (drop (1 + Count k) (Stored k)))
+    (sym (w .same-digits .ensures) ∙ not-false (w .same-digits .result) (c .before .if2 .left)))
 
 pub has-digits-of-spec : {M : Type 1} → statement M
 has-digits-of-spec =
@@ -141,18 +103,7 @@ has-digits-of-spec =
     shared-slice-read-if1
     cast-if1
     returns
-    add-past
-    add-end
-    sub-equal
-    part-equal-start
-    part-equal-end
-    sub-equal-2
-    part-equal-start-2
-    part-equal-end-2
-    equal-requires
+    same-digits-requires
     returns-2
-    sub-all-zero
-    part-all-zero-start
-    part-all-zero-end
-    all-zero-requires
+    zero-after-requires
     returns-3)
