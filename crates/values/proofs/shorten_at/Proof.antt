@@ -46,8 +46,8 @@ counted k =
     (λ w. (omega arith, omega arith, ap (λ (n : ℕ). part (at + 1) n (Dst k)) (w .1 ∙ sym b) ∙ inside (byte 0 v) (omega arith)))
     (k .if3 .came)
 
-add-end : tie.Need-add-end
-add-end c = search needs
+add-to : tie.Need-add-to
+add-to c = search needs
 
 sub-is-short : tie.Need-sub-is-short
 sub-is-short c = search needs
@@ -121,7 +121,7 @@ pub shorten-at-spec : {M : Type 1} → statement M
 shorten-at-spec =
     tie.close
     (tie.spec
-    add-end
+    add-to
     sub-is-short
     part-is-short-start
     part-is-short-end
