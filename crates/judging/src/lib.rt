@@ -147,12 +147,5 @@ pub fn judge(
     let found = rows::find(rows, count, integer(update, 1, 4));
     let at = found.at;
     let end = at + rules::ROW;
-    judge_by(
-        found.known,
-        &rows[at..end],
-        role,
-        store,
-        tables,
-        update,
-    )
+    judge_by(found.known, &rows[at..end], role, store, tables, update)
 }

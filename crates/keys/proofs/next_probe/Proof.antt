@@ -1,6 +1,6 @@
 -- Right because a key in shortest form has its words where they are. Assumes nothing.
 use Prim.Native.Nat.{ℕ}
-use mathlib.Core.Path.{_≡_, sym, ap, _∙_}
+use mathlib.Core.Path.{sym, ap, _∙_}
 use mathlib.Core.List.{List}
 use borrow.Author.Tests.{not-false}
 use borrow.Author.Needs.{needs}

@@ -112,21 +112,23 @@ loop-again c =
     (λ w. (
       rw (w .6, w .7) (w .5 .ensures),
       next (sym (key-said (220 * i) _ s (now (a .table)) (now (a .key)) (omega arith) (omega arith) (omega arith) n)
-      ∙ sym (w .2 .ensures) ∙ w .3 .left),
+          ∙ sym (w .2 .ensures) ∙ w .3 .left),
     ))
     (λ w. (
       rw (w .1, w .2) (l .loop .inv .0),
       next (probe-differs (220 * i) s (now (a .table)) (now (a .key)) (l .loop .place) (l .loop .word) (omega arith) (omega arith) (omega arith)
-      (l .loop .inv .0) (λ e. w .0 .left (c .before .word .ensures ∙ e))),
+          (l .loop .inv .0) (λ e. w .0 .left (c .before .word .ensures ∙ e))),
     ))
     (c .if1 .came)
 
 returns-2 : tie.Need-returns-2 Inv-loop μ-loop
 returns-2 c =
     let l = c .before in
-    let a = l .before .before .before .before .before .before .args in
-    (sym (l .loop .inv .1
-    ∙ searched-none (a .tables) (now (a .store)) (shortKey (now (a .table) ++ now (a .key))) (l .loop .i) (omega arith)), tt)
+    let a = l .before .before .before .before .before .before .args in (
+      sym (l .loop .inv .1
+          ∙ searched-none (a .tables) (now (a .store)) (shortKey (now (a .table) ++ now (a .key))) (l .loop .i) (omega arith)),
+      tt,
+    )
 
 pub find-spec : {M : Type 1} → statement M
 find-spec =
