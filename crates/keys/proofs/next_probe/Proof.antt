@@ -23,12 +23,13 @@ word-requires c κs = search needs
 
 returns-2 : tie.Need-returns-2
 returns-2 c =
-    let e = c .before .before in
+    let d = c .before in
+    let e = d .before in
     let b = e .before .before .before in
+    let own = b .pre .2 (not-false (b .args .short) (e .if1 .left)) in
     record {
-      inside = c .before .differing-word .ensures;
-      there = c .word .ensures
-          ∙ ap (λ (l : List ℕ). littleEndian (part (c .before .differing-word .result) 8 l)) (sym (b .pre .2 (not-false (b .args .short) (e .if1 .left))));
+      inside = d .differing-word .ensures;
+      there = c .word .ensures ∙ ap (λ (l : List ℕ). littleEndian (part (d .differing-word .result) 8 l)) (sym own);
     }
 
 pub next-probe-spec : {M : Type 1} → statement M

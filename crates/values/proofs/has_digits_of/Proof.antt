@@ -78,7 +78,8 @@ returns-2 c =
     let w = c .before in
     let k = w .before .before .before in
     sym (halves k (w .before .if1 .left)
-    ∙ ap (λ (b : Bool). b && allZero (drop (1 + Count k) (Stored k))) (sym (w .same-digits .ensures) ∙ not-true (w .same-digits .result) (c .if2 .taken)))
+    ∙ ap (λ (b : Bool). b && allZero (drop (1 + Count k) (Stored k)))
+    (sym (w .same-digits .ensures) ∙ not-true (w .same-digits .result) (c .if2 .taken)))
 
 zero-after-requires : tie.Need-zero-after-requires
 zero-after-requires c κs = search needs

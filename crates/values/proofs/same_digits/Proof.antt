@@ -66,7 +66,8 @@ equal-eight-requires c κs = search needs
 returns-2 : tie.Need-returns-2
 returns-2 c =
     let w = c .before in
-    sym (halves (w .before) ∙ ap (λ (b : Bool). b && Last (w .before)) (sym (w .equal-eight .ensures) ∙ not-true (w .equal-eight .result) (c .if2 .taken)))
+    sym (halves (w .before)
+    ∙ ap (λ (b : Bool). b && Last (w .before)) (sym (w .equal-eight .ensures) ∙ not-true (w .equal-eight .result) (c .if2 .taken)))
 
 sub-equal-eight : tie.Need-sub-equal-eight
 sub-equal-eight c = search needs
@@ -84,7 +85,8 @@ returns-3 : tie.Need-returns-3
 returns-3 c =
     let w = c .before .before in
     c .equal-eight2 .ensures
-    ∙ sym (halves (w .before) ∙ ap (λ (b : Bool). b && Last (w .before)) (sym (w .equal-eight .ensures) ∙ not-false (w .equal-eight .result) (c .before .if2 .left)))
+    ∙ sym (halves (w .before)
+    ∙ ap (λ (b : Bool). b && Last (w .before)) (sym (w .equal-eight .ensures) ∙ not-false (w .equal-eight .result) (c .before .if2 .left)))
 
 pub same-digits-spec : {M : Type 1} → statement M
 same-digits-spec =

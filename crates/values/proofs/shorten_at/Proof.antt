@@ -28,8 +28,9 @@ abbrev Value : tie.Joined3 → List ℕ
 Value k = part (k .before .before .before .before .before .before .before .before .args .at) 17 (Dst k)
 
 -- the digits are those that the length byte says, as many as there are
-counted : (k : tie.Joined3) → (1 ≤ k .if3 .n) × (k .if3 .n ≤ 16)
-    × (part (k .before .before .before .before .before .before .before .before .args .at + 1) (k .if3 .n) (Dst k) ≡ part 1 (byte 0 (Value k)) (Value k))
+counted : (k : tie.Joined3) →
+    let at = k .before .before .before .before .before .before .before .before .args .at in
+    (1 ≤ k .if3 .n) × (k .if3 .n ≤ 16) × (part (at + 1) (k .if3 .n) (Dst k) ≡ part 1 (byte 0 (Value k)) (Value k))
 counted k =
     let at : ℕ = k .before .before .before .before .before .before .before .before .args .at in
     let v : List ℕ = Value k in
