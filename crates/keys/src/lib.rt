@@ -111,24 +111,24 @@ fn differing_word(stored: &[u8], key: &[u8]) -> usize
     0
 }
 
-// The place of the first value in which a stored key is not the key as it came, by the 144 bytes after the table of each; that of the
+// The place of the last value in which a stored key is not the key as it came, by the 144 bytes after the table of each; that of the
 // first value where there is none.
 fn differing_value(stored: &[u8], key: &[u8]) -> usize
     requires { ⌜ (length (now stored) ≡ restSize) × (length (now key) ≡ restSize) ⌝ }
     ensures { λ r. ⌜ ValueAt r ⌝ }
 {
-    let mut i: usize = 0;
-    while i < 4 {
+    let mut i: usize = 4;
+    while 0 < i {
+        i -= 1;
         let first = 35 * i + 5;
         let second = first + 17;
         let end = second + 17;
-        if !values::is_shortest_of(&stored[first..second], &key[first..second]) {
-            return first;
-        }
         if !values::is_shortest_of(&stored[second..end], &key[second..end]) {
             return second;
         }
-        i += 1;
+        if !values::is_shortest_of(&stored[first..second], &key[first..second]) {
+            return first;
+        }
     }
     5
 }
@@ -159,22 +159,25 @@ pub fn first_probe(key: &[u8], short: bool) -> Probe
     }
 }
 
-// Where to look next for a key that is not in shortest form: a word of the first value in which this stored key is another.
+// Where to look next for a key that is not in shortest form: a word of a value in which this stored key is another, the last digits before
+// the first.
 fn padded_probe(stored: &[u8], key: &[u8]) -> Probe
     requires { ⌜ (length (now stored) ≡ restSize) × (length (now key) ≡ restSize) ⌝ }
     ensures { λ r. ⌜ ProbeOf (now (key .entry)) (r .at) (r .word) ⌝ }
 {
     let at = differing_value(stored, key);
-    let head = word_at(key, at, 1);
-    if head != buffers::word(stored, at + 1) {
-        return Probe {
-            at: at + 1,
-            word: head,
-        };
+    if 8 < stored[at] {
+        let last = word_at(key, at, 9);
+        if last != buffers::word(stored, at + 9) {
+            return Probe {
+                at: at + 9,
+                word: last,
+            };
+        }
     }
     Probe {
-        at: at + 9,
-        word: word_at(key, at, 9),
+        at: at + 1,
+        word: word_at(key, at, 1),
     }
 }
 

@@ -3,10 +3,11 @@
 use mathlib.Core.Path.{_≡_}
 use mathlib.Core.List.{List, [], _∷_, _++_}
 use mathlib.Core.Option.{Option, none, some}
-use Prim.Native.Nat.{ℕ, suc, _*_, _≤_, _<_}
+use Prim.Native.Nat.{ℕ, suc, _+_, _*_, _≤_, _<_}
 use lib.ListN.{length, take, drop, getD, set}
 use Rattle.rules.specs.Frame.{entrySize, keySize}
-use Rattle.rules.specs.Bytes.{if_then_else_, keep, parts}
+use Rattle.rules.specs.Bytes.{if_then_else_, keep, part, parts}
+use Rattle.buffers.specs.Word.{littleEndian}
 use Rattle.rules.specs.Key.{hasKey}
 use Rattle.rules.specs.Update as rules
 use Rattle.store.specs.declared.Tables.{Tables}
@@ -46,6 +47,16 @@ placeOf Absent = none
 abbrev pub InRange : Found → Tables → Type 0
 InRange (At i) tables = i < tables .count
 InRange Absent tables = Unit {0}
+
+-- none of n words, the first at a place and each an entry after the one before, is this word
+abbrev pub NoneFrom : ℕ → ℕ → ℕ → List ℕ → Type 0
+NoneFrom n at word store = (k : ℕ) → k < n → littleEndian (part (at + entrySize * k) 8 store) ≡ word → ⊥
+
+-- Entries from `from` up to `next` were passed over: none has the word at the place in the bytes after its table.
+pub record PassedOver (from next count place word : ℕ) (store : List ℕ) : Type 0 where
+  pub later : from ≤ next
+  pub inside : next < count
+  pub apart : (j : ℕ) → from ≤ j → j < next → littleEndian (part (entrySize * j + 4 + place) 8 store) ≡ word → ⊥
 
 -- a list without its element i
 abbrev pub without : ℕ → List (List ℕ) → List (List ℕ)

@@ -11,10 +11,13 @@ abbrev Inv-loop : tie.InvT-loop
 Inv-loop stored key i₀ i = i ≤ 4
 
 abbrev μ-loop : tie.MeasureT-loop
-μ-loop stored key i₀ i = 4 - i
+μ-loop stored key i₀ i = i
 
 loop-holds : tie.Need-loop-holds Inv-loop μ-loop
 loop-holds c = search needs
+
+sub-i : tie.Need-sub-i Inv-loop μ-loop
+sub-i c = search needs
 
 mul-first : tie.Need-mul-first Inv-loop μ-loop
 mul-first c = search needs
@@ -52,7 +55,7 @@ is-shortest-of-requires c κs = search needs
 returns : tie.Need-returns Inv-loop μ-loop
 returns c =
     let l = c .before .before .before .before .before in
-    record { slot = l .loop .i; few = omega arith; place = inl refl }
+    record { slot = l .loop .i - 1; few = omega arith; place = inr (omega arith) }
 
 sub-is-shortest-of-3 : tie.Need-sub-is-shortest-of-3 Inv-loop μ-loop
 sub-is-shortest-of-3 c = search needs
@@ -78,10 +81,7 @@ is-shortest-of-requires-2 c κs = search needs
 returns-2 : tie.Need-returns-2 Inv-loop μ-loop
 returns-2 c =
     let l = c .before .before .before .before .before .before .before .before .before in
-    record { slot = l .loop .i; few = omega arith; place = inr (omega arith) }
-
-add-i : tie.Need-add-i Inv-loop μ-loop
-add-i c = search needs
+    record { slot = l .loop .i - 1; few = omega arith; place = inl refl }
 
 loop-less : tie.Need-loop-less Inv-loop μ-loop
 loop-less c = search needs
@@ -99,6 +99,7 @@ differing-value-spec =
     Inv-loop
     μ-loop
     loop-holds
+    sub-i
     mul-first
     add-first
     add-second
@@ -119,7 +120,6 @@ differing-value-spec =
     part-is-shortest-of-end-4
     is-shortest-of-requires-2
     returns-2
-    add-i
     loop-less
     loop-again
     returns-3)

@@ -1,10 +1,11 @@
 -- Right because the entries passed do not have the key: each had another word where the key's is known, or was compared. Assumes nothing.
-use Prim.Native.Nat.{ℕ, _*_, _+_, _-_}
+use Prim.Native.Nat.{ℕ, _*_, _+_, _-_, _≤_, _<_}
 use native.Mathlib.Omega.{arith}
-use mathlib.Core.Path.{_≡_, refl, sym, _∙_}
+use mathlib.Core.Path.{_≡_, refl, sym, ap, _∙_}
 use mathlib.Core.Bool.{true, false}
 use mathlib.Core.Logic.{⊎-elim}
 use mathlib.Core.List.{List, _++_}
+use lib.ListN.{length}
 use denote.Ref.{now}
 use borrow.Author.Needs.{needs}
 use Rattle.rules.specs.Bytes.{part, parts, same}
@@ -12,7 +13,7 @@ use Rattle.rules.specs.Key.{shortKey}
 use Rattle.rules.proofs.Tests.{same-true}
 use Rattle.keys.specs.Rest.{shortRest, ShortIf, ProbeOf}
 use Rattle.store.specs.Store.{place}
-use Rattle.store.proofs.Scan.{searched, searched-next, searched-none, probe-differs, key-said}
+use Rattle.store.proofs.Scan.{searched, searched-next, searched-skip, searched-none, probe-differs, key-said}
 use Rattle.store.proofs.find.Statement.{statement}
 use Rattle.store.proofs.find.Tie as tie
 
@@ -39,84 +40,127 @@ first-probe-requires c κs = (search needs, told c)
 loop-holds : tie.Need-loop-holds Inv-loop μ-loop
 loop-holds c = (c .first-probe .ensures, refl)
 
+pass-over-requires : tie.Need-pass-over-requires Inv-loop μ-loop
+pass-over-requires c κs = let o = c .before .loop .inv .0 .inside in (omega arith, omega arith, omega arith)
+
+-- the entries that are passed over do not have the key
+reached : (p : tie.After-pass-over Inv-loop μ-loop) →
+    let a = p .before .before .before .before .before .before .before .before .args in
+    let k = shortKey (now (a .table) ++ now (a .key)) in
+    place k (parts (a .tables .count) 220 (now (a .store))) ≡ searched (a .tables) (now (a .store)) k (p .pass-over .result)
+reached p =
+    let l = p .before .before in
+    let a = l .before .before .before .before .before .before .args in
+    let s : List ℕ = now (a .store) in
+    let k : List ℕ = shortKey (now (a .table) ++ now (a .key)) in
+    let i : ℕ = l .loop .i in
+    let o = p .pass-over .ensures in
+    let e : i + (p .pass-over .result - i) ≡ p .pass-over .result = omega (arith, o .later) in
+    l .loop .inv .1
+    ∙ searched-skip (a .tables) s k i (p .pass-over .result - i) (omega (arith, o .later, o .inside))
+    (λ j g h.
+    let below : j < p .pass-over .result = omega (arith, e, h) in
+    probe-differs (220 * j) s (now (a .table)) (now (a .key)) (l .loop .place) (l .loop .word)
+    (omega (arith, o .inside, below)) (omega arith) (omega arith) (l .loop .inv .0) (o .apart j g below))
+    ∙ ap (searched (a .tables) s k) e
+
 mul-at : tie.Need-mul-at Inv-loop μ-loop
-mul-at c = search needs
+mul-at c = let h = c .pass-over .ensures .inside in omega arith
 
 add-from : tie.Need-add-from Inv-loop μ-loop
-add-from c = search needs
+add-from c = let h = c .pass-over .ensures .inside in omega arith
 
 add-word : tie.Need-add-word Inv-loop μ-loop
-add-word c = let o = c .before .loop .inv .0 .inside in omega arith
+add-word c =
+    let h = c .pass-over .ensures .inside in
+    let o = c .before .before .loop .inv .0 .inside in
+    omega arith
 
 word-requires : tie.Need-word-requires Inv-loop μ-loop
-word-requires c κs = let o = c .before .loop .inv .0 .inside in omega arith
+word-requires c κs =
+    let h = c .pass-over .ensures .inside in
+    let o = c .before .before .loop .inv .0 .inside in
+    omega arith
 
 add-end : tie.Need-add-end Inv-loop μ-loop
-add-end c = search needs
+add-end c = let h = c .before .before .pass-over .ensures .inside in omega arith
 
 sub-same-key : tie.Need-sub-same-key Inv-loop μ-loop
-sub-same-key c = search needs
+sub-same-key c = let h = c .before .before .pass-over .ensures .inside in omega arith
 
 part-same-key-start : tie.Need-part-same-key-start Inv-loop μ-loop
-part-same-key-start c = search needs
+part-same-key-start c = let h = c .before .before .pass-over .ensures .inside in omega arith
 
 part-same-key-end : tie.Need-part-same-key-end Inv-loop μ-loop
-part-same-key-end c = search needs
+part-same-key-end c = let h = c .before .before .pass-over .ensures .inside in omega arith
 
 same-key-requires : tie.Need-same-key-requires Inv-loop μ-loop
-same-key-requires c κs = (search needs, search needs, search needs, told (c .before .before .before .before .before .before))
+same-key-requires c κs =
+    let h = c .before .before .before .pass-over .ensures .inside in
+    (omega arith, search needs, search needs, told (c .before .before .before .before .before .before .before))
 
 returns : tie.Need-returns Inv-loop μ-loop
 returns c =
     let w = c .before in
-    let l = w .before .before .before .before .before in
-    let a = l .before .before .before .before .before .before .args in
+    let p = w .before .before .before .before in
+    let b = p .before .before .before .before .before .before .before .before in
+    let a = b .args in
     let s : List ℕ = now (a .store) in
     let k : List ℕ = shortKey (now (a .table) ++ now (a .key)) in
-    let i : ℕ = l .loop .i in
+    let i : ℕ = p .pass-over .result in
+    let inside : i < a .tables .count = p .pass-over .ensures .inside in
+    let room : 220 * i + 148 ≤ length s = omega (arith, inside, b .pre .0) in
     let n : 220 * i + 148 - 220 * i ≡ 148 = omega arith in
     let t : same (part (220 * i) 148 s) k ≡ true =
-    sym (key-said (220 * i) _ s (now (a .table)) (now (a .key)) (omega arith) (omega arith) (omega arith) n)
+    sym (key-said (220 * i) _ s (now (a .table)) (now (a .key)) room (b .pre .1) (b .pre .2) n)
     ∙ sym (w .same-key .ensures) ∙ c .if2 .taken in
-    (sym (l .loop .inv .1 ∙ searched-next (a .tables) s k i true (omega arith) t), omega arith)
+    (sym (reached p ∙ searched-next (a .tables) s k i true inside t), inside)
 
 sub-next-probe : tie.Need-sub-next-probe Inv-loop μ-loop
-sub-next-probe c = search needs
+sub-next-probe c = let h = c .before .before .before .before .before .pass-over .ensures .inside in omega arith
 
 part-next-probe-start : tie.Need-part-next-probe-start Inv-loop μ-loop
-part-next-probe-start c = search needs
+part-next-probe-start c = let h = c .before .before .before .before .before .pass-over .ensures .inside in omega arith
 
 part-next-probe-end : tie.Need-part-next-probe-end Inv-loop μ-loop
-part-next-probe-end c = search needs
+part-next-probe-end c = let h = c .before .before .before .before .before .pass-over .ensures .inside in omega arith
 
 next-probe-requires : tie.Need-next-probe-requires Inv-loop μ-loop
-next-probe-requires c κs = (search needs, search needs, told (c .before .before .before .before .before .before .before .before .before))
+next-probe-requires c κs =
+    let h = c .before .before .before .before .before .before .pass-over .ensures .inside in
+    (omega arith, search needs, told (c .before .before .before .before .before .before .before .before .before .before))
 
 add-i : tie.Need-add-i Inv-loop μ-loop
-add-i c = search needs
+add-i c = let h = c .before .before .pass-over .ensures .inside in omega arith
 
 loop-less : tie.Need-loop-less Inv-loop μ-loop
-loop-less c = search needs
+loop-less c =
+    let h = c .before .before .pass-over .ensures in
+    omega (arith, h .later, h .inside)
 
 loop-again : tie.Need-loop-again Inv-loop μ-loop
 loop-again c =
-    let l = c .before .before .before in
-    let a = l .before .before .before .before .before .before .args in
+    let p = c .before .before in
+    let l = p .before .before in
+    let b = l .before .before .before .before .before .before in
+    let a = b .args in
     let s : List ℕ = now (a .store) in
     let k : List ℕ = shortKey (now (a .table) ++ now (a .key)) in
-    let i : ℕ = l .loop .i in
+    let i : ℕ = p .pass-over .result in
+    let inside : i < a .tables .count = p .pass-over .ensures .inside in
+    let room : 220 * i + 148 ≤ length s = omega (arith, inside, b .pre .0) in
     let next : same (part (220 * i) 148 s) k ≡ false → place k (parts (a .tables .count) 220 s) ≡ searched (a .tables) s k (i + 1) =
-    λ t. l .loop .inv .1 ∙ searched-next (a .tables) s k i false (omega arith) t in
+    λ t. reached p ∙ searched-next (a .tables) s k i false inside t in
     let n : 220 * i + 148 - 220 * i ≡ 148 = omega arith in
     ⊎-elim
     (λ w. (
       rw (w .6, w .7) (w .5 .ensures),
-      next (sym (key-said (220 * i) _ s (now (a .table)) (now (a .key)) (omega arith) (omega arith) (omega arith) n)
+      next (sym (key-said (220 * i) _ s (now (a .table)) (now (a .key)) room (b .pre .1) (b .pre .2) n)
           ∙ sym (w .2 .ensures) ∙ w .3 .left),
     ))
     (λ w. (
       rw (w .1, w .2) (l .loop .inv .0),
-      next (probe-differs (220 * i) s (now (a .table)) (now (a .key)) (l .loop .place) (l .loop .word) (omega arith) (omega arith) (omega arith)
+      next (probe-differs (220 * i) s (now (a .table)) (now (a .key)) (l .loop .place) (l .loop .word) room (b .pre .1) (b .pre .2)
           (l .loop .inv .0) (λ e. w .0 .left (c .before .word .ensures ∙ e))),
     ))
     (c .if1 .came)
@@ -139,6 +183,7 @@ find-spec =
     is-short-requires
     first-probe-requires
     loop-holds
+    pass-over-requires
     mul-at
     add-from
     add-word
