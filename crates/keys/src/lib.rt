@@ -111,12 +111,15 @@ fn differing_word(stored: &[u8], key: &[u8]) -> usize
     0
 }
 
-// The place of the last value in which a stored key is not the key as it came, by the 144 bytes after the table of each; that of the
-// first value where there is none.
+// The place of a value in which a stored key is not the key as it came, by the 144 bytes after the table of each: the first value or, where
+// that is the same, the last one that is not. The place of the first value where there is none.
 fn differing_value(stored: &[u8], key: &[u8]) -> usize
     requires { ⌜ (length (now stored) ≡ restSize) × (length (now key) ≡ restSize) ⌝ }
     ensures { λ r. ⌜ ValueAt r ⌝ }
 {
+    if !values::is_shortest_of(&stored[5..22], &key[5..22]) {
+        return 5;
+    }
     let mut i: usize = 4;
     while 0 < i {
         i -= 1;

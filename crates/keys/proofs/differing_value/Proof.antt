@@ -13,24 +13,6 @@ Inv-loop stored key i₀ i = i ≤ 4
 abbrev μ-loop : tie.MeasureT-loop
 μ-loop stored key i₀ i = i
 
-loop-holds : tie.Need-loop-holds Inv-loop μ-loop
-loop-holds c = search needs
-
-sub-i : tie.Need-sub-i Inv-loop μ-loop
-sub-i c = search needs
-
-mul-first : tie.Need-mul-first Inv-loop μ-loop
-mul-first c = search needs
-
-add-first : tie.Need-add-first Inv-loop μ-loop
-add-first c = search needs
-
-add-second : tie.Need-add-second Inv-loop μ-loop
-add-second c = search needs
-
-add-end : tie.Need-add-end Inv-loop μ-loop
-add-end c = search needs
-
 sub-is-shortest-of : tie.Need-sub-is-shortest-of Inv-loop μ-loop
 sub-is-shortest-of c = search needs
 
@@ -53,9 +35,25 @@ is-shortest-of-requires : tie.Need-is-shortest-of-requires Inv-loop μ-loop
 is-shortest-of-requires c κs = search needs
 
 returns : tie.Need-returns Inv-loop μ-loop
-returns c =
-    let l = c .before .before .before .before .before in
-    record { slot = l .loop .i - 1; few = omega arith; place = inr (omega arith) }
+returns c = record { slot = 0; few = omega arith; place = inl refl }
+
+loop-holds : tie.Need-loop-holds Inv-loop μ-loop
+loop-holds c = search needs
+
+sub-i : tie.Need-sub-i Inv-loop μ-loop
+sub-i c = search needs
+
+mul-first : tie.Need-mul-first Inv-loop μ-loop
+mul-first c = search needs
+
+add-first : tie.Need-add-first Inv-loop μ-loop
+add-first c = search needs
+
+add-second : tie.Need-add-second Inv-loop μ-loop
+add-second c = search needs
+
+add-end : tie.Need-add-end Inv-loop μ-loop
+add-end c = search needs
 
 sub-is-shortest-of-3 : tie.Need-sub-is-shortest-of-3 Inv-loop μ-loop
 sub-is-shortest-of-3 c = search needs
@@ -80,6 +78,32 @@ is-shortest-of-requires-2 c κs = search needs
 
 returns-2 : tie.Need-returns-2 Inv-loop μ-loop
 returns-2 c =
+    let l = c .before .before .before .before .before in
+    record { slot = l .loop .i - 1; few = omega arith; place = inr (omega arith) }
+
+sub-is-shortest-of-5 : tie.Need-sub-is-shortest-of-5 Inv-loop μ-loop
+sub-is-shortest-of-5 c = search needs
+
+part-is-shortest-of-start-5 : tie.Need-part-is-shortest-of-start-5 Inv-loop μ-loop
+part-is-shortest-of-start-5 c = search needs
+
+part-is-shortest-of-end-5 : tie.Need-part-is-shortest-of-end-5 Inv-loop μ-loop
+part-is-shortest-of-end-5 c = search needs
+
+sub-is-shortest-of-6 : tie.Need-sub-is-shortest-of-6 Inv-loop μ-loop
+sub-is-shortest-of-6 c = search needs
+
+part-is-shortest-of-start-6 : tie.Need-part-is-shortest-of-start-6 Inv-loop μ-loop
+part-is-shortest-of-start-6 c = search needs
+
+part-is-shortest-of-end-6 : tie.Need-part-is-shortest-of-end-6 Inv-loop μ-loop
+part-is-shortest-of-end-6 c = search needs
+
+is-shortest-of-requires-3 : tie.Need-is-shortest-of-requires-3 Inv-loop μ-loop
+is-shortest-of-requires-3 c κs = search needs
+
+returns-3 : tie.Need-returns-3 Inv-loop μ-loop
+returns-3 c =
     let l = c .before .before .before .before .before .before .before .before .before in
     record { slot = l .loop .i - 1; few = omega arith; place = inl refl }
 
@@ -89,8 +113,8 @@ loop-less c = search needs
 loop-again : tie.Need-loop-again Inv-loop μ-loop
 loop-again c = search needs
 
-returns-3 : tie.Need-returns-3 Inv-loop μ-loop
-returns-3 c = record { slot = 0; few = omega arith; place = inl refl }
+returns-4 : tie.Need-returns-4 Inv-loop μ-loop
+returns-4 c = record { slot = 0; few = omega arith; place = inl refl }
 
 pub differing-value-spec : {M : Type 1} → statement M
 differing-value-spec =
@@ -98,12 +122,6 @@ differing-value-spec =
     (tie.spec
     Inv-loop
     μ-loop
-    loop-holds
-    sub-i
-    mul-first
-    add-first
-    add-second
-    add-end
     sub-is-shortest-of
     part-is-shortest-of-start
     part-is-shortest-of-end
@@ -112,6 +130,12 @@ differing-value-spec =
     part-is-shortest-of-end-2
     is-shortest-of-requires
     returns
+    loop-holds
+    sub-i
+    mul-first
+    add-first
+    add-second
+    add-end
     sub-is-shortest-of-3
     part-is-shortest-of-start-3
     part-is-shortest-of-end-3
@@ -120,6 +144,14 @@ differing-value-spec =
     part-is-shortest-of-end-4
     is-shortest-of-requires-2
     returns-2
+    sub-is-shortest-of-5
+    part-is-shortest-of-start-5
+    part-is-shortest-of-end-5
+    sub-is-shortest-of-6
+    part-is-shortest-of-start-6
+    part-is-shortest-of-end-6
+    is-shortest-of-requires-3
+    returns-3
     loop-less
     loop-again
-    returns-3)
+    returns-4)
