@@ -224,13 +224,7 @@ fn shorten_at(dst: &mut [u8], at: usize)
     if is_short(&dst[at..to]) {
         return;
     }
-    let mut n = dst[at] as usize;
-    if n == 0 {
-        return;
-    }
-    if 16 < n {
-        n = 16;
-    }
+    let n = digit_count(&dst[at..to]);
     let digits = strip_at(dst, at, n);
     pad_at(dst, at, digits);
 }
