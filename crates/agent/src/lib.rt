@@ -1,4 +1,6 @@
 // The agent: one call hands in a frame and gets its answer (document 01).
+#![tactic(auto)]
+
 ghost use Rattle.std.specs.Prelude.{ℕ, ◌≤◌, List, length};
 ghost use Rattle.rules.specs.Frame.{on_streams, on_pipeline, on_tables};
 ghost use Rattle.calls.specs.Contract.{Contract};
@@ -10,7 +12,7 @@ use frames::{Command, Frame, PipelineCommand, StreamEvent, TableCommand};
 use memory::Agent;
 
 // What a call hands back: the record as it leaves it, and the reason.
-#[derive(Drop)]
+#[derive(Clone, Copy)]
 pub struct Called {
     pub agent: Agent,
     pub reason: u8,

@@ -1,4 +1,6 @@
 // What every answer has: its head; and whether there is room for one, 2 (document 01, "Frames", "Who brings a refusal about").
+#![tactic(auto)]
+
 ghost use Rattle.std.specs.Prelude.{◌≡◌, not, ◌∷◌, ◌≤◌, length};
 ghost use Rattle.rules.specs.Bytes.{bytes_of};
 ghost use Rattle.rules.specs.Reason.{code_of};

@@ -1,5 +1,7 @@
 // Who may write: the stream record, which holds the streams, the roles they are bound to and the marks of the roles, and its events
 // (document 01, "Streams and primaries").
+#![tactic(auto)]
+
 ghost use Rattle.std.specs.Prelude.{◌≡◌, ◌≤◌, length, take};
 ghost use Rattle.rules.specs.Bytes.{concat};
 ghost use Rattle.rules.specs.Streams as rules;
@@ -13,14 +15,14 @@ use leadership::{Leadership, Scan};
 
 // The stream record: streams 0 to 31, and the mark of each role 0 to 7.
 #[repr(C)]
-#[derive(Drop)]
+#[derive(Clone, Copy)]
 pub struct Streams {
     pub streams: [Stream; 32],
     pub marks: [ElectionId; 8],
 }
 
 // Who is to be notified of an event: nobody, one stream, with the leadership that its record shows, or all streams of a role.
-#[derive(Drop)]
+#[derive(Clone, Copy)]
 pub enum Notify {
     None,
     Only(u8, Leadership),
@@ -28,7 +30,7 @@ pub enum Notify {
 }
 
 // What an event leaves: the new record, the reason (0: accepted) and who is to be notified.
-#[derive(Drop)]
+#[derive(Clone, Copy)]
 pub struct Outcome {
     pub streams: Streams,
     pub reason: u8,
@@ -36,7 +38,7 @@ pub struct Outcome {
 }
 
 // How many streams are bound to a role, and its leadership.
-#[derive(Drop)]
+#[derive(Clone, Copy)]
 struct RoleMembers {
     count: usize,
     leadership: Leadership,

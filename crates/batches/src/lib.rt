@@ -1,4 +1,6 @@
 // Batches of updates, rolled back or not (document 01, "The maker of an update"; document 02, request Two).
+#![tactic(auto)]
+
 ghost use Rattle.std.specs.Prelude.{◌≡◌, map, ◌+◌, ◌*◌, ◌≤◌, eqb, length};
 ghost use Rattle.rules.specs.Frame.{update_size};
 ghost use Rattle.rules.specs.Bytes.{if◌then◌else◌, concat};
@@ -15,14 +17,14 @@ use judging::Verdict;
 use store::Tables;
 
 // What a batch leaves, and whether an update failed.
-#[derive(Drop)]
+#[derive(Clone, Copy)]
 pub struct Written {
     pub tables: Tables,
     pub failed: bool,
 }
 
 // What one update leaves, and its reason.
-#[derive(Drop)]
+#[derive(Clone, Copy)]
 struct Taken {
     tables: Tables,
     reason: u8,

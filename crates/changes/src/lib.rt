@@ -1,5 +1,7 @@
 // Doing what was judged of one update (document 01, "The maker of an update"), noting it beforehand, and undoing it by its note
 // (document 02, request Two).
+#![tactic(auto)]
+
 ghost use Rattle.std.specs.Prelude.{◌≡◌, ◌∷◌, ◌+◌, ◌*◌, ◌≤◌, ◌<◌, length, drop};
 ghost use Rattle.rules.specs.Frame.{entry_size, key_size, update_size};
 ghost use Rattle.rules.specs.Bytes.{part};

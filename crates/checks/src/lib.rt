@@ -1,5 +1,7 @@
 // Checks of a table, a key and a whole entry against a row: reasons 15 to 19, in their order (document 01, "The maker of an update").
 // A row is lent as the 53 bytes that CONFIGURE sent; `rules/specs/Row` says where its fields and actions are.
+#![tactic(auto)]
+
 ghost use Rattle.std.specs.Prelude.{◌≡◌, true, List, ℕ, ◌+◌, min, ◌≤◌, ◌<◌, length};
 ghost use Rattle.rules.specs.Frame.{row_size, entry_size};
 ghost use Rattle.rules.specs.Bytes.{between, some_of, byte, part, parts};
@@ -33,7 +35,7 @@ pub fn table_reason(known: bool, row: &[u8], role: u8) -> u8
 // ---- tests of slots and parameters
 
 // What a slot or a parameter is tested for.
-#[derive(Drop)]
+#[derive(Clone, Copy)]
 enum Test {
     // 17.
     Formed,
@@ -177,7 +179,7 @@ pub fn key_reason(row: &[u8], key: &[u8]) -> u8
 // ---- the action and parameters of an entry
 
 // Where an action is in a row, if the row has it; else `at` is the place of the first.
-#[derive(Drop)]
+#[derive(Clone, Copy)]
 struct Place {
     known: bool,
     at: usize,

@@ -1,4 +1,6 @@
 // Whether a configuration is allowed: reason 14, found from the bytes of its rows (document 01, "Who brings a refusal about").
+#![tactic(auto)]
+
 ghost use Rattle.std.specs.Prelude.{◌≡◌, ◌&&◌, ◌+◌, ◌*◌, ◌≤◌, ◌<◌, length, drop, eqb};
 ghost use Rattle.rules.specs.Frame.{row_size};
 ghost use Rattle.rules.specs.Bytes.{some_of, parts, sum};

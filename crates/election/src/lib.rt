@@ -1,5 +1,7 @@
 // What the stream record is made of: election ids, what one stream is and becomes, what a mark becomes, and the reasons that one stream or an
 // address shows, 3 to 6 (document 01, "Streams and primaries").
+#![tactic(auto)]
+
 ghost use Rattle.std.specs.Prelude.{◌≡◌, not, ◌&&◌, ◌||◌, ◌≤◌, length, ltb, eqb};
 ghost use Rattle.rules.specs.Bytes.{if◌then◌else◌, number, bytes_of};
 ghost use Rattle.rules.specs.Reason.{first};
@@ -11,7 +13,7 @@ use numbers::Number;
 
 // An election id: a 128-bit number, of which 0 is the unset id.
 #[repr(C)]
-#[derive(Drop)]
+#[derive(Clone, Copy)]
 pub struct ElectionId {
     pub number: Number,
 }
@@ -64,7 +66,7 @@ impl ElectionId {
 }
 
 // A head: device, role, and the id or the unset id.
-#[derive(Drop)]
+#[derive(Clone, Copy)]
 pub struct Head {
     pub device: u64,
     pub role: u8,
@@ -72,7 +74,7 @@ pub struct Head {
 }
 
 // What a stream is: closed, open, or open and bound to a role with an id or the unset id.
-#[derive(Drop)]
+#[derive(Clone, Copy)]
 pub enum Binding {
     Closed,
     Open,
@@ -81,7 +83,7 @@ pub enum Binding {
 
 // A stream as the record holds it: phase 0 closed, 1 open, 2 bound; any other reads as closed.
 #[repr(C)]
-#[derive(Drop)]
+#[derive(Clone, Copy)]
 pub struct Stream {
     pub id: ElectionId,
     pub phase: u8,

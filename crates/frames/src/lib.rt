@@ -1,4 +1,6 @@
 // The frame reader: a frame is a command with its operands, or malformed (document 01, "Frames" and reason 1).
+#![tactic(auto)]
+
 ghost use Rattle.std.specs.Prelude.{◌≡◌, ◌+◌, ◌≤◌, length};
 ghost use Rattle.rules.specs.Bytes.{byte};
 ghost use Rattle.rules.specs.Frame as rules;
@@ -9,7 +11,7 @@ use election::{ElectionId, Head};
 use numbers::integer;
 
 // What a READ asks for. Its key is in the frame: the table at 10, the rest from byte 15 on.
-#[derive(Drop)]
+#[derive(Clone, Copy)]
 pub struct Query {
     pub device: u64,
     pub role: u8,
@@ -20,7 +22,7 @@ pub struct Query {
 // Commands in three groups, by what they may change, with their operands.
 
 // Stream events: the stream record.
-#[derive(Drop)]
+#[derive(Clone, Copy)]
 pub enum StreamEvent {
     Open(u8),
     Close(u8),
@@ -29,20 +31,20 @@ pub enum StreamEvent {
 
 // Pipeline commands: the rows in force, and the tables. CONFIGURE is the only one. Its rows are in the frame from byte 28 on; here is
 // their number.
-#[derive(Drop)]
+#[derive(Clone, Copy)]
 pub struct PipelineCommand {
     pub head: Head,
     pub count: usize,
 }
 
 // Table commands: the tables. Updates are in the frame from byte 29 on; here are their atomicity and their number.
-#[derive(Drop)]
+#[derive(Clone, Copy)]
 pub enum TableCommand {
     Write(Head, u8, usize),
     Read(Query),
 }
 
-#[derive(Drop)]
+#[derive(Clone, Copy)]
 pub enum Command {
     Stream(StreamEvent),
     Pipeline(PipelineCommand),
@@ -50,7 +52,7 @@ pub enum Command {
 }
 
 // What a frame is.
-#[derive(Drop)]
+#[derive(Clone, Copy)]
 pub enum Frame {
     Asks(Command),
     Malformed,

@@ -1,4 +1,6 @@
 // Judging one update: why it is refused, or what is to be done (document 01, "The maker of an update"; document 02, request One).
+#![tactic(auto)]
+
 ghost use Rattle.std.specs.Prelude.{◌≡◌, false, List, ℕ, length, drop};
 ghost use Rattle.rules.specs.Bytes.{byte};
 ghost use Rattle.rules.specs.Reason.{first};
@@ -15,7 +17,7 @@ use numbers::integer;
 use store::{Found, Tables};
 
 // What is to become of an update.
-#[derive(Drop)]
+#[derive(Clone, Copy)]
 pub enum Verdict {
     Refused(u8),
     Insert,

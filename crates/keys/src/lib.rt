@@ -1,5 +1,7 @@
 // Keys compared where they are: a key as it came in a frame with a stored one, which is in shortest form (document 02, request Four).
 // Neither is copied. A key is lent in two parts, its table and the 144 bytes after it, because in a READ's frame the two are apart.
+#![tactic(auto)]
+
 ghost use Rattle.std.specs.Prelude.{◌≡◌, true, ◌++◌, ◌+◌, ◌≤◌, length, drop};
 ghost use Rattle.rules.specs.Frame.{key_size, rest_size};
 ghost use Rattle.rules.specs.Bytes.{part, same};
@@ -87,7 +89,7 @@ pub fn same_key(stored: &[u8], table: &[u8], key: &[u8], short: bool) -> bool
 
 // A place in the 144 bytes after a table, and the word that the shortest form of a key has there. A stored key with another word there
 // is another key.
-#[derive(Drop)]
+#[derive(Clone, Copy)]
 pub struct Probe {
     pub at: usize,
     pub word: u64,

@@ -1,5 +1,7 @@
 // The leadership of a role, which is its primary and its mark: the record of 20 bytes by which a stream is notified of it, and what one scan of the
 // stream record decides of an ARBITRATE (document 01, "Streams and primaries").
+#![tactic(auto)]
+
 ghost use Rattle.std.specs.Prelude.{◌≡◌, map, ◌*◌, ◌≤◌, length, take, eqb};
 ghost use Rattle.std.proofs.Math.Option.{none};
 ghost use Rattle.rules.specs.Bytes.{if◌then◌else◌, concat};
@@ -12,14 +14,14 @@ ghost use Rattle.leadership.specs.Scanning.{ReasonOf, LeadershipOf, LeadsOf, Kee
 use election::{Binding, ElectionId, Head};
 
 // The primary of a role.
-#[derive(Drop)]
+#[derive(Clone, Copy)]
 pub enum Primary {
     Nobody,
     Is(u8),
 }
 
 // The primary and the mark of a role.
-#[derive(Drop)]
+#[derive(Clone, Copy)]
 pub struct Leadership {
     pub role: u8,
     pub primary: Primary,
@@ -98,7 +100,7 @@ pub fn primary_of(mark: ElectionId, holder: usize) -> Primary
 // What one scan of the stream record shows an ARBITRATE: what its sender is, and of one role, that of a bound sender or else the one asked for, how
 // many streams are bound to it, whether another than the sender holds the id, the mark, and the mark's first holder (32: none).
 // Whatever is decided of these copies no record.
-#[derive(Drop)]
+#[derive(Clone, Copy)]
 pub struct Scan {
     pub own: Binding,
     pub role: u8,

@@ -1,4 +1,6 @@
 // What the agent keeps from one call to the next: its record, in four parts. Its entries are in the store that each call lends.
+#![tactic(auto)]
+
 ghost use Rattle.calls.specs.Contract.{Fresh};
 ghost use Rattle.memory.specs.Layout.{Flat};
 
@@ -8,21 +10,21 @@ use store::Tables;
 
 // The device that the agent controls.
 #[repr(C)]
-#[derive(Drop)]
+#[derive(Clone, Copy)]
 pub struct Device {
     pub id: u64,
 }
 
 // What CONFIGURE sets: the rows in force.
 #[repr(C)]
-#[derive(Drop)]
+#[derive(Clone, Copy)]
 pub struct Configuration {
     pub rows: Rows,
 }
 
 // The agent's record: the device, the streams, the configuration, and what it knows of the tables in the store.
 #[repr(C)]
-#[derive(Drop)]
+#[derive(Clone, Copy)]
 pub struct Agent {
     pub device: Device,
     pub streams: Streams,

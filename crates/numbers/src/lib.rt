@@ -1,4 +1,6 @@
 // Numbers of up to 128 bits in two halves: election ids, and the values of match fields and parameters.
+#![tactic(auto)]
+
 ghost use Rattle.std.specs.Prelude.{◌≡◌, ◌+◌, ◌-◌, ◌^◌, ◌≤◌, ◌/◌, ◌%◌, length, leb, ltb, eqb};
 ghost use Rattle.rules.specs.Bytes.{number, int, bytes_of};
 ghost use Rattle.rules.specs.Value.{value};
@@ -10,7 +12,7 @@ use buffers::wide;
 
 // A number of up to 128 bits.
 #[repr(C)]
-#[derive(Drop)]
+#[derive(Clone, Copy)]
 pub struct Number {
     pub high: u64,
     pub low: u64,

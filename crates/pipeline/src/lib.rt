@@ -1,5 +1,7 @@
 // Pipeline commands carried out: CONFIGURE replaces the rows in force and empties the store
 // (document 01, "Configuration and entries", and 5, 6, 11, 10, 14).
+#![tactic(auto)]
+
 ghost use Rattle.std.specs.Prelude.{◌≡◌, not, [], ◌∷◌, ◌++◌, ◌*◌, ◌≤◌, ltb, length};
 ghost use Rattle.rules.specs.Frame.{row_size};
 ghost use Rattle.rules.specs.Bytes.{parts};
@@ -19,7 +21,7 @@ use rows::Rows;
 use store::Tables;
 
 // What a pipeline command leaves.
-#[derive(Drop)]
+#[derive(Clone, Copy)]
 pub struct Configured {
     pub configuration: Configuration,
     pub tables: Tables,

@@ -1,5 +1,7 @@
 // Reads frames from standard input, each after a length of 2 bytes, and prints a line for each call (document 01, "Bench cases").
 // What is done with the bytes is in `session`: this program moves them between the file descriptors and the slices that it lends.
+#![tactic(auto)]
+
 ghost use Rattle.std.specs.Prelude.{◌≡◌, ◌+◌, ◌-◌, ◌≤◌, ◌<◌, length, take, drop};
 ghost use Rattle.std.proofs.Math.Option.{none};
 ghost use Rattle.rules.specs.Bytes.{part};
@@ -11,7 +13,7 @@ use libc::{STDIN_FILENO, STDOUT_FILENO};
 use memory::Agent;
 
 // What a run ends with: the agent, and the ordinal that the next call would have.
-#[derive(Drop)]
+#[derive(Clone, Copy)]
 struct Ended {
     agent: Agent,
     ordinal: u64,

@@ -1,4 +1,6 @@
 // What a READ shows, and why its query is refused (document 01, "Configuration and entries").
+#![tactic(auto)]
+
 ghost use Rattle.std.specs.Prelude.{◌≡◌, ◌++◌, ◌≤◌, length};
 ghost use Rattle.rules.specs.Frame.{entry_size, rest_size, row_size};
 ghost use Rattle.rules.specs.Reason.{first};

@@ -1,4 +1,6 @@
 // Configuration rows, held as CONFIGURE sent them: 53 bytes each (document 01, "Frames").
+#![tactic(auto)]
+
 ghost use Rattle.std.specs.Prelude.{◌≡◌, true, [], map, ◌+◌, ◌*◌, ◌≤◌, length};
 ghost use Rattle.rules.specs.Frame.{row_size};
 ghost use Rattle.rules.specs.Bytes.{part, parts};
@@ -10,7 +12,7 @@ use numbers::integer;
 
 // A match field: a kind and a width in bits.
 #[repr(C)]
-#[derive(Drop)]
+#[derive(Clone, Copy)]
 pub struct Field {
     pub kind: u8,
     pub width: u8,
@@ -19,14 +21,14 @@ pub struct Field {
 // The rows in force, in the order of the configuration, from the first byte on; a count over 8 reads as 8. They are lent as bytes, and so
 // are never copied to be looked at.
 #[repr(C)]
-#[derive(Drop)]
+#[derive(Clone, Copy)]
 pub struct Rows {
     pub bytes: [u8; 424],
     pub count: u8,
 }
 
 // Whether a table is known, and where its row begins among the rows; 0 where it is not.
-#[derive(Drop)]
+#[derive(Clone, Copy)]
 pub struct Lookup {
     pub known: bool,
     pub at: usize,

@@ -1,4 +1,6 @@
 // The agent's way in for a host in C or Rust: the host holds the record and lends it to each call.
+#![tactic(auto)]
+
 ghost use Rattle.calls.specs.Contract.{Fresh, Contract};
 ghost use Rattle.memory.specs.Layout.{Flat, memory, input, result};
 

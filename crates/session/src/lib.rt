@@ -1,4 +1,6 @@
 // What the program `play` does between reading bytes and writing bytes: its calls, and the lines of their answers.
+#![tactic(auto)]
+
 ghost use Rattle.std.specs.Prelude.{◌≡◌, ◌+◌, ◌-◌, ◌≤◌, length};
 ghost use Rattle.rules.specs.Bytes.{part};
 ghost use Rattle.buffers.specs.Splice.{splice};
@@ -10,7 +12,7 @@ use transcript::Next;
 
 // After some calls: the agent, the next ordinal, how many bytes of the input the calls took, where their lines end, and whether
 // what is left of the input holds no whole frame.
-#[derive(Drop)]
+#[derive(Clone, Copy)]
 pub struct Advanced {
     pub agent: Agent,
     pub ordinal: u64,

@@ -1,4 +1,6 @@
 // One slot of a key against its field: 17, 18 and 19, each by the field's kind (document 01, "Configuration and entries").
+#![tactic(auto)]
+
 ghost use Rattle.std.specs.Prelude.{◌≡◌, ◌&&◌, length, eqb};
 ghost use Rattle.rules.specs.Bytes.{all_zero};
 ghost use Rattle.rules.specs.Value.{value, is_value, fits as below};

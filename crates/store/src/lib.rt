@@ -1,4 +1,6 @@
 // Where entries are in the store: key search, counting, deletion, putting back, and gathering for READ.
+#![tactic(auto)]
+
 ghost use Rattle.std.specs.Prelude.{◌≡◌, false, List, ◌++◌, ℕ, ◌+◌, ◌-◌, ◌*◌, ◌/◌, ◌≤◌, ◌<◌, min, leb, length, take};
 ghost use Rattle.rules.specs.Frame.{entry_size, rest_size};
 ghost use Rattle.rules.specs.Bytes.{concat};
@@ -12,7 +14,7 @@ use numbers::integer;
 
 // What the record knows of a store: how many entries are in it.
 #[repr(C)]
-#[derive(Drop)]
+#[derive(Clone, Copy)]
 pub struct Tables {
     pub count: usize,
 }
@@ -41,7 +43,7 @@ impl Tables {
 }
 
 // Where the entry of a key is.
-#[derive(Drop)]
+#[derive(Clone, Copy)]
 pub enum Found {
     At(usize),
     Absent,

@@ -1,5 +1,7 @@
 // Stream events carried out: OPEN, CLOSE and ARBITRATE change the stream record, and streams are notified
 // (document 01, "Streams and primaries").
+#![tactic(auto)]
+
 ghost use Rattle.std.specs.Prelude.{◌≡◌, ◌≤◌, length};
 ghost use Rattle.rules.specs.Streams as rules;
 ghost use Rattle.rules.specs.Answer.{answer_bytes};

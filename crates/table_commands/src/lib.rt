@@ -1,5 +1,7 @@
 // Table commands carried out: WRITE changes what the tables hold, READ shows it
 // (document 01, "Configuration and entries", and 5, 6, 10, 12, 13).
+#![tactic(auto)]
+
 ghost use Rattle.std.specs.Prelude.{◌≡◌, not, [], ◌∷◌, ◌++◌, ◌≤◌, ltb, length};
 ghost use Rattle.rules.specs.Bytes.{if◌then◌else◌};
 ghost use Rattle.rules.specs.Reason.{first};
@@ -15,7 +17,7 @@ use memory::Agent;
 use store::Tables;
 
 // What a table command leaves: the tables, and the reason.
-#[derive(Drop)]
+#[derive(Clone, Copy)]
 pub struct TableOutcome {
     pub tables: Tables,
     pub reason: u8,

@@ -1,4 +1,6 @@
 // What `play` reads and prints: its input cut into frames, and the line of a call (document 01, "Bench cases").
+#![tactic(auto)]
+
 ghost use Rattle.std.specs.Prelude.{◌≡◌, true, [], ◌∷◌, ◌++◌, ◌+◌, ◌*◌, ◌≤◌, ◌<◌, length};
 ghost use Rattle.rules.specs.Bytes.{parts};
 ghost use Rattle.buffers.specs.Splice.{splice};
@@ -11,7 +13,7 @@ use numbers::integer;
 pub const LONGEST_LINE: usize = 112980;
 
 // The first frame of an input, from byte 2 to an end; or none, where the input ends or breaks off.
-#[derive(Drop)]
+#[derive(Clone, Copy)]
 pub enum Next {
     Frame(usize),
     Incomplete,

@@ -9,15 +9,23 @@ use mathlib.Core.List.{List, [], ◌∷◌}
 use lib.Dec.{eqb}
 use lib.ListN.{length, take, drop, replicate, length-drop}
 use lib.Seq.{take_at, take-take, drop-drop, get_or-drop}
-use borrow.Author.Tests.{eq-eqb, ne_eqb}
+use borrow.Author.Tests.{eq-eqb, ne_eqb, eqb-true, eqb-false}
 use Rattle.rules.specs.Bytes.{byte, part, same, all_zero}
 use Rattle.rules.specs.Value.{stripped, padded, short}
 use Rattle.rules.specs.Key.{same_value}
-use Rattle.rules.proofs.Tests.{contradiction, and-true, eqb-sym, same_true, eq-same}
+use Rattle.rules.proofs.Tests.{contradiction, and-true, same_true, eq-same}
 use Rattle.rules.proofs.Lists.{drop-take, byte-part}
 use Rattle.rules.proofs.Shortest.{part_length}
 use Rattle.values.proofs.Digits.{one-stays, first_byte}
 use Rattle.values.proofs.Compared.{digits-at-most, same_count, digit_at}
+
+-- a comparison of numbers is the same from either side
+eqb-sym : (a b : ℕ) → eqb a b ≡ eqb b a
+eqb-sym a b = go (eqb b a) refl
+  where
+    go : (t : Bool) → eqb b a ≡ t → eqb a b ≡ t
+    go true q = eq-eqb a b (sym (eqb-true b a q))
+    go false q = ne_eqb a b (λ e. eqb-false b a q (sym e))
 
 -- ---- digits without their leading zeros
 

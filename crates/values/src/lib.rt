@@ -1,5 +1,7 @@
 // Values of 17 bytes, slots of 35, keys and entries: their shortest form, made in place, and values told from it or compared with it
 // where they are (document 01, "Configuration and entries"; document 02, request Four).
+#![tactic(auto)]
+
 ghost use Rattle.std.specs.Prelude.{◌≡◌, ◌+◌, ◌-◌, ◌^◌, ◌≤◌, ◌<◌, min, length, drop};
 ghost use Rattle.rules.specs.Frame.{entry_size, key_size};
 ghost use Rattle.rules.specs.Bytes.{byte, part, all_zero, same};

@@ -1,0 +1,30 @@
+-- Right because the scan fixes the reason, and the reason what is left and who is notified. Assumes nothing.
+use mathlib.Core.Path.{◌≡◌}
+use lib.ListN.{length}
+use borrow.Author.Rules.{rules}
+use Rattle.election.specs.Meaning.{head_of}
+use Rattle.arbitration.specs.Meaning.{streams_of}
+use Rattle.rules.proofs.Lists.{length-mapped}
+use Rattle.arbitration.proofs.Events.{arbitrate-leaves}
+use Rattle.arbitration.proofs.EventStores.{arbitrates-stream}
+use Rattle.arbitration.proofs.Streams.arbitrate.Goals as goal
+
+pub returns : goal.returns
+returns c =
+    let size : length c.args.self.streams ≡ 32 =
+    search (rules, length-mapped) in
+    let marks : length c.args.self.marks ≡ 8 =
+    search (rules, length-mapped) in
+    let x = c in
+    let t = x in
+    let d = t in
+    let v = d in
+    let i = v in
+    let a = i.args in
+    let e = streams_of a.self in
+    let w = v.scan-scan.ensures in
+    let p = d.reason-reason.ensures e a.stream w in
+    arbitrate-leaves e a.stream a.device (head_of a.head) t.audience-notify.result
+    (arbitrates-stream a.self size a.stream x.after_arbitrate.result marks a.head c.mark_after.result a.device
+    d.reason-reason.result p x.after_arbitrate.ensures c.mark_after.ensures)
+    p (t.audience-notify.ensures a.device e w p)

@@ -1,0 +1,110 @@
+-- Right because the update is judged before it is done, noted as it will be done, and its pair says what was judged. Assumes nothing.
+use Prim.Native.Nat.{ℕ, ◌*◌, ◌-◌, ◌≤◌}
+use native.Mathlib.Omega.{arith}
+use mathlib.Core.Path.{◌≡◌, refl, sym, ◌∙◌}
+use mathlib.Core.List.{List}
+use lib.ListN.{length}
+use borrow.Rule.Slice.PartMut.{put_mid, same_len_mid}
+use Rattle.rules.specs.Bytes.{byte, part}
+use Rattle.rules.specs.Call.{pair_of}
+use Rattle.rules.specs.Frame.{update_of}
+use Rattle.rules.proofs.Formed.{parts-count}
+use Rattle.buffers.specs.Splice.{splice}
+use Rattle.buffers.proofs.Splice.{part-copied}
+use Rattle.store.specs.Store.{entries_in, tables_in}
+use Rattle.changes.proofs.Effects.{refused}
+use Rattle.changes.proofs.Undoing.{undo-after-apply}
+use Rattle.batches.specs.Rollback.{noted_at}
+use borrow.Author.Rules.{rules}
+use Rattle.batches.proofs.step.Goals as goal
+
+pub shape_of-answer-then-reason-ne0 : goal.shape_of-answer-then-reason-ne0
+shape_of-answer-then-reason-ne0 c =
+    let answer-kept : let a = c.args in let x = a.answer.now in length (put_mid (2 * a.i) (length x - 2 * a.i) x c.write_pair.new.out) ≡ length x =
+    let a = c.args in
+    let x : List ℕ = a.answer.now in
+    same_len_mid (2 * a.i) (length x - 2 * a.i) x c.write_pair.new.out c.write_pair.auto.out in
+    answer-kept
+
+pub returns-then-reason-ne0 : goal.returns-then-reason-ne0
+returns-then-reason-ne0 c =
+    let paired : let a = c.args in let x = a.answer.now in let i = a.i in put_mid (2 * i) (length x - 2 * i) x c.write_pair.new.out ≡ splice x (2 * i) (pair_of c.reason-reason.result) =
+    let a = c.args in
+    let x : List ℕ = a.answer.now in
+    part-copied x c.write_pair.new.out (pair_of c.reason-reason.result) (2 * a.i) (length x - 2 * a.i) c.write_pair.ensures
+    (omega arith) (omega arith) in
+    let q = c in
+    let v = q in
+    let s = v in
+    let a = s.args in
+    let n = c.if-reason-ne0.true in
+    record {
+      reason = rw q.reason-reason.ensures v.judge-verdict.ensures.reason;
+      pair = paired;
+      few = s.requires.1.0;
+      left = λ d.
+          rw (refused q.reason-reason.result (update_of a.update.now) (tables_in a.tables a.store.now) n)
+          (record { holds = refl; few = s.requires.1.0; room = refl; beyond = refl });
+      noted = λ e z. absurd (n z);
+      refused = λ m. (refl, refl, refl);
+    }
+
+pub note_update-requires : goal.note_update-requires
+note_update-requires c =
+    let v = c in
+    let p = v.requires in
+    (v.judge-verdict.ensures.possible, p.1, p.3)
+
+pub apply-left-requires : goal.apply-left-requires
+apply-left-requires c =
+    let v = c in
+    let p = v.requires in
+    (v.judge-verdict.ensures.possible, p.1.0, p.1.1, p.2)
+
+pub shape_of-store : goal.shape_of-store
+shape_of-store c = c.apply-left.auto.store
+
+pub shape_of-log : goal.shape_of-log
+shape_of-log c = c.note_update.auto.log
+
+pub shape_of-answer : goal.shape_of-answer
+shape_of-answer c =
+    let answer-kept : let a = c.args in let x = a.answer.now in length (put_mid (2 * a.i) (length x - 2 * a.i) x c.write_pair.new.out) ≡ length x =
+    let a = c.args in
+    let x : List ℕ = a.answer.now in
+    same_len_mid (2 * a.i) (length x - 2 * a.i) x c.write_pair.new.out c.write_pair.auto.out in
+    answer-kept
+
+pub returns : goal.returns
+returns c =
+    let paired : let a = c.args in let x = a.answer.now in let i = a.i in put_mid (2 * i) (length x - 2 * i) x c.write_pair.new.out ≡ splice x (2 * i) (pair_of c.reason-reason.result) =
+    let a = c.args in
+    let x : List ℕ = a.answer.now in
+    part-copied x c.write_pair.new.out (pair_of c.reason-reason.result) (2 * a.i) (length x - 2 * a.i) c.write_pair.ensures
+    (omega arith) (omega arith) in
+    let w = c in
+    let q = w in
+    let v = q in
+    let s = v in
+    let a = s.args in
+    let u : List ℕ = a.update.now in
+    let es : List (List ℕ) = entries_in a.tables a.store.now in
+    let did = c.apply-left.ensures in
+    let note = c.note_update.ensures in
+    let justified = v.judge-verdict.ensures.justified in
+    let few : length es ≤ 256 = omega (arith, s.requires.1.0, parts-count a.tables.count 220 a.store.now) in
+    record {
+      reason = rw q.reason-reason.ensures v.judge-verdict.ensures.reason;
+      pair = paired;
+      few = did.0.few;
+      left = λ d. rw q.reason-reason.ensures (did.1 d justified);
+      noted = λ e z. record {
+        note = noted_at a.i v.judge-verdict.result a.tables a.store.now a.log.now;
+        size = (note e).0;
+        bytes = (note e).1;
+        undoing = rw did.0.holds
+            (undo-after-apply v.judge-verdict.result (byte 0 u) u es (part (74 * a.i) 74 a.log.now) few s.requires.2
+            (sym q.reason-reason.ensures ∙ z) justified);
+      };
+      refused = λ n. absurd (n c.if-reason-ne0.false);
+    }

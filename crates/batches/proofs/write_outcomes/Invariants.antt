@@ -1,0 +1,23 @@
+-- Right because the pairs written and those left are all of them. Assumes nothing.
+use Prim.Native.Nat.{ℕ, ◌+◌, ◌*◌, ◌-◌, ◌≤◌, ◌<◌}
+use native.Mathlib.Omega.{arith}
+use mathlib.Core.Path.{◌≡◌, refl, ap, ◌∙◌}
+use mathlib.Core.List.{List, [], map}
+use lib.ListN.{length, drop, drop_of_length-le}
+use borrow.Rule.Slice.PartMut.{same_len_mid}
+use Rattle.rules.specs.Call.{pair_of}
+use Rattle.rules.specs.Update.{rolled_back}
+use Rattle.buffers.proofs.Splice.{part-copied}
+use Rattle.buffers.proofs.Written.{Written, written_none, written_next, written_all}
+use Rattle.batches.proofs.AllOrNone.{rolled-count, outcomes-from}
+use borrow.Author.Rules.{rules}
+use Rattle.batches.proofs.write_outcomes.Given as goal
+
+abbrev pub invariant-loop-k : goal.invariant-loop-k
+invariant-loop-k l =
+    Written 2 (map pair_of (rolled_back l.n (l.at, l.own))) l.initial.answer (map pair_of (drop l.k (rolled_back l.n (l.at, l.own)))) l.answer l.k
+    × (l.k ≤ l.n)
+    × (length l.answer ≡ length l.initial.answer)
+
+abbrev pub decreases-loop-k : goal.decreases-loop-k
+decreases-loop-k l = l.n - l.k

@@ -1,0 +1,50 @@
+-- Right because the tests are those of the form of CONFIGURE; a frame under 28 bytes has no length of that form. Assumes nothing.
+use native.Mathlib.Omega.{arith}
+use mathlib.Core.Path.{◌≡◌, sym, ap, ◌∙◌}
+use Rattle.rules.specs.Frame as rules
+use Rattle.rules.specs.Bytes.{byte, parts}
+use Prim.Native.Nat.{◌+◌, ◌*◌, ◌≤◌}
+use lib.ListN.{length, drop}
+use mathlib.Core.Bool.{true}
+use borrow.Author.Tests.{not-true, not-false}
+use Rattle.frames.proofs.Readings.{configure-length, configure-none, configure-many, configure-flag, configure-fits}
+use Rattle.frames.proofs.read_configure.Goals as goal
+
+pub returns-then-frame-lt28 : goal.returns-then-frame-lt28
+returns-then-frame-lt28 c =
+    let f = c.args.frame.now in
+    record { means = configure-length f (byte 27 f) _ (λ (e : length f ≡ 28 + 53 * byte 27 f). omega arith); there = tt }
+
+pub overflow_cast-t : goal.overflow_cast-t
+overflow_cast-t c = record { fits = omega (arith, c.type_inv.frame 27) }
+
+pub returns-then-t-eq0 : goal.returns-then-t-eq0
+returns-then-t-eq0 c = let f = c.args.frame.now in record { means = configure-none f (byte 27 f) _ c.if-t-eq0.true; there = tt }
+
+pub returns-then-t-gt8 : goal.returns-then-t-gt8
+returns-then-t-gt8 c = let f = c.args.frame.now in record { means = configure-many f (byte 27 f) _ c.if-t-gt8.true; there = tt }
+
+pub returns-then-frame-t : goal.returns-then-frame-t
+returns-then-frame-t c = let f = c.args.frame.now in record { means = configure-length f (byte 27 f) _ c.if-frame-t.true; there = tt }
+
+pub returns-then-not-flag_fits : goal.returns-then-not-flag_fits
+returns-then-not-flag_fits c =
+    let flag : let f = (c).args.frame.now in rules.head_fits 1 f ≡ c.flag_fits.result =
+    let f = (c).args.frame.now in
+    sym (c.flag_fits.ensures ∙ ap (λ (h : rules.Head). rules.flag_fits (byte 10 f) h.id) c.head_at-head.ensures) in
+    let f = (c).args.frame.now in
+    record { means = configure-flag f (byte 27 f) _ (flag ∙ c.if-not-flag_fits.true); there = tt }
+
+pub returns : goal.returns
+unfolding rules.configure_of
+returns c =
+    let flag : let f = (c).args.frame.now in rules.head_fits 1 f ≡ c.flag_fits.result =
+    let f = (c).args.frame.now in
+    sym (c.flag_fits.ensures ∙ ap (λ (h : rules.Head). rules.flag_fits (byte 10 f) h.id) c.head_at-head.ensures) in
+    let f = (c).args.frame.now in
+    let h : length f ≡ 28 + 53 * byte 27 f = omega arith in
+    let k : byte 27 f ≤ 8 = omega arith in
+    let e : rules.head_fits 1 f ≡ true = flag ∙ c.if-not-flag_fits.false in
+    let rows = parts (byte 27 f) 53 (drop 28 f) in
+    let q = ap (λ (x : rules.Head). rules.on_pipeline (rules.CONFIGURE x rows)) c.head_at-head.ensures in
+    record { means = configure-fits f (byte 27 f) h (omega arith) k e q; there = (k, h) }

@@ -1,0 +1,16 @@
+-- Right because with only 1 the entry of the key is written, and otherwise the entries of the rows asked for. Assumes nothing.
+use borrow.Author.Tests.{eq-eqb, ne_eqb}
+use Rattle.reads.specs.Read.{read_in}
+use Rattle.reads.proofs.read.Goals as goal
+
+pub returns-then-only-eq1 : goal.returns-then-only-eq1
+unfolding read_in
+returns-then-only-eq1 c =
+    let g = c in
+    rw (eq-eqb g.args.only 1 g.if-only-eq1.true) c.read_key.ensures
+
+pub returns : goal.returns
+unfolding read_in
+returns c =
+    let g = c in
+    rw (ne_eqb g.args.only 1 g.if-only-eq1.false) (λ d. c.read_all.ensures)

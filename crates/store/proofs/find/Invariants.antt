@@ -1,0 +1,18 @@
+-- Right because the entries passed do not have the key: each had another word where the key's is known, or was compared. Assumes nothing.
+use Prim.Native.Nat.{◌-◌}
+use mathlib.Core.Path.{◌≡◌}
+use mathlib.Core.List.{◌++◌}
+use Rattle.rules.specs.Bytes.{parts}
+use Rattle.rules.specs.Key.{short_key}
+use Rattle.keys.specs.Rest.{ProbeOf}
+use Rattle.store.specs.Store.{place}
+use Rattle.store.proofs.Scan.{searched}
+use Rattle.store.proofs.find.Given as goal
+
+abbrev pub invariant-loop-i : goal.invariant-loop-i
+invariant-loop-i l =
+    ProbeOf l.key l.place l.word
+    × (place (short_key (l.table ++ l.key)) (parts l.count 220 l.store) ≡ searched (record { count = l.count }) l.store (short_key (l.table ++ l.key)) l.i)
+
+abbrev pub decreases-loop-i : goal.decreases-loop-i
+decreases-loop-i l = l.count - l.i

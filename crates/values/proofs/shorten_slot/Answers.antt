@@ -1,0 +1,11 @@
+-- Right because the kind stays, and each value is shortened in its place. Assumes nothing.
+use native.Mathlib.Omega.{arith}
+use Rattle.values.proofs.InPlace.{slot-in-place}
+use Rattle.values.proofs.shorten_slot.Goals as goal
+
+pub returns : goal.returns
+returns c =
+    let k = c in
+    let a = k.args in
+    slot-in-place a.dst.now k.shorten_at.new.dst c.shorten_at-2.new.dst a.at (omega arith)
+    k.shorten_at.ensures c.shorten_at-2.ensures

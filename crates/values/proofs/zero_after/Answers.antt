@@ -1,0 +1,57 @@
+-- Right because these bytes are the last ones of a word, or of two. Assumes nothing.
+use Prim.Native.Nat.{ℕ, ◌^◌}
+use native.Mathlib.Omega.{arith}
+use mathlib.Core.Path.{◌≡◌, refl, sym, ap₂, ◌∙◌}
+use mathlib.Core.Bool.{Bool, true, false, ◌&&◌}
+use lib.Dec.{eqb, ltb}
+use borrow.Author.Tests.{eq-eqb, ne_eqb}
+use Rattle.rules.specs.Bytes.{part}
+use Rattle.buffers.specs.Word.{little_endian}
+use Rattle.buffers.proofs.Words.{Bytes}
+use Rattle.values.proofs.Padding.{none_after, after-eight, after_fewer}
+use Rattle.values.proofs.zero_after.Goals as goal
+
+last-false : (b : Bool) → b && false ≡ false
+last-false true = refl
+last-false false = refl
+
+last-true : (b : Bool) → b && true ≡ b
+last-true true = refl
+last-true false = refl
+
+pub returns-then-n-eq16 : goal.returns-then-n-eq16
+returns-then-n-eq16 c =
+    let bytes : Bytes (c.args.v.now) =
+    record { at = λ i. (c.type_inv.v i).fits } in
+    let k = c in
+    sym (none_after (k.args.v.now) k.args.n (omega arith) bytes c.if-n-eq16.true)
+
+pub returns-then-n-ge8 : goal.returns-then-n-ge8
+returns-then-n-ge8 c =
+    let bytes : Bytes (c.args.v.now) =
+    record { at = λ i. (c.type_inv.v i).fits } in
+    let w = c in
+    let k = w in
+    let n : ℕ = k.args.n in
+    ap₂ ltb w.word-word.ensures c.power.ensures ∙ after-eight (k.args.v.now) n (omega arith) bytes (omega arith)
+
+pub returns-then-word-ne0 : goal.returns-then-word-ne0
+returns-then-word-ne0 c =
+    let bytes : Bytes (c.args.v.now) =
+    record { at = λ i. (c.type_inv.v i).fits } in
+    let w = c in
+    let k = w in
+    let n : ℕ = k.args.n in
+    let z : eqb (little_endian (part 9 8 (k.args.v.now))) 0 ≡ false = ne_eqb _ _ (λ e. c.if-word-ne0.true (w.word-word.ensures ∙ e)) in
+    sym (after_fewer (k.args.v.now) n (omega arith) bytes false (omega arith) z ∙ last-false (ltb (little_endian (part 1 8 (k.args.v.now))) (256 ^ n)))
+
+pub returns : goal.returns
+returns c =
+    let bytes : Bytes (c.args.v.now) =
+    record { at = λ i. (c.type_inv.v i).fits } in
+    let w = c in
+    let k = w in
+    let n : ℕ = k.args.n in
+    let z : eqb (little_endian (part 9 8 (k.args.v.now))) 0 ≡ true = eq-eqb _ _ (sym w.word-word.ensures ∙ c.if-word-ne0.false) in
+    ap₂ ltb c.word.ensures c.power-2.ensures
+    ∙ sym (after_fewer (k.args.v.now) n (omega arith) bytes true (omega arith) z ∙ last-true (ltb (little_endian (part 1 8 (k.args.v.now))) (256 ^ n)))
