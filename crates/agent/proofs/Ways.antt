@@ -22,7 +22,7 @@ use Rattle.arbitration.specs.declared.Outcome.{Outcome}
 use Rattle.arbitration.specs.Meaning.{streams_of, outcome_of}
 use Rattle.calls.specs.Contract.{Result, Correct, Contract}
 use Rattle.memory.specs.declared.Agent.{Agent}
-use Rattle.memory.specs.Layout.{control_of, Flat, memory, input, result}
+use Rattle.memory.specs.Layout.{control_of, Flat, memory, input, outcome}
 use Rattle.memory.specs.Handles.{at_tables, Handles, with_streams, with_configuration}
 use Rattle.memory.proofs.Handled.{store-stays, refused}
 use Rattle.pipeline.specs.declared.Configured.{Configured}
@@ -40,7 +40,7 @@ module _ (a : Agent) (store d out : List ℕ) where
   -- a stream event
   pub event-handled : (x : rules.StreamEvent) (r : Outcome) → outcome_of r ≡ event a.device.id (streams_of a.streams) x
       → out ≡ splice d 0 (answer_bytes (event_answer (outcome_of r)))
-      → Handles (memory a store) (on_streams x) d (result (with_streams a r.streams) r.reason store out)
+      → Handles (memory a store) (on_streams x) d (outcome (with_streams a r.streams) r.reason store out)
   unfolding next next_control next_tables answer
   event-handled x r h o t k =
       store-stays a (on_streams x) store d out (λ z. let w : ◌≡◌ {A = ℕ} 0 1 = cc in omega arith) t (event_answer (outcome_of r))
@@ -52,13 +52,13 @@ module _ (a : Agent) (store d out : List ℕ) where
 
   -- a pipeline command: refused, and accepted
   module _ (x : rules.PipelineCommand) (reason : ℕ) (h : Refuses (control_of a) x reason) (o : out ≡ splice d 0 (answer_bytes (plain reason))) where
-    pub pipeline-refused-handled : (reason ≡ 0 → ⊥) → Handles (memory a store) (on_pipeline x) d (result a reason store out)
+    pub pipeline-refused-handled : (reason ≡ 0 → ⊥) → Handles (memory a store) (on_pipeline x) d (outcome a reason store out)
     pipeline-refused-handled n =
         refused a (on_pipeline x) store d out (λ z. let w : ◌≡◌ {A = ℕ} 0 1 = cc in omega arith) reason
         (λ t. pipeline-refused (at_tables a t) x (h t) n) o
 
     pub pipeline-handled : reason ≡ 0 → (r : Configured) → CarriesOut x r
-        → Handles (memory a store) (on_pipeline x) d (result (with_configuration a r.configuration r.tables) 0 store out)
+        → Handles (memory a store) (on_pipeline x) d (outcome (with_configuration a r.configuration r.tables) 0 store out)
     unfolding next next_control next_tables answer
     pipeline-handled z r g t k =
         let s : State = at_tables a t in
@@ -84,7 +84,7 @@ module _ (a : Agent) (frame store d : List ℕ) where
       (h s.tables (record { holds = rep.tables; sound = subst Sound (sym e) k })))
 
   -- 2: nothing is done
-  pub short-met : long_enough (length store) (length d) ≡ false → Contract Flat (memory a store) (input frame d) (result a 2 store d)
+  pub short-met : long_enough (length store) (length d) ≡ false → Contract Flat (memory a store) (input frame d) (outcome a 2 store d)
   unfolding command_of next next_control next_tables reply reply_of answer
   short-met e =
       handled {c = too_short} (rw e) (λ t k. record {
@@ -105,6 +105,6 @@ module _ (a : Agent) (frame store d : List ℕ) where
 
     -- 1
     pub malformed-met : (out : List ℕ) → malformed ≡ read_frame frame → out ≡ splice d 0 (answer_bytes (plain 1))
-        → Contract Flat (memory a store) (input frame d) (result a 1 store out)
+        → Contract Flat (memory a store) (input frame d) (outcome a 1 store out)
     unfolding next next_control next_tables answer
     malformed-met out e o = met e (refused a malformed store d out (λ z. let w : ◌≡◌ {A = ℕ} 0 1 = cc in omega arith) 1 (λ t. (refl, refl)) o)

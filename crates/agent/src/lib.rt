@@ -5,7 +5,7 @@ ghost use Rattle.std.specs.Prelude.{ℕ, ◌≤◌, List, length};
 ghost use Rattle.rules.specs.Frame.{on_streams, on_pipeline, on_tables};
 ghost use Rattle.calls.specs.Contract.{Contract};
 ghost use Rattle.frames.specs.Meaning.{event_read, pipeline_read, table_read, RowsThere, OperandsThere};
-ghost use Rattle.memory.specs.Layout.{Flat, memory, input, result};
+ghost use Rattle.memory.specs.Layout.{Flat, memory, input, outcome};
 ghost use Rattle.memory.specs.Handles.{Handles};
 
 use frames::{Command, Frame, PipelineCommand, StreamEvent, TableCommand};
@@ -21,8 +21,8 @@ pub struct Called {
 // A stream event: the streams that it leaves are stored.
 fn on_streams(mut agent: Agent, event: StreamEvent, answer: &mut [u8]) -> Called
     requires { 644 ≤ length answer.old }
-    ensures* { λ r. ⌜ ((store : List ℕ) → Handles (memory agent store) (on_streams (event_read event)) answer.old
-        (result r.agent r.reason store answer.new)) ⌝ }
+    ensures { (store : List ℕ) → Handles (memory agent store) (on_streams (event_read event)) answer.old
+        (outcome result.agent result.reason store answer.new) }
 {
     let left = stream_events::carry_out(agent.device, agent.streams, event);
     stream_events::respond(left, answer);
@@ -42,8 +42,8 @@ fn on_pipeline(
     answer: &mut [u8],
 ) -> Called
     requires { RowsThere command frame.now × (4 ≤ length answer.old) }
-    ensures* { λ r. ⌜ ((store : List ℕ) → Handles (memory agent store) (on_pipeline (pipeline_read command frame.now))
-        answer.old (result r.agent r.reason store answer.new)) ⌝ }
+    ensures { (store : List ℕ) → Handles (memory agent store) (on_pipeline (pipeline_read command frame.now))
+        answer.old (outcome result.agent result.reason store answer.new) }
 {
     let reason = pipeline::refusal(
         agent.device,
@@ -73,8 +73,8 @@ fn on_tables(
     answer: &mut [u8],
 ) -> Called
     requires { OperandsThere command frame.now × (56320 ≤ length store.old) × (57344 ≤ length answer.old) }
-    ensures* { λ r. ⌜ Handles (memory agent store.old) (on_tables (table_read command frame.now)) answer.old
-        (result r.agent r.reason store.new answer.new) ⌝ }
+    ensures { Handles (memory agent store.old) (on_tables (table_read command frame.now)) answer.old
+        (outcome result.agent result.reason store.new answer.new) }
 {
     let left = table_commands::carry_out(agent, command, frame, store, answer);
     let held = left.tables;
@@ -88,8 +88,8 @@ fn on_tables(
 // One call: 2 is tested first, then 1; then one way for each group of commands, which stores the parts of the record that the group
 // may change.
 pub fn call(agent: Agent, frame: &[u8], store: &mut [u8], answer: &mut [u8]) -> Called
-    ensures* { λ r. ⌜ Contract Flat (memory agent store.old) (input frame.now answer.old)
-        (result r.agent r.reason store.new answer.new) ⌝ }
+    ensures { Contract Flat (memory agent store.old) (input frame.now answer.old)
+        (outcome result.agent result.reason store.new answer.new) }
 {
     if answers::too_short(store.len(), answer.len()) {
         return Called { agent, reason: 2 };

@@ -16,7 +16,7 @@ use Rattle.answers.proofs.AnswerBytes.{replies, fills}
 use Rattle.store.specs.Store.{tables_in}
 use Rattle.calls.specs.Contract.{Result, Represents, Correct}
 use Rattle.memory.specs.declared.Agent.{Agent}
-use Rattle.memory.specs.Layout.{Flat, memory, result}
+use Rattle.memory.specs.Layout.{Flat, memory, outcome}
 use Rattle.memory.specs.Handles.{at_tables, Invariant, Handles}
 
 -- the one state that a memory of the flat layout represents
@@ -38,7 +38,7 @@ module _ (a : Agent) (c : Command) (store d out : List ℕ) (fits : c ≡ too_sh
   -- a command that leaves the store as it is
   pub store-stays : (t : Tables) {left : Agent} {reason : ℕ} (x : Answer) → answer (at_tables a t) c ≡ x
       → Represents Flat (memory left store) (next (at_tables a t) c) → reason ≡ x.reason → out ≡ splice d 0 (answer_bytes x)
-      → Correct Flat (at_tables a t) c (memory a store) d (result left reason store out)
+      → Correct Flat (at_tables a t) c (memory a store) d (outcome left reason store out)
   store-stays t x told s e o = record {
     state = s;
     returned = replies (at_tables a t) c x told e;
@@ -50,7 +50,7 @@ module _ (a : Agent) (c : Command) (store d out : List ℕ) (fits : c ≡ too_sh
 
   -- a refusal that leaves the agent as it is
   pub refused : (reason : ℕ) → ((t : Tables) → (next (at_tables a t) c ≡ at_tables a t) × (answer (at_tables a t) c ≡ plain reason))
-      → out ≡ splice d 0 (answer_bytes (plain reason)) → Handles (memory a store) c d (result a reason store out)
+      → out ≡ splice d 0 (answer_bytes (plain reason)) → Handles (memory a store) c d (outcome a reason store out)
   refused reason h o t k =
       store-stays t (plain reason) (h t).1
       (subst (Represents Flat (memory a store)) (sym (h t).0) (record { control = refl; tables = k.holds })) refl o

@@ -34,5 +34,5 @@ memory a store = record { agent = a; store = store }
 abbrev pub input : List ℕ → List ℕ → Input
 input frame buffer = record { frame = frame; buffer = buffer }
 
-abbrev pub result : Agent → ℕ → List ℕ → List ℕ → Result Agent
-result a reason store answer = record { memory = memory a store; reason = reason; answer = answer }
+abbrev pub outcome : Agent → ℕ → List ℕ → List ℕ → Result Agent
+outcome a reason store answer = record { memory = memory a store; reason = reason; answer = answer }

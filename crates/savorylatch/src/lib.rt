@@ -2,7 +2,7 @@
 #![tactic(auto)]
 
 ghost use Rattle.calls.specs.Contract.{Fresh, Contract};
-ghost use Rattle.memory.specs.Layout.{Flat, memory, input, result};
+ghost use Rattle.memory.specs.Layout.{Flat, memory, input, outcome};
 
 use frames::{Command, Frame};
 use memory::Agent;
@@ -10,7 +10,7 @@ use memory::Agent;
 // Makes the record that the host holds fresh, for a device id.
 #[unsafe(no_mangle)]
 pub extern "C" fn savorylatch_new(agent: &mut Agent, device: u64)
-    ensures* { λ _. ⌜ Fresh Flat device agent.new ⌝ }
+    ensures { Fresh Flat device agent.new }
 {
     *agent = Agent::new(device);
 }
@@ -24,8 +24,8 @@ pub extern "C" fn savorylatch_call(
     store: &mut [u8],
     answer: &mut [u8],
 ) -> u8
-    ensures* { λ r. ⌜ Contract Flat (memory agent.old store.old) (input frame.now answer.old)
-        (result agent.new r store.new answer.new) ⌝ }
+    ensures { Contract Flat (memory agent.old store.old) (input frame.now answer.old)
+        (outcome agent.new result store.new answer.new) }
 {
     if answers::too_short(store.len(), answer.len()) {
         return 2;

@@ -32,7 +32,7 @@ use Rattle.store.specs.Store.{tables_in}
 use Rattle.reads.specs.Read.{key_in, read_in, Reads, ReadsQuery}
 use Rattle.calls.specs.Contract.{Correct}
 use Rattle.memory.specs.declared.Agent.{Agent}
-use Rattle.memory.specs.Layout.{control_of, Flat, memory, result}
+use Rattle.memory.specs.Layout.{control_of, Flat, memory, outcome}
 use Rattle.memory.specs.Handles.{Handles}
 use Rattle.memory.proofs.Handled.{flat, flat-handles, store-stays}
 
@@ -83,7 +83,7 @@ module _ (a : Agent) (q : rules.Query) where
 
   was_read : (store d out : List ℕ) → read_reason (control_of a) q ≡ 0
       → out ≡ splice d 0 (answer_bytes (record { reason = 0; records = shown (flat a store) q }))
-      → Correct Flat (flat a store) (on_tables (READ q)) (memory a store) d (result a 0 store out)
+      → Correct Flat (flat a store) (on_tables (READ q)) (memory a store) d (outcome a 0 store out)
   unfolding next next_control next_tables answer refusal
   was_read store d out e o =
       store-stays a (on_tables (READ q)) store d out (λ z. let w : ◌≡◌ {A = ℕ} 0 1 = cc in omega arith) (tables_in a.tables store)
@@ -116,7 +116,7 @@ module _ (a : Agent) (query : Query) (f store d p out : List ℕ) (n : ℕ) (h :
       → ReadsQuery (control_of a).rows asked.role asked.table asked.only (key_in (take (length f - 10) (drop 10 f))) a.tables store
       (take (length d - 4) (drop 4 d)) p n
       → length p ≡ length (take (length d - 4) (drop 4 d)) → out ≡ splice (put_mid 4 (length d - 4) d p) 0 (0 ∷ code_of 0 ∷ bytes_of 2 n)
-      → Handles (memory a store) (on_tables (READ asked)) d (result a 0 store out)
+      → Handles (memory a store) (on_tables (READ asked)) d (outcome a 0 store out)
   entries-read room e read same o =
       flat-handles a (on_tables (READ asked)) store d (λ k.
       let es = shown (flat a store) asked in

@@ -27,7 +27,7 @@ use Rattle.batches.specs.Batch.{updates_in, batch_in, BatchApplied, StoreLeft, P
 use Rattle.answers.proofs.AnswerBytes.{replies, fills, records-then-head}
 use Rattle.calls.specs.Contract.{Correct}
 use Rattle.memory.specs.declared.Agent.{Agent}
-use Rattle.memory.specs.Layout.{control_of, Flat, memory, result}
+use Rattle.memory.specs.Layout.{control_of, Flat, memory, outcome}
 use Rattle.memory.specs.Handles.{Handles, with_tables}
 use Rattle.memory.proofs.Handled.{flat, flat-handles}
 
@@ -54,7 +54,7 @@ module _ (a : Agent) (h : Head) (atomicity : ℕ) where
     pub was-written : (store' d out : List ℕ) (reason : ℕ) (w : Written) → write_reason (control_of a) h atomicity ≡ 0
         → BatchApplied batched store store' w → reason ≡ (if w.failed then 23 else 0)
         → out ≡ splice d 0 (answer_bytes (record { reason = reason; records = map pair_of batched.reasons }))
-        → Correct Flat (flat a store) asks (memory a store) d (result (with_tables a w.tables) reason store' out)
+        → Correct Flat (flat a store) asks (memory a store) d (outcome (with_tables a w.tables) reason store' out)
     unfolding next next_control next_tables answer refusal
     was-written store' d out reason w e b q o =
         let told : reason ≡ head_reason batched.reasons = q ∙ head-told (every (eqb 0) batched.reasons) b.failed in
@@ -92,7 +92,7 @@ module _ (a : Agent) (h : Head) (atomicity : ℕ) where
       (take (length d - 4) (drop 4 d)) p
       → length p ≡ length (take (length d - 4) (drop 4 d)) → reason ≡ (if w.failed then 23 else 0)
       → out ≡ splice (put_mid 4 (length d - 4) d p) 0 (reason ∷ code_of reason ∷ bytes_of 2 n)
-      → Handles (memory a store) (on_tables (WRITE h atomicity (updates_in n (drop 29 f)))) d (result (with_tables a w.tables) reason store' out)
+      → Handles (memory a store) (on_tables (WRITE h atomicity (updates_in n (drop 29 f)))) d (outcome (with_tables a w.tables) reason store' out)
   batch-written n f store store' d p out reason w room whole e left pairs same told o =
       flat-handles a (on_tables (WRITE h atomicity (updates_in n (drop 29 f)))) store d (λ k.
       let done : batch_in atomicity (control_of a).rows h.role n (take (length f - 29) (drop 29 f)) (tables_in a.tables store)

@@ -8,7 +8,7 @@ ghost use Rattle.rules.specs.Reason.{first};
 ghost use Rattle.rules.specs.Frame.{on_tables};
 ghost use Rattle.rules.specs.Streams.{address_order};
 ghost use Rattle.frames.specs.Meaning.{table_read, OperandsThere};
-ghost use Rattle.memory.specs.Layout.{memory, result};
+ghost use Rattle.memory.specs.Layout.{memory, outcome};
 ghost use Rattle.memory.specs.Handles.{Handles, with_tables};
 
 use election::Head;
@@ -27,7 +27,7 @@ pub struct TableOutcome {
 
 // 5, 6, 10, 12 and 13.
 fn write_reason(here: bool, role: u8, primary: bool, unconfigured: bool, atomicity: u8) -> u8
-    ensures* { λ r. ⌜ r ≡ first (address_order (not here) role ++ (not primary, 10) ∷ (unconfigured, 12) ∷ (ltb 1 atomicity, 13) ∷ []) ⌝ }
+    ensures { result ≡ first (address_order (not here) role ++ (not primary, 10) ∷ (unconfigured, 12) ∷ (ltb 1 atomicity, 13) ∷ []) }
 {
     let elsewhere = election::address_reason(here, role);
     if elsewhere != 0 {
@@ -47,7 +47,7 @@ fn write_reason(here: bool, role: u8, primary: bool, unconfigured: bool, atomici
 
 // The reason in the head of a WRITE: 23 if any update failed.
 fn head_reason(failed: bool) -> u8
-    ensures* { λ r. ⌜ r ≡ (if «failed» then 23 else 0) ⌝ }
+    ensures { result ≡ (if failed then 23 else 0) }
 {
     if failed {
         return 23;
@@ -67,9 +67,9 @@ fn write(
 ) -> TableOutcome
     requires { OperandsThere (TableCommand.Write head atomicity n) frame.now × (agent.tables.count ≤ 256)
         × (56320 ≤ length store.old) × (132 ≤ length answer.old) }
-    ensures* { λ r. ⌜ Handles (memory agent store.old)
+    ensures { Handles (memory agent store.old)
         (on_tables (table_read (TableCommand.Write head atomicity n) frame.now)) answer.old
-        (result (with_tables agent r.tables) r.reason store.new answer.new) ⌝ }
+        (outcome (with_tables agent result.tables) result.reason store.new answer.new) }
 {
     let tables = agent.tables;
     let primary = agent.streams.by_primary(head.role, head.id);
@@ -108,7 +108,7 @@ fn write(
 
 // 5, 6 and 12.
 fn read_reason(here: bool, role: u8, unconfigured: bool) -> u8
-    ensures* { λ r. ⌜ r ≡ first (address_order (not here) role ++ (unconfigured, 12) ∷ []) ⌝ }
+    ensures { result ≡ first (address_order (not here) role ++ (unconfigured, 12) ∷ []) }
 {
     let elsewhere = election::address_reason(here, role);
     if elsewhere != 0 {
@@ -124,8 +124,8 @@ fn read_reason(here: bool, role: u8, unconfigured: bool) -> u8
 fn read(agent: Agent, query: Query, frame: &[u8], store: &[u8], answer: &mut [u8]) -> u8
     requires { OperandsThere (TableCommand.Read query) frame.now × (agent.tables.count ≤ 256) × (56320 ≤ length store.now)
         × (57344 ≤ length answer.old) }
-    ensures* { λ r. ⌜ Handles (memory agent store.now) (on_tables (table_read (TableCommand.Read query) frame.now))
-        answer.old (result agent r store.now answer.new) ⌝ }
+    ensures { Handles (memory agent store.now) (on_tables (table_read (TableCommand.Read query) frame.now))
+        answer.old (outcome agent result store.now answer.new) }
 {
     let here = query.device == agent.device.id;
     let unconfigured = agent.configuration.rows.is_empty();
@@ -174,8 +174,8 @@ pub fn carry_out(
     answer: &mut [u8],
 ) -> TableOutcome
     requires { OperandsThere command frame.now × (56320 ≤ length store.old) × (57344 ≤ length answer.old) }
-    ensures* { λ r. ⌜ Handles (memory agent store.old) (on_tables (table_read command frame.now)) answer.old
-        (result (with_tables agent r.tables) r.reason store.new answer.new) ⌝ }
+    ensures { Handles (memory agent store.old) (on_tables (table_read command frame.now)) answer.old
+        (outcome (with_tables agent result.tables) result.reason store.new answer.new) }
 {
     let tables = agent.tables;
     if 256 < tables.count {

@@ -65,7 +65,7 @@ use Rattle.frames.specs.declared.StreamEvent.{StreamEvent}
 use Rattle.frames.specs.declared.PipelineCommand.{PipelineCommand}
 use Rattle.frames.specs.declared.TableCommand.{TableCommand}
 use Rattle.memory.specs.declared.Agent.{Agent}
-use Rattle.memory.specs.Layout.{Flat, control_of, memory, input, result}
+use Rattle.memory.specs.Layout.{Flat, control_of, memory, input, outcome}
 use Rattle.memory.specs.Handles.{Handles, with_streams, with_configuration, with_tables}
 use Rattle.memory.specs.contracts.Agent as T
 use Rattle.memory.proofs.Agent.TheLaws as T'
@@ -254,7 +254,7 @@ module _ {M : Type 1} {𝓤 : Ura M} (𝓛 : Logic 𝓤) (at_mem : Memory → SP
 
   -- the record k, the reason r, the store ss and the answer ws are what a call may leave
   record Fit (k : Agent) (r : ℕ) (ss ws : List ℕ) : Type 1 where
-    meets : calls.Contract Flat (memory h xs.now) (input xf.now xa.now) (result k r ss ws)
+    meets : calls.Contract Flat (memory h xs.now) (input xf.now xa.now) (outcome k r ss ws)
     stood : Parts k
     reason : Stands (number w8) r
     store_long : length ss ≡ length xs.now
@@ -400,7 +400,7 @@ module _ {M : Type 1} {𝓤 : Ura M} (𝓛 : Logic 𝓤) (at_mem : Memory → SP
           → 56320 ≤ length xs.now → 57344 ≤ length xa.now
           → holdings (33 ∷ 11 ∷ 2 ∷ 35 ∷ 37 ∷ []) ms ≡ fulls (record_of.val h ∷ table_of.val x ∷ vf ∷ vs ∷ va ∷ [])
           → ((r : TableOutcome) (ss ws : List ℕ) → Stands table-outcome-of r → length ss ≡ length xs.now → length ws ≡ length xa.now
-          → Handles (memory h xs.now) (on_tables (table_read x xf.now)) xa.now (result (with_tables h r.tables) r.reason ss ws)
+          → Handles (memory h xs.now) (on_tables (table_read x xf.now)) xa.now (outcome (with_tables h r.tables) r.reason ss ws)
           → At K c (Last xs ss) (Last xa ws) (storing 12 (table-outcome-of.val r) ms) rest q)
           → At K c ST AN ms (call tc-def.name (copies (33 ∷ 11 ∷ 2 ∷ 35 ∷ 37 ∷ [])) (place 12 []) ⨟ rest) q
       tables-change t ms x p stood there room space has go =

@@ -8,8 +8,7 @@ use lib.ListN.{length}
 use borrow.Author.Tests.{ne_eqb}
 use Rattle.rules.specs.Bytes.{if◌then◌else◌, byte}
 use Rattle.transcript.specs.Line.{record_size}
-use Rattle.transcript.proofs.record_size.Statement.{statement}
-use Rattle.transcript.proofs.record_size.Tie as tie
+use Rattle.transcript.proofs.record_size.Goals as goal
 
 -- the size by the command byte
 abbrev size : ℕ → ℕ
@@ -43,43 +42,27 @@ size-unknown c l =
     let n6 : c ≡ 6 → ⊥ = λ e. omega arith in
     rw (ne_eqb c 1 n1, ne_eqb c 2 n2, ne_eqb c 3 n3, ne_eqb c 5 n5, ne_eqb c 6 n6)
 
-returns : tie.Need-returns
-returns c = size_none c.before.args.frame.now c.if1.true
+pub returns-then-frame-eq0 : goal.returns-then-frame-eq0
+returns-then-frame-eq0 c = size_none c.args.frame.now c.if-frame-eq0.true
 
-shared-slice-read-command : tie.Need-shared-slice-read-command
-shared-slice-read-command c = omega arith
+pub returns-in-0 : goal.returns-in-0
+returns-in-0 c = ap size (sym c.in-0.is) ∙ size-some c.args.frame.now c.if-frame-eq0.false
 
-returns-2 : tie.Need-returns-2
-returns-2 c = ap size (sym c.match.keys1) ∙ size-some c.before.before.before.args.frame.now c.before.before.if1.false
+pub returns-in-4 : goal.returns-in-4
+returns-in-4 c = ap size (sym c.in-4.is) ∙ size-some c.args.frame.now c.if-frame-eq0.false
 
-returns-3 : tie.Need-returns-3
-returns-3 c = ap size (sym c.match.keys2) ∙ size-some c.before.before.before.args.frame.now c.before.before.if1.false
+pub returns-in-5 : goal.returns-in-5
+returns-in-5 c = ap size (sym c.in-5.is) ∙ size-some c.args.frame.now c.if-frame-eq0.false
 
-returns-4 : tie.Need-returns-4
-returns-4 c = ap size (sym c.match.keys3) ∙ size-some c.before.before.before.args.frame.now c.before.before.if1.false
+pub returns-in-6 : goal.returns-in-6
+returns-in-6 c = ap size (sym c.in-6.is) ∙ size-some c.args.frame.now c.if-frame-eq0.false
 
-returns-5 : tie.Need-returns-5
-returns-5 c = ap size (sym c.match.keys4) ∙ size-some c.before.before.before.args.frame.now c.before.before.if1.false
+pub returns-in-1-to-3 : goal.returns-in-1-to-3
+returns-in-1-to-3 c =
+    let f : List ℕ = c.args.frame.now in
+    size-streams (byte 0 f) (λ h. omega arith) (omega arith) ∙ size-some f c.if-frame-eq0.false
 
-returns-6 : tie.Need-returns-6
-returns-6 c =
-    let f : List ℕ = c.before.before.before.before.args.frame.now in
-    size-streams (byte 0 f) (λ h. omega arith) c.if2.true ∙ size-some f c.before.before.before.if1.false
-
-returns-7 : tie.Need-returns-7
-returns-7 c =
-    let f : List ℕ = c.before.before.before.before.args.frame.now in
-    size-unknown (byte 0 f) (omega arith) ∙ size-some f c.before.before.before.if1.false
-
-pub record-size-spec : {M : Type 1} → statement M
-record-size-spec =
-    tie.close
-    (tie.spec
-    returns
-    shared-slice-read-command
-    returns-2
-    returns-3
-    returns-4
-    returns-5
-    returns-6
-    returns-7)
+pub returns-in-7-to-255 : goal.returns-in-7-to-255
+returns-in-7-to-255 c =
+    let f : List ℕ = c.args.frame.now in
+    size-unknown (byte 0 f) (omega arith) ∙ size-some f c.if-frame-eq0.false
