@@ -1,6 +1,5 @@
 -- Right because the log has room for the notes that the atomicity asks for. Assumes nothing.
 use native.Mathlib.Omega.{arith}
-use borrow.Author.Rules.{rules}
 use Rattle.batches.proofs.batch.Goals as goal
 
 pub take-requires : goal.take-requires
@@ -17,7 +16,7 @@ shape_of-answer-then-atomicity-ne1 c = c.take.auto.answer
 pub returns-then-atomicity-ne1 : goal.returns-then-atomicity-ne1
 returns-then-atomicity-ne1 c =
     let all = c.take.ensures in
-    record { left = all.0; pairs = all.1 }
+    record { left = all.left; pairs = all.pairs }
 
 pub take-requires-then-n-le3 : goal.take-requires-then-n-le3
 take-requires-then-n-le3 c =
@@ -34,7 +33,7 @@ pub returns-then-n-le3 : goal.returns-then-n-le3
 returns-then-n-le3 c =
     let e = c.take-then-n-le3.ensures in
     let one = c.if-atomicity-ne1.false in
-    record { left = λ t. rw one (e.0 t); pairs = λ t. rw one (e.1 t) }
+    record { left = λ t. rw one (e.left t); pairs = λ t. rw one (e.pairs t) }
 
 pub take-requires-2 : goal.take-requires-2
 take-requires-2 c =
@@ -51,4 +50,4 @@ pub returns : goal.returns
 returns c =
     let e = c.take-2.ensures in
     let one = c.if-atomicity-ne1.false in
-    record { left = λ t. rw one (e.0 t); pairs = λ t. rw one (e.1 t) }
+    record { left = λ t. rw one (e.left t); pairs = λ t. rw one (e.pairs t) }

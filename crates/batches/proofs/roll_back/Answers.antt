@@ -1,13 +1,9 @@
 -- Right because each turn undoes the last note that is left. Assumes nothing.
-use Prim.Native.Nat.{ℕ, ◌+◌, ◌*◌, ◌-◌, ◌≤◌}
+use Prim.Native.Nat.{ℕ, ◌+◌, ◌*◌, ◌-◌}
 use native.Mathlib.Omega.{arith}
 use mathlib.Core.Path.{◌≡◌, refl, ◌∙◌}
-use mathlib.Core.List.{List}
-use lib.ListN.{length}
 use Rattle.buffers.proofs.Splice.{length-window}
-use Rattle.store.specs.Store.{entries_in}
-use Rattle.batches.specs.Rollback.{Undoes}
-use Rattle.batches.proofs.AllOrNone.{UndoneSoFar, back-next, back_end}
+use Rattle.batches.proofs.AllOrNone.{back-next, back_end}
 use Rattle.batches.proofs.roll_back.Goals as goal
 
 pub loop-i-init : goal.loop-i-init

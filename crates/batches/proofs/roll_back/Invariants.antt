@@ -1,13 +1,11 @@
 -- Right because each turn undoes the last note that is left. Assumes nothing.
-use Prim.Native.Nat.{ℕ, ◌+◌, ◌*◌, ◌-◌, ◌≤◌}
-use native.Mathlib.Omega.{arith}
-use mathlib.Core.Path.{◌≡◌, refl, ◌∙◌}
+use Prim.Native.Nat.{ℕ, ◌≤◌}
+use mathlib.Core.Path.{◌≡◌}
 use mathlib.Core.List.{List}
 use lib.ListN.{length}
-use Rattle.buffers.proofs.Splice.{length-window}
 use Rattle.store.specs.Store.{entries_in}
 use Rattle.batches.specs.Rollback.{Undoes}
-use Rattle.batches.proofs.AllOrNone.{UndoneSoFar, back-next, back_end}
+use Rattle.batches.proofs.AllOrNone.{UndoneSoFar}
 use Rattle.batches.proofs.roll_back.Given as goal
 
 abbrev pub invariant-loop-i : goal.invariant-loop-i

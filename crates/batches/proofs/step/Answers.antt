@@ -15,7 +15,6 @@ use Rattle.store.specs.Store.{entries_in, tables_in}
 use Rattle.changes.proofs.Effects.{refused}
 use Rattle.changes.proofs.Undoing.{undo-after-apply}
 use Rattle.batches.specs.Rollback.{noted_at}
-use borrow.Author.Rules.{rules}
 use Rattle.batches.proofs.step.Goals as goal
 
 pub shape_of-answer-then-reason-ne0 : goal.shape_of-answer-then-reason-ne0
@@ -96,13 +95,13 @@ returns c =
     record {
       reason = rw q.reason-reason.ensures v.judge-verdict.ensures.reason;
       pair = paired;
-      few = did.0.few;
-      left = λ d. rw q.reason-reason.ensures (did.1 d justified);
+      few = did.done.few;
+      left = λ d. rw q.reason-reason.ensures (did.left d justified);
       noted = λ e z. record {
         note = noted_at a.i v.judge-verdict.result a.tables a.store.now a.log.now;
         size = (note e).0;
         bytes = (note e).1;
-        undoing = rw did.0.holds
+        undoing = rw did.done.holds
             (undo-after-apply v.judge-verdict.result (byte 0 u) u es (part (74 * a.i) 74 a.log.now) few s.requires.2
             (sym q.reason-reason.ensures ∙ z) justified);
       };

@@ -1,14 +1,10 @@
 -- Right because each step does what the rules say to what the steps before it left, and with atomicity 1 is noted after them or
 -- stops the batch. Assumes nothing.
-use Prim.Native.Nat.{ℕ, ◌*◌, ◌+◌, ◌-◌, ◌≤◌, ◌<◌}
-use native.Mathlib.Omega.{arith}
-use mathlib.Core.Path.{◌≡◌, refl, ◌∙◌}
-use mathlib.Core.Logic.{⊎_elim}
+use Prim.Native.Nat.{◌*◌, ◌-◌, ◌≤◌}
+use mathlib.Core.Path.{◌≡◌}
 use lib.ListN.{length, drop}
 use Rattle.rows.specs.Meaning.{rows_in}
-use Rattle.batches.proofs.EachAlone.{flagged, flag-set, flag-kept}
-use Rattle.batches.proofs.Taking.{Taking, taking-start, taking-next, taking-stop, stop-pairs, taking-end, beyond}
-use borrow.Author.Rules.{rules}
+use Rattle.batches.proofs.Taking.{Taking}
 use Rattle.batches.proofs.take.Given as goal
 
 abbrev pub invariant-loop-i : goal.invariant-loop-i

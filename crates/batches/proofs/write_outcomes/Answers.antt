@@ -8,9 +8,8 @@ use borrow.Rule.Slice.PartMut.{same_len_mid}
 use Rattle.rules.specs.Call.{pair_of}
 use Rattle.rules.specs.Update.{rolled_back}
 use Rattle.buffers.proofs.Splice.{part-copied}
-use Rattle.buffers.proofs.Written.{Written, written_none, written_next, written_all}
+use Rattle.buffers.proofs.Written.{written_none, written_next, written_all}
 use Rattle.batches.proofs.AllOrNone.{rolled-count, outcomes-from}
-use borrow.Author.Rules.{rules}
 use Rattle.batches.proofs.write_outcomes.Goals as goal
 
 pub loop-k-init : goal.loop-k-init
@@ -22,7 +21,7 @@ loop-k-preserved c =
     let o = c.outcome in
     let l = c.loop-k in
     let a = c.args in
-    let x : List ℕ = l.answer-1 in
+    let x : List ℕ = l.answer in
     let i : ℕ = l.k in
     let h : i < a.n = omega arith in
     let room : 2 * i + 2 ≤ length x = omega arith in

@@ -1,16 +1,11 @@
 -- Right because the pairs written and those left are all of them. Assumes nothing.
-use Prim.Native.Nat.{ℕ, ◌+◌, ◌*◌, ◌-◌, ◌≤◌, ◌<◌}
-use native.Mathlib.Omega.{arith}
-use mathlib.Core.Path.{◌≡◌, refl, ap, ◌∙◌}
-use mathlib.Core.List.{List, [], map}
-use lib.ListN.{length, drop, drop_of_length-le}
-use borrow.Rule.Slice.PartMut.{same_len_mid}
+use Prim.Native.Nat.{◌-◌, ◌≤◌}
+use mathlib.Core.Path.{◌≡◌}
+use mathlib.Core.List.{map}
+use lib.ListN.{length, drop}
 use Rattle.rules.specs.Call.{pair_of}
 use Rattle.rules.specs.Update.{rolled_back}
-use Rattle.buffers.proofs.Splice.{part-copied}
-use Rattle.buffers.proofs.Written.{Written, written_none, written_next, written_all}
-use Rattle.batches.proofs.AllOrNone.{rolled-count, outcomes-from}
-use borrow.Author.Rules.{rules}
+use Rattle.buffers.proofs.Written.{Written}
 use Rattle.batches.proofs.write_outcomes.Given as goal
 
 abbrev pub invariant-loop-k : goal.invariant-loop-k

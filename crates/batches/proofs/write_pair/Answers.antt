@@ -6,7 +6,6 @@ use mathlib.Core.List.{List, [], ◌∷◌}
 use lib.Seq.{sets-eq}
 use Rattle.buffers.specs.Splice.{splice}
 use Rattle.buffers.proofs.Splice.{splice_front}
-use borrow.Author.Rules.{rules}
 use Rattle.batches.proofs.write_pair.Goals as goal
 
 pub returns : goal.returns
