@@ -2,7 +2,6 @@
 use native.Mathlib.Omega.{arith}
 use Rattle.election.specs.Meaning.{id_of}
 use Rattle.frames.proofs.Readings.{flag-unset, flag-set, flag-over}
-use borrow.Author.Rules.{rules}
 use Rattle.frames.proofs.flag_fits.Goals as goal
 
 pub returns-in-0 : goal.returns-in-0

@@ -4,7 +4,6 @@ use mathlib.Core.Path.{◌≡◌, ap, ◌∙◌}
 use Rattle.rules.specs.Bytes.{part, int, number}
 use Prim.Native.Nat.{ℕ, ◌+◌, ◌-◌}
 use Rattle.election.specs.Meaning.{id_of}
-use borrow.Author.Rules.{rules}
 use Rattle.frames.proofs.head_at.Goals as goal
 
 pub returns : goal.returns

@@ -5,7 +5,6 @@ use Rattle.rules.specs.Frame as rules
 use Rattle.rules.specs.Bytes.{byte}
 use Prim.Native.Nat.{◌≤◌}
 use mathlib.Core.Bool.{true}
-use borrow.Author.Tests.{not-true, not-false}
 use Rattle.frames.proofs.Readings.{arbitrate-length, arbitrate-over, arbitrate-flag, arbitrate-fits}
 use Rattle.frames.proofs.read_arbitrate.Goals as goal
 

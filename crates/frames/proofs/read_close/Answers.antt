@@ -1,7 +1,6 @@
 -- Right because the two tests are those of the form of CLOSE. Assumes nothing.
 use native.Mathlib.Omega.{arith}
 use Rattle.frames.proofs.Readings.{stream-length, stream-over, stream-fits}
-use borrow.Author.Rules.{rules}
 use Rattle.frames.proofs.read_close.Goals as goal
 
 pub returns-then-frame-ne2 : goal.returns-then-frame-ne2

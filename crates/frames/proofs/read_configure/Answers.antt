@@ -6,7 +6,6 @@ use Rattle.rules.specs.Bytes.{byte, parts}
 use Prim.Native.Nat.{◌+◌, ◌*◌, ◌≤◌}
 use lib.ListN.{length, drop}
 use mathlib.Core.Bool.{true}
-use borrow.Author.Tests.{not-true, not-false}
 use Rattle.frames.proofs.Readings.{configure-length, configure-none, configure-many, configure-flag, configure-fits}
 use Rattle.frames.proofs.read_configure.Goals as goal
 

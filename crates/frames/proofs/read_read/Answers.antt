@@ -5,8 +5,6 @@ use Rattle.rules.specs.Bytes.{int}
 use Prim.Native.Nat.{ℕ}
 use lib.ListN.{length}
 use mathlib.Core.Bool.{true, not}
-use borrow.Author.Tests.{not-true, not-false}
-use mathlib.Core.Logic.{⊎_elim}
 use lib.Dec.{eqb}
 use Rattle.frames.proofs.Readings.{key_fits, key-all, key-only, key-over, read_length, read-key, read_fits, key-named}
 use Rattle.frames.proofs.read_read.Goals.{in-0, in-1, in-2-to-255}

@@ -7,7 +7,6 @@ use Prim.Native.Nat.{◌+◌, ◌*◌, ◌≤◌}
 use lib.ListN.{length, drop}
 use mathlib.Core.Bool.{true}
 use mathlib.Core.List.{map}
-use borrow.Author.Tests.{not-true, not-false}
 use Rattle.frames.proofs.Readings.{write-length, write-many, write-flag, write-atomicity, write-fits}
 use Rattle.frames.proofs.read_write.Goals as goal
 
