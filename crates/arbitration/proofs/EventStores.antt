@@ -1,4 +1,5 @@
 -- What a store at the stream's number modulo 32 leaves: by the event's reason that of the rules. Assumes nothing.
+use Rattle.std.specs.Prelude.{if◌then◌else◌}
 use Prim.Native.Nat.{ℕ, ◌%◌, ◌<◌, ◌≤◌}
 use native.Mathlib.Nat.{mod-eq_of_lt}
 use native.Mathlib.Omega.{arith}
@@ -7,7 +8,6 @@ use mathlib.Core.Bool.{Bool, true, false, ◌&&◌}
 use lib.Dec.{eqb, ltb}
 use lib.ListN.{length, get_or, set}
 use borrow.Author.Tests.{eqb-true, eqb-false, ltb-true, ltb-false}
-use Rattle.rules.specs.Bytes.{if◌then◌else◌}
 use Rattle.rules.specs.Streams as rules
 use Rattle.rules.specs.Streams.{closed, unbound, bound, is_open, stream_at, become, open_stream, close_stream, close_records, arbitrate_reason, arbitrate}
 use Rattle.rules.proofs.Tests.{contradiction}

@@ -1,5 +1,6 @@
 -- The record's streams and marks in the rules' terms: a place is read and stored alike in a list and in what it means.
 -- Assumes nothing.
+use Rattle.std.specs.Prelude.{if◌then◌else◌}
 use Prim.Native.Nat.{ℕ, zero, suc, ◌%◌, ◌<◌, ◌≤◌, max}
 use native.Mathlib.Nat.{mod-eq_of_lt}
 use native.Mathlib.Omega.{arith}
@@ -10,7 +11,6 @@ use lib.Dec.{ltb}
 use lib.ListN.{length, get_or, set, length-map, get_or-map, get_or-eq_default}
 use lib.Seq.{set_out, set-get_or}
 use borrow.Author.Tests.{ltb-true, ltb-false}
-use Rattle.rules.specs.Bytes.{if◌then◌else◌}
 use Rattle.rules.specs.Streams as rules
 use Rattle.election.specs.Meaning.{id_of, head_of, stream_of}
 use Rattle.arbitration.specs.Meaning.{streams_of}

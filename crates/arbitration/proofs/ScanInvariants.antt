@@ -1,4 +1,5 @@
 -- What a scan has found before stream k, with what it has still to pass, is what the whole record shows. Assumes nothing.
+use Rattle.std.specs.Prelude.{if◌then◌else◌}
 use Prim.Native.Nat.{ℕ, ◌+◌, ◌%◌, ◌<◌, ◌≤◌}
 use native.Mathlib.Nat.{mod-eq_of_lt}
 use native.Mathlib.Numerals.{add-one}
@@ -11,7 +12,7 @@ use lib.Dec.{eqb, ltb}
 use lib.ListN.{length, get_or, take, drop, set, get_or-map, drop_of_length-le}
 use lib.Seq.{drop-cons, append_snoc, take-suc-set}
 use borrow.Author.Tests.{ltb-true, ltb-false, lt-ltb}
-use Rattle.rules.specs.Bytes.{if◌then◌else◌, some_of}
+use Rattle.rules.specs.Bytes.{some_of}
 use Rattle.rules.specs.Streams as rules
 use Rattle.rules.specs.Streams.{closed, unbound, bound, stream_at, in_role, holds, numbers, members, head, mark_of}
 use Rattle.election.specs.Meaning.{id_of, stream_of}

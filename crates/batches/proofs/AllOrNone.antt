@@ -1,5 +1,6 @@
 -- A batch with atomicity 1: the notes of its log, one written after the others or the last of them undone; the batch before its
 -- update i, all earlier ones having taken effect; and what one comes to that an update stopped. Assumes nothing.
+use Rattle.std.specs.Prelude.{if◌then◌else◌}
 use Prim.Native.Nat.{ℕ, zero, suc, ◌+◌, ◌*◌, ◌≤◌, ◌<◌}
 use native.Mathlib.Omega.{arith}
 use native.Mathlib.Numerals.{add-one}
@@ -11,7 +12,7 @@ use lib.Dec.{eqb}
 use lib.ListN.{length, take, drop, get_or, replicate, length-append, length-map, length-set, length-replicate, get_or-replicate}
 use lib.Seq.{take_at, drop-cons, get_or-set_same, get_or-set_other}
 use borrow.Author.Tests.{eqb-true, eqb-false}
-use Rattle.rules.specs.Bytes.{if◌then◌else◌, every, concat, part, parts}
+use Rattle.rules.specs.Bytes.{every, concat, part, parts}
 use Rattle.rules.specs.Call.{pair_of}
 use Rattle.rules.specs.Frame.{Update, update_of}
 use Rattle.rules.specs.Row.{Row}

@@ -1,5 +1,6 @@
 -- A batch before its update i, which nothing has stopped: what the updates left will do to the store as it is now, after what was
 -- done, is what all of them do to the store at the start. Assumes nothing.
+use Rattle.std.specs.Prelude.{if◌then◌else◌}
 use Prim.Native.Nat.{ℕ, ◌+◌, ◌*◌, ◌≤◌}
 use mathlib.Core.Path.{◌≡◌, refl, sym, ap, ◌∙◌}
 use mathlib.Core.Bool.{Bool, true, false, ◌&&◌, not}
@@ -7,7 +8,7 @@ use mathlib.Core.List.{List, [], ◌∷◌, map}
 use lib.Dec.{eqb}
 use lib.ListN.{length, drop}
 use borrow.Author.Tests.{ne_eqb}
-use Rattle.rules.specs.Bytes.{if◌then◌else◌, every, concat}
+use Rattle.rules.specs.Bytes.{every, concat}
 use Rattle.rules.specs.Frame.{Update}
 use Rattle.rules.specs.Row.{Row}
 use Rattle.rules.specs.Update.{Tables, Batch, apply, each_alone}

@@ -1,9 +1,9 @@
 // Batches of updates, rolled back or not (document 01, "The maker of an update"; document 02, request Two).
 #![tactic(auto)]
 
-ghost use Rattle.std.specs.Prelude.{◌≡◌, map, ◌+◌, ◌*◌, ◌≤◌, eqb, length};
+ghost use Rattle.std.specs.Prelude.{◌≡◌, map, ◌+◌, ◌*◌, ◌≤◌, eqb, length, if◌then◌else◌};
 ghost use Rattle.rules.specs.Frame.{update_size};
-ghost use Rattle.rules.specs.Bytes.{if◌then◌else◌, concat};
+ghost use Rattle.rules.specs.Bytes.{concat};
 ghost use Rattle.rules.specs.Update.{rolled_back};
 ghost use Rattle.rules.specs.Call.{pair_of};
 ghost use Rattle.buffers.specs.Splice.{splice};

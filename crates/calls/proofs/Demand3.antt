@@ -1,5 +1,6 @@
 -- Demand 3, for any layout: each call of a list finds a memory that represents the state that the rules make of the calls before it,
 -- since every call leaves what the rules leave; the rules agree with looking back. Assumes nothing.
+use Rattle.std.specs.Prelude.{if◌then◌else◌}
 use Prim.Native.Nat.{ℕ, suc, ◌+◌, ◌*◌, ◌≤◌, ◌<◌}
 use native.Mathlib.Omega.{arith}
 use mathlib.Core.Path.{◌≡◌, refl, sym, ap, ap₂, ◌∙◌, subst}
@@ -8,7 +9,7 @@ use mathlib.Core.Logic.{◌⊎◌, ◌↔◌}
 use mathlib.Core.List.{List, [], ◌∷◌, ◌++◌}
 use lib.ListN.{length, take, drop, length-append, length-drop}
 use lib.Seq.{take-append-le, drop-append-le}
-use Rattle.rules.specs.Bytes.{if◌then◌else◌, Pointwise, byte, int, bytes_of, concat}
+use Rattle.rules.specs.Bytes.{Pointwise, byte, int, bytes_of, concat}
 use Rattle.rules.specs.Reason.{code_of, pairs}
 use Rattle.rules.specs.Frame.{Head, Update, Query, Command, too_short, WRITE, READ, on_tables}
 use Rattle.rules.specs.Answer.{Reply, answer_bytes, reply_of}

@@ -1,4 +1,5 @@
 -- One update: what doing a verdict does is what the rules do, since keys are distinct; and they stay distinct. Assumes nothing.
+use Rattle.std.specs.Prelude.{if◌then◌else◌}
 use Prim.Native.Nat.{ℕ}
 use native.Mathlib.Omega.{arith}
 use mathlib.Core.Path.{◌≡◌, refl, sym, ap, ◌∙◌}
@@ -8,7 +9,7 @@ use mathlib.Core.Option.{some}
 use lib.Dec.{eqb}
 use lib.ListN.{length, take, drop, get_or, set, length-drop, take-append-drop}
 use borrow.Author.Tests.{eqb-true, ne_eqb}
-use Rattle.rules.specs.Bytes.{if◌then◌else◌, byte, keep, some_of}
+use Rattle.rules.specs.Bytes.{byte, keep, some_of}
 use Rattle.rules.specs.Frame.{Update, update_of}
 use Rattle.rules.specs.Row.{Row, known, row_for}
 use Rattle.rules.specs.Key.{short_key, key_of, has_key, table_of}

@@ -1,8 +1,8 @@
 -- What is noted of an update before it is done, so that it can be undone (document 02, request Two), and what undoing it leaves.
 -- Assumes nothing.
-use Rattle.std.specs.Prelude.{◌≡◌, List, [], ◌∷◌, ◌++◌, ℕ, ◌-◌, ◌≤◌, ◌<◌, eqb, length, take, drop, get_or}
+use Rattle.std.specs.Prelude.{◌≡◌, List, [], ◌∷◌, ◌++◌, ℕ, ◌-◌, ◌≤◌, ◌<◌, eqb, length, take, drop, get_or, if◌then◌else◌}
 use Rattle.rules.specs.Frame.{key_size, update_size}
-use Rattle.rules.specs.Bytes.{if◌then◌else◌, byte}
+use Rattle.rules.specs.Bytes.{byte}
 use Rattle.rules.specs.Key.{short_key}
 use Rattle.store.specs.declared.Tables.{Tables}
 use Rattle.store.specs.Store.{entries_in, inserted_at, changed_at, Holds}

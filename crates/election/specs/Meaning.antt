@@ -1,6 +1,5 @@
 -- What the values of this crate mean in the rules' terms. Assumes nothing.
-use Rattle.std.specs.Prelude.{ℕ, eqb}
-use Rattle.rules.specs.Bytes.{if◌then◌else◌}
+use Rattle.std.specs.Prelude.{ℕ, eqb, if◌then◌else◌}
 use Rattle.rules.specs.Frame as frame
 use Rattle.rules.specs.Streams as rules
 use Rattle.numbers.specs.Whole.{whole_of}

@@ -2,8 +2,8 @@
 // address shows, 3 to 6 (document 01, "Streams and primaries").
 #![tactic(auto)]
 
-ghost use Rattle.std.specs.Prelude.{◌≡◌, not, ◌&&◌, ◌||◌, ◌≤◌, length, ltb, eqb};
-ghost use Rattle.rules.specs.Bytes.{if◌then◌else◌, number, bytes_of};
+ghost use Rattle.std.specs.Prelude.{◌≡◌, not, ◌&&◌, ◌||◌, ◌≤◌, length, ltb, eqb, if◌then◌else◌};
+ghost use Rattle.rules.specs.Bytes.{number, bytes_of};
 ghost use Rattle.rules.specs.Reason.{first};
 ghost use Rattle.rules.specs.Streams as rules;
 ghost use Rattle.buffers.specs.Splice.{splice};

@@ -1,4 +1,5 @@
 -- The order of an update's reasons is that of its table, its entry and its place, one after the other. Assumes nothing.
+use Rattle.std.specs.Prelude.{if◌then◌else◌}
 use Prim.Native.Nat.{ℕ}
 use mathlib.Core.Path.{◌≡◌, refl, sym, ◌∙◌}
 use mathlib.Core.Bool.{Bool, true, false}
@@ -6,7 +7,7 @@ use mathlib.Core.List.{List}
 use lib.ListN.{drop}
 use lib.Dec.{eqb}
 use borrow.Author.Tests.{ne_eqb}
-use Rattle.rules.specs.Bytes.{if◌then◌else◌, between, byte}
+use Rattle.rules.specs.Bytes.{between, byte}
 use Rattle.rules.specs.Reason.{first}
 use Rattle.rules.specs.Frame.{Update, update_of}
 use Rattle.rules.specs.Row.{Row, known, row_for, table_order}

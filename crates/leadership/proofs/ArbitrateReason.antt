@@ -1,5 +1,6 @@
 -- The reason of an ARBITRATE: what its stream is has one order of refusals, and a reason shows what the stream and the record are.
 -- Assumes nothing.
+use Rattle.std.specs.Prelude.{if◌then◌else◌}
 use Prim.Native.Nat.{ℕ, ◌<◌, ◌≤◌}
 use native.Mathlib.Omega.{arith}
 use mathlib.Core.Path.{◌≡◌, refl, sym, ◌∙◌}
@@ -8,7 +9,7 @@ use mathlib.Core.List.{[], ◌∷◌}
 use lib.Dec.{eqb, leb, ltb}
 use lib.ListN.{length, get_or-eq_default}
 use borrow.Author.Tests.{eqb-true, ne_eqb, ltb-true, ltb-false, not-false}
-use Rattle.rules.specs.Bytes.{if◌then◌else◌, between, every}
+use Rattle.rules.specs.Bytes.{between, every}
 use Rattle.rules.specs.Reason.{first}
 use Rattle.rules.specs.Frame.{Head}
 use Rattle.rules.specs.Streams.{Stream, closed, unbound, bound, Streams, stream_at, members, held_elsewhere, address_order, order_of, arbitrate_reason}

@@ -1,4 +1,5 @@
 -- The first stream that passes a test: whether it is stream s, and what becomes of it where another stream is stored at s. Assumes nothing.
+use Rattle.std.specs.Prelude.{if◌then◌else◌}
 use Prim.Native.Nat.{ℕ, zero, suc, ◌+◌, ◌<◌, ◌≤◌}
 use native.Mathlib.Omega.{arith}
 use mathlib.Core.Path.{◌≡◌, refl}
@@ -8,7 +9,7 @@ use mathlib.Core.Option.{Option, none, some}
 use lib.Dec.{eqb, ltb}
 use lib.ListN.{length, get_or, set}
 use borrow.Author.Tests.{eq-eqb, ne_eqb, ltb-false}
-use Rattle.rules.specs.Bytes.{if◌then◌else◌, some_of}
+use Rattle.rules.specs.Bytes.{some_of}
 use Rattle.rules.specs.Streams.{Stream, closed, numbers, head, is, same_option}
 use Rattle.leadership.specs.Meaning.{numbered}
 

@@ -1,4 +1,5 @@
 -- The pair (primary or none, mark) of a role before and after an accepted ARBITRATE, from what its scan shows. Assumes nothing.
+use Rattle.std.specs.Prelude.{if◌then◌else◌}
 use Prim.Native.Nat.{ℕ, ◌<◌, ◌≤◌, max}
 use native.Mathlib.Omega.{arith}
 use mathlib.Core.Path.{◌≡◌, refl, sym, ap, ◌∙◌}
@@ -9,7 +10,7 @@ use lib.Dec.{eqb, ltb}
 use lib.ListN.{length, get_or, set, get_or-eq_default}
 use lib.Seq.{set_out, set-get_or, get_or-set_same}
 use borrow.Author.Tests.{eqb-true, eqb-false, eq-eqb, ne_eqb, ltb-true, ltb-false, not-true}
-use Rattle.rules.specs.Bytes.{if◌then◌else◌, some_of}
+use Rattle.rules.specs.Bytes.{some_of}
 use Rattle.rules.specs.Frame.{Head}
 use Rattle.rules.specs.Streams.{bound, Streams, stream_at, holds, numbers, head, is, mark_of, primary, held_elsewhere}
 use Rattle.rules.specs.Streams.{binds, same_option, same_pair}

@@ -1,7 +1,6 @@
 -- What the leadership of a role means in the rules' terms. Assumes nothing.
 use Rattle.std.proofs.Math.Option.{Option, none, some}
-use Rattle.std.specs.Prelude.{List, ℕ, ltb}
-use Rattle.rules.specs.Bytes.{if◌then◌else◌}
+use Rattle.std.specs.Prelude.{List, ℕ, ltb, if◌then◌else◌}
 use Rattle.rules.specs.Streams as rules
 use Rattle.election.specs.Meaning.{id_of}
 use Rattle.leadership.specs.declared.Leadership.{Leadership}

@@ -2,9 +2,9 @@
 // stream record decides of an ARBITRATE (document 01, "Streams and primaries").
 #![tactic(auto)]
 
-ghost use Rattle.std.specs.Prelude.{◌≡◌, map, ◌*◌, ◌≤◌, length, take, eqb};
+ghost use Rattle.std.specs.Prelude.{◌≡◌, map, ◌*◌, ◌≤◌, length, take, eqb, if◌then◌else◌};
 ghost use Rattle.std.proofs.Math.Option.{none};
-ghost use Rattle.rules.specs.Bytes.{if◌then◌else◌, concat};
+ghost use Rattle.rules.specs.Bytes.{concat};
 ghost use Rattle.rules.specs.Streams as rules;
 ghost use Rattle.buffers.specs.Splice.{splice};
 ghost use Rattle.election.specs.Meaning.{id_of};

@@ -1,5 +1,6 @@
 -- The order of CONFIGURE's reasons in two parts, those that need no row, and 14; and what one leaves that nothing refuses.
 -- Assumes nothing.
+use Rattle.std.specs.Prelude.{if◌then◌else◌}
 use Prim.Native.Nat.{ℕ, ◌*◌, ◌≤◌}
 use mathlib.Core.Path.{◌≡◌, refl, ◌∙◌}
 use mathlib.Core.Bool.{Bool, true, false, not}
@@ -7,7 +8,7 @@ use mathlib.Core.List.{List, [], ◌∷◌, ◌++◌, map}
 use lib.ListN.{length}
 use lib.Dec.{eqb, ltb}
 use borrow.Author.Tests.{not-false}
-use Rattle.rules.specs.Bytes.{if◌then◌else◌, parts}
+use Rattle.rules.specs.Bytes.{parts}
 use Rattle.rules.specs.Reason.{first}
 use Rattle.rules.specs.Frame.{Head, CONFIGURE, row_size}
 use Rattle.rules.specs.Streams as streams

@@ -1,4 +1,5 @@
 -- The order of a READ's reasons is that of its table and then that of its key, which stands behind `only`. Assumes nothing.
+use Rattle.std.specs.Prelude.{if◌then◌else◌}
 use Prim.Native.Nat.{ℕ, ◌+◌}
 use native.Mathlib.Omega.{arith}
 use mathlib.Core.Path.{◌≡◌, refl, sym, ap, ◌∙◌}
@@ -8,7 +9,7 @@ use lib.Dec.{eqb}
 use lib.ListN.{length, take, drop}
 use lib.Seq.{drop-append-add}
 use borrow.Author.Tests.{ne_eqb}
-use Rattle.rules.specs.Bytes.{if◌then◌else◌, part}
+use Rattle.rules.specs.Bytes.{part}
 use Rattle.rules.specs.Reason.{when, first}
 use Rattle.rules.specs.Row.{Row, known, row_for, table_order}
 use Rattle.rules.specs.Key.{key_order}

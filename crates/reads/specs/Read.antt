@@ -1,7 +1,7 @@
 -- What the functions of a READ are held to, in the rules' terms. Assumes nothing.
-use Rattle.std.specs.Prelude.{◌≡◌, Bool, List, ◌++◌, ℕ, ◌/◌, min, eqb, length, take}
+use Rattle.std.specs.Prelude.{◌≡◌, Bool, List, ◌++◌, ℕ, ◌/◌, min, eqb, length, take, if◌then◌else◌}
 use Rattle.rules.specs.Frame.{entry_size, rest_size}
-use Rattle.rules.specs.Bytes.{if◌then◌else◌, keep, concat, part}
+use Rattle.rules.specs.Bytes.{keep, concat, part}
 use Rattle.rules.specs.Reason.{when}
 use Rattle.rules.specs.Row.{Row, table_order}
 use Rattle.rules.specs.Key.{short_key, has_key, key_order}

@@ -1,5 +1,6 @@
 -- The rows in force, walked from the front: what is left begins with the row at the index, and is nothing past the count or
 -- the eighth. Assumes nothing.
+use Rattle.std.specs.Prelude.{if◌then◌else◌}
 use Prim.Native.Nat.{ℕ, zero, suc, ◌+◌, ◌*◌, min, ◌≤◌, ◌<◌}
 use native.Mathlib.Omega.{arith}
 use mathlib.Core.Path.{◌≡◌, refl, sym, ap, ◌∙◌}
@@ -8,7 +9,7 @@ use mathlib.Core.List.{List, [], ◌∷◌, map}
 use lib.ListN.{take, drop, length-map, length-take, drop_of_length-le}
 use lib.Seq.{drop-drop}
 use lib.Dec.{eqb, eqb-suc-zero, lit≤}
-use Rattle.rules.specs.Bytes.{if◌then◌else◌, int, part, parts}
+use Rattle.rules.specs.Bytes.{int, part, parts}
 use Rattle.rules.specs.Call.{unconfigured}
 use Rattle.rules.specs.Frame.{row_size}
 use Rattle.rules.specs.Row as rules

@@ -1,6 +1,6 @@
 -- What the values of this crate mean in the rules' terms. Assumes nothing.
-use Rattle.std.specs.Prelude.{Bool, ◌&&◌, List, [], ◌∷◌, map, ℕ, ◌+◌, eqb, leb, take}
-use Rattle.rules.specs.Bytes.{if◌then◌else◌, every, byte, int, parts}
+use Rattle.std.specs.Prelude.{Bool, ◌&&◌, List, [], ◌∷◌, map, ℕ, ◌+◌, eqb, leb, take, if◌then◌else◌}
+use Rattle.rules.specs.Bytes.{every, byte, int, parts}
 use Rattle.rules.specs.Frame.{row_size}
 use Rattle.rules.specs.Row as rules
 use Rattle.rows.specs.declared.Field.{Field}

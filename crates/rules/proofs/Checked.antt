@@ -1,5 +1,6 @@
 -- What passes 17, 18 and 19 passes them in shortest form: values stay values of the same numbers, and zeros stay zeros.
 -- Assumes nothing.
+use Rattle.std.specs.Prelude.{if◌then◌else◌}
 use Prim.Native.Nat.{ℕ, zero, suc, ◌+◌, ◌*◌, ◌-◌, ◌≤◌}
 use mathlib.Core.Path.{◌≡◌, refl, sym, ap, ap₂, ◌∙◌}
 use mathlib.Core.Bool.{Bool, true, false, ◌&&◌, ◌||◌, not}
@@ -9,7 +10,7 @@ use lib.Dec.{eqb}
 use lib.ListN.{length, take, drop, replicate}
 use lib.Seq.{drop_at}
 use borrow.Author.Tests.{eqb-true, le-leb}
-use Rattle.rules.specs.Bytes.{if◌then◌else◌, every, byte, parts, number, all_zero}
+use Rattle.rules.specs.Bytes.{every, byte, parts, number, all_zero}
 use Rattle.rules.specs.Row.{Field, Row}
 use Rattle.rules.specs.Value.{is_value, fits, stripped, padded, short}
 use Rattle.rules.specs.Key.{omitted, exact, optional, kind, value1, value2, slot_formed, slot_fits, slot_rule}

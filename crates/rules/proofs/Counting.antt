@@ -1,5 +1,6 @@
 -- How many entries the tables hold together: each entry is of some table, so there are no more of them than the sizes of the rows
 -- allow, and fewer where a table is not full. Assumes nothing.
+use Rattle.std.specs.Prelude.{if◌then◌else◌}
 use Prim.Native.Nat.{ℕ, suc, ◌+◌, ◌≤◌, ◌<◌}
 use mathlib.Core.Path.{◌≡◌, refl, sym}
 use mathlib.Core.Bool.{Bool, true, false, ◌&&◌, ◌||◌, false≢true}
@@ -8,7 +9,7 @@ use native.Mathlib.Omega.{arith}
 use lib.Dec.{eqb}
 use lib.ListN.{length}
 use borrow.Author.Tests.{eqb-true, eqb-false, eq-eqb, ne_eqb, leb-true}
-use Rattle.rules.specs.Bytes.{if◌then◌else◌, keep, every, sum, distinct}
+use Rattle.rules.specs.Bytes.{keep, every, sum, distinct}
 use Rattle.rules.specs.Row.{Row, row_allowed, rows_allowed, known, row_for}
 use Rattle.rules.specs.Key.{table_of}
 use Rattle.rules.specs.Update.{Tables, in_table, held}

@@ -1,4 +1,5 @@
 -- A DELETE needs only the key: what the rules and looking back ask of it they ask of its first 148 bytes. Assumes nothing.
+use Rattle.std.specs.Prelude.{if◌then◌else◌}
 use Prim.Native.Nat.{ℕ, suc}
 use mathlib.Core.Path.{◌≡◌, refl, sym, ◌∙◌, ap, ap₂}
 use mathlib.Core.Bool.{Bool, ◌&&◌, ◌||◌, not}
@@ -7,7 +8,7 @@ use mathlib.Core.List.{List, [], ◌∷◌, ◌++◌, map}
 use mathlib.Core.Option.{Option, none, some}
 use lib.Dec.{eqb}
 use lib.ListN.{length}
-use Rattle.rules.specs.Bytes.{if◌then◌else◌, Pointwise}
+use Rattle.rules.specs.Bytes.{Pointwise}
 use Rattle.rules.specs.Frame.{Update, Command}
 use Rattle.rules.specs.Row.{Row}
 use Rattle.rules.specs.Key.{table_of, key_formed, key_fits, key_rules, short_key, key_of}

@@ -1,9 +1,10 @@
 -- One effect more at the end does to the entries present what the rules do to the entries stored. Assumes nothing.
+use Rattle.std.specs.Prelude.{if◌then◌else◌}
 use Prim.Native.Nat.{ℕ}
 use mathlib.Core.Path.{◌≡◌, refl, sym, ◌∙◌, ap}
 use mathlib.Core.Bool.{Bool, true, false, ◌||◌, not, or_assoc, or-false as or-none}
 use mathlib.Core.List.{List, [], ◌∷◌, ◌++◌, map}
-use Rattle.rules.specs.Bytes.{if◌then◌else◌, keep, same}
+use Rattle.rules.specs.Bytes.{keep, same}
 use Rattle.rules.specs.Key.{key_of}
 use Rattle.rules.specs.LookBack.{Effect, inserted, modified, deleted, cleared, removes, revise, latest, gone, present}
 use Rattle.rules.proofs.Tests.{same_true}

@@ -1,5 +1,6 @@
 -- What a frame reads as has operands in range and parts of full length, since the reader tests length and counts.
 -- Assumes nothing.
+use Rattle.std.specs.Prelude.{if◌then◌else◌}
 use Prim.Native.Nat.{ℕ, zero, suc, ◌+◌, ◌-◌, ◌*◌, ◌≤◌}
 use mathlib.Core.Path.{◌≡◌, refl, ap}
 use mathlib.Core.Bool.{Bool, true, false, ◌&&◌, ◌||◌, not, false≢true}
@@ -9,7 +10,7 @@ use lib.Dec.{eqb}
 use lib.ListN.{length, drop, length-take, length-drop, length-append, length-map}
 use lib.Seq.{take_at}
 use borrow.Author.Tests.{eqb-true, leb-true}
-use Rattle.rules.specs.Bytes.{if◌then◌else◌, byte, part, parts, int, number, all_zero}
+use Rattle.rules.specs.Bytes.{byte, part, parts, int, number, all_zero}
 use Rattle.rules.specs.Frame.{Update, Command, too_short, malformed, OPEN, CLOSE, ARBITRATE, CONFIGURE, WRITE, READ, head_at}
 use Rattle.rules.specs.Frame.{update_of, query_of, head_fits, stream_fits, stream_formed, arbitrate_formed, configure_formed}
 use Rattle.rules.specs.Frame.{write_formed, read_formed, configure_of, write_of, read_frame, on_streams, on_pipeline, on_tables}

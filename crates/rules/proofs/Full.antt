@@ -1,5 +1,6 @@
 -- No list of calls reaches 24: what is stored is within the sizes of the rows, these add to 256 at most, and so an INSERT that passes 22
 -- finds fewer than 256 entries. Judges that agree wherever the tables are sound leave and answer the same. Assumes nothing.
+use Rattle.std.specs.Prelude.{if◌then◌else◌}
 use Prim.Native.Nat.{ℕ, zero, suc, ◌+◌, ◌*◌, ◌<◌}
 use mathlib.Core.Path.{◌≡◌, refl, sym, ◌∙◌, ap, subst}
 use mathlib.Core.Bool.{Bool, true, false, ◌&&◌, not}
@@ -10,7 +11,7 @@ use native.Mathlib.Omega.{arith}
 use lib.Dec.{eqb, leb}
 use lib.ListN.{length, take, drop, set, replicate}
 use borrow.Author.Tests.{eqb-true, eqb-false, ne_eqb, leb-false, lt-leb, not-false, not-true}
-use Rattle.rules.specs.Bytes.{if◌then◌else◌, byte, every, concat, bytes_of}
+use Rattle.rules.specs.Bytes.{byte, every, concat, bytes_of}
 use Rattle.rules.specs.Reason.{first, code_of}
 use Rattle.rules.specs.Frame.{Head, Update, Command, too_short, malformed, WRITE, READ, on_streams, on_pipeline, on_tables}
 use Rattle.rules.specs.Row.{Row, rows_allowed, known, row_for}

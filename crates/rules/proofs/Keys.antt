@@ -1,5 +1,6 @@
 -- Keys are compared as numbers after every list of calls: what is stored is bytes and passed 17, so that its shortest forms are
 -- equal where its numbers are, and keys of different tables differ in both. Assumes nothing.
+use Rattle.std.specs.Prelude.{if◌then◌else◌}
 use Prim.Native.Nat.{ℕ, ◌+◌, ◌≤◌}
 use mathlib.Core.Path.{◌≡◌, refl, sym, ap, ap₂, ◌∙◌, subst}
 use mathlib.Core.Bool.{Bool, true, false, ◌&&◌, ◌||◌, not, true≢false, false≢true}
@@ -9,7 +10,7 @@ use native.Mathlib.Omega.{arith}
 use lib.Dec.{eqb, leb}
 use lib.ListN.{length, length-take}
 use borrow.Author.Tests.{eqb-true, eqb-false, eq-eqb, ne_eqb, not-false}
-use Rattle.rules.specs.Bytes.{if◌then◌else◌, between, keep, every, some_of, concat, all_bytes, same}
+use Rattle.rules.specs.Bytes.{between, keep, every, some_of, concat, all_bytes, same}
 use Rattle.rules.specs.Reason.{first}
 use Rattle.rules.specs.Frame.{Head, Update, Query, WRITE, READ, on_tables}
 use Rattle.rules.specs.Row.{Row, known, row_for, may_write}

@@ -1,5 +1,6 @@
 -- The rules and looking back agree: the entries stored are at each call the entries present, and so is every answer.
 -- Assumes nothing.
+use Rattle.std.specs.Prelude.{if◌then◌else◌}
 use Prim.Native.Nat.{ℕ, ◌+◌, ◌≤◌}
 use mathlib.Core.Path.{◌≡◌, refl, sym, ◌∙◌, ap, ap₂, fun_ext, subst}
 use mathlib.Core.Bool.{Bool, true, false, ◌&&◌, ◌||◌, not, and-true, or-false as or-none}
@@ -10,7 +11,7 @@ use native.Mathlib.Omega.{arith}
 use lib.Dec.{eqb}
 use lib.ListN.{length, replicate}
 use borrow.Author.Tests.{eqb-true, eq-eqb}
-use Rattle.rules.specs.Bytes.{if◌then◌else◌, keep, every, concat, same}
+use Rattle.rules.specs.Bytes.{keep, every, concat, same}
 use Rattle.rules.specs.Reason.{first}
 use Rattle.rules.specs.Frame.{Head, Update, Query, Command, too_short, malformed, OPEN, CLOSE}
 use Rattle.rules.specs.Frame.{ARBITRATE, CONFIGURE, WRITE, READ, on_streams, on_pipeline, on_tables}

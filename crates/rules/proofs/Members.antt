@@ -1,11 +1,12 @@
 -- Lists: tests along them, their members, and the order they are in. Two lists of the same members are equal where the relation
 -- that orders them cannot run both ways. Assumes nothing.
+use Rattle.std.specs.Prelude.{if◌then◌else◌}
 use Prim.Native.Nat.{ℕ}
 use mathlib.Core.Path.{◌≡◌, refl, sym, ◌∙◌, ap, ap₂, subst}
 use mathlib.Core.Bool.{Bool, true, false, ◌||◌, false≢true}
 use mathlib.Core.Logic.{◌⊎◌, inl, inr, ⊎_elim, ◌↔◌}
 use mathlib.Core.List.{List, [], ◌∷◌, ◌++◌, map}
-use Rattle.rules.specs.Bytes.{if◌then◌else◌, keep, every, some_of}
+use Rattle.rules.specs.Bytes.{keep, every, some_of}
 use Rattle.rules.specs.Presence.{In, Ordered}
 use Rattle.rules.proofs.Tests.{contradiction, or-false, and-true, some-append}
 

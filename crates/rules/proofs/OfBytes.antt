@@ -1,5 +1,6 @@
 -- Calls whose frames are bytes leave entries that are bytes: shortening keeps bytes, and nothing is stored but shortest forms of
 -- what was in a frame. Assumes nothing.
+use Rattle.std.specs.Prelude.{if◌then◌else◌}
 use Prim.Native.Nat.{ℕ, zero, suc, ◌+◌, ◌-◌, ◌≤◌}
 use mathlib.Core.Path.{◌≡◌, refl}
 use mathlib.Core.Bool.{Bool, true, false}
@@ -8,7 +9,7 @@ use native.Mathlib.Omega.{arith}
 use lib.Dec.{eqb, ltb}
 use lib.ListN.{length, take, drop, replicate, length-take}
 use borrow.Author.Tests.{lt-ltb}
-use Rattle.rules.specs.Bytes.{if◌then◌else◌, every, concat, byte, part, parts, all_bytes}
+use Rattle.rules.specs.Bytes.{every, concat, byte, part, parts, all_bytes}
 use Rattle.rules.specs.Frame.{Update, Command, too_short, malformed, CONFIGURE, WRITE}
 use Rattle.rules.specs.Frame.{READ, update_of, write_of, configure_of, read_frame, on_streams, on_pipeline, on_tables}
 use Rattle.rules.specs.Value.{stripped, short}

@@ -1,5 +1,6 @@
 -- With only 1 a READ shows the entry of its key among all that are stored: its table has one row, and no entry of another table
 -- has the key. Assumes nothing.
+use Rattle.std.specs.Prelude.{if◌then◌else◌}
 use Prim.Native.Nat.{ℕ}
 use mathlib.Core.Path.{◌≡◌, refl, sym, ◌∙◌, ap, fun_ext}
 use mathlib.Core.Bool.{Bool, true, false, ◌&&◌, ◌||◌, not, false≢true}
@@ -7,7 +8,7 @@ use mathlib.Core.List.{List, [], ◌∷◌, map, append-nil}
 use native.Mathlib.Omega.{arith}
 use lib.Dec.{eqb}
 use borrow.Author.Tests.{eqb-true, eq-eqb, ne_eqb, not-false}
-use Rattle.rules.specs.Bytes.{if◌then◌else◌, keep, some_of, distinct}
+use Rattle.rules.specs.Bytes.{keep, some_of, distinct}
 use Rattle.rules.specs.Frame.{Query, READ, on_tables}
 use Rattle.rules.specs.Row.{Row, known, row_for}
 use Rattle.rules.specs.Key.{table_of, key_of, has_key, short_key}

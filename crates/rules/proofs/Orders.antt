@@ -1,6 +1,7 @@
 -- Laws of an order of refusals: one serves where a call is accepted, one where a reason cannot be given, and some where the order is
 -- taken in two parts.
 -- Assumes nothing.
+use Rattle.std.specs.Prelude.{if◌then◌else◌}
 use Prim.Native.Nat.{ℕ, ◌≤◌, ◌<◌}
 use mathlib.Core.Path.{◌≡◌, refl, sym, ◌∙◌}
 use mathlib.Core.Bool.{Bool, true, false, ◌&&◌, not, true≢false}
@@ -8,7 +9,7 @@ use mathlib.Core.List.{List, [], ◌∷◌, ◌++◌}
 use native.Mathlib.Omega.{arith}
 use lib.Dec.{eqb, leb, ltb}
 use borrow.Author.Tests.{eqb-false, eq-eqb, ne_eqb, leb-true, ltb-true, not-true}
-use Rattle.rules.specs.Bytes.{if◌then◌else◌, every}
+use Rattle.rules.specs.Bytes.{every}
 use Rattle.rules.specs.Reason.{first}
 use Rattle.rules.proofs.Tests.{and-true}
 

@@ -1,5 +1,6 @@
 -- The pairs of a WRITE: an update has (0, 0) exactly when it took effect, and looking back counts exactly those updates.
 -- Assumes nothing.
+use Rattle.std.specs.Prelude.{if◌then◌else◌}
 use Prim.Native.Nat.{ℕ, suc, ◌+◌, ◌*◌}
 use mathlib.Core.Path.{◌≡◌, refl, sym, ◌∙◌, ap, ap₂}
 use mathlib.Core.Bool.{Bool, true, false, ◌&&◌, not, false≢true}
@@ -10,7 +11,7 @@ use lib.Dec.{eqb}
 use lib.ListN.{length}
 use lib.Seq.{drop_at}
 use borrow.Author.Tests.{eqb-true, eqb-false, eq-eqb, not-false}
-use Rattle.rules.specs.Bytes.{if◌then◌else◌, concat, bytes_of}
+use Rattle.rules.specs.Bytes.{concat, bytes_of}
 use Rattle.rules.specs.Reason.{code_of, pairs}
 use Rattle.rules.specs.Frame.{Head, Update, WRITE, on_tables}
 use Rattle.rules.specs.Answer.{answer_bytes, reply_of}

@@ -1,6 +1,7 @@
 -- The list that `present` computes is the one that document 01's sentences on presence describe: each effect more keeps the
 -- description true, and two lists so described are equal, because the order of the latest INSERTs cannot run both ways.
 -- Assumes nothing.
+use Rattle.std.specs.Prelude.{if◌then◌else◌}
 use Prim.Native.Nat.{ℕ}
 use mathlib.Core.Path.{◌≡◌, refl, sym, ◌∙◌, ap, subst}
 use mathlib.Core.Bool.{Bool, true, false, not, true≢false, false≢true}
@@ -9,7 +10,7 @@ use mathlib.Core.List.{List, [], ◌∷◌, ◌++◌, map, append_assoc}
 use lib.Dec.{eqb}
 use lib.ListN.{length}
 use borrow.Author.Tests.{eqb-true, not-true}
-use Rattle.rules.specs.Bytes.{if◌then◌else◌, some_of, same}
+use Rattle.rules.specs.Bytes.{some_of, same}
 use Rattle.rules.specs.Frame.{Update, Command, too_short, malformed, OPEN, CLOSE, ARBITRATE}
 use Rattle.rules.specs.Frame.{CONFIGURE, WRITE, READ, on_streams, on_pipeline, on_tables}
 use Rattle.rules.specs.Key.{key_of, has_key, short_key}

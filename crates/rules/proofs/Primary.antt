@@ -1,5 +1,6 @@
 -- Only the live primary changes entries: 10 lets through an id only if it is the mark and a stream holds it; the mark is the
 -- highest id accepted, and no two streams of a role hold one id. Assumes nothing.
+use Rattle.std.specs.Prelude.{if◌then◌else◌}
 use Prim.Native.Nat.{ℕ, ◌<◌, max}
 use mathlib.Core.Path.{◌≡◌, refl, sym, ◌∙◌, ap, subst}
 use mathlib.Core.Bool.{Bool, true, false}
@@ -7,7 +8,6 @@ use mathlib.Core.List.{List, [], ◌∷◌, map}
 use native.Mathlib.Omega.{arith}
 use lib.Dec.{eqb}
 use borrow.Author.Tests.{eqb-true, not-false}
-use Rattle.rules.specs.Bytes.{if◌then◌else◌}
 use Rattle.rules.specs.Frame.{Query, Command, too_short, malformed, OPEN, CLOSE, ARBITRATE}
 use Rattle.rules.specs.Frame.{CONFIGURE, WRITE, READ, on_streams, on_pipeline, on_tables}
 use Rattle.rules.specs.Streams.{closed, bound, Streams, stream_at, mark_of, by_primary, open_stream, close_stream, arbitrate}

@@ -1,11 +1,12 @@
 -- A refused call leaves the agent alone: every change but the closing of a stream is made only where the reason is 0.
 -- Assumes nothing.
+use Rattle.std.specs.Prelude.{if◌then◌else◌}
 use Prim.Native.Nat.{ℕ}
 use mathlib.Core.Path.{◌≡◌, refl, sym, ap, ◌∙◌}
 use mathlib.Core.Bool.{Bool, true, false}
 use lib.Dec.{eqb}
 use borrow.Author.Tests.{ne_eqb}
-use Rattle.rules.specs.Bytes.{if◌then◌else◌, between}
+use Rattle.rules.specs.Bytes.{between}
 use Rattle.rules.specs.Frame.{OPEN, CLOSE, ARBITRATE, PipelineCommand, CONFIGURE, TableCommand, WRITE}
 use Rattle.rules.specs.Frame.{READ, Command, too_short, malformed, on_streams, on_pipeline, on_tables}
 use Rattle.rules.specs.Streams.{Streams, become, closed, open_stream, close_stream, arbitrate}

@@ -1,11 +1,12 @@
 -- Only a call whose buffers are too short is answered with 2: what any other call answers is written. Assumes nothing.
+use Rattle.std.specs.Prelude.{if◌then◌else◌}
 use Prim.Native.Nat.{ℕ}
 use mathlib.Core.Path.{◌≡◌, refl}
 use mathlib.Core.Bool.{Bool, true, false}
 use native.Mathlib.Omega.{arith}
 use lib.Dec.{eqb}
 use borrow.Author.Tests.{ne_eqb}
-use Rattle.rules.specs.Bytes.{if◌then◌else◌, every}
+use Rattle.rules.specs.Bytes.{every}
 use Rattle.rules.specs.Reason.{first}
 use Rattle.rules.specs.Frame.{Command, too_short, malformed, OPEN, CLOSE, ARBITRATE, CONFIGURE, WRITE, READ, on_streams, on_pipeline, on_tables}
 use Rattle.rules.specs.Streams.{Stream, closed, unbound, bound, order_of, stream_at, open_stream, close_stream, arbitrate_reason, arbitrate}

@@ -1,4 +1,5 @@
 -- A batch with atomicity 1 is the one with atomicity 0 where no update fails, and leaves the tables where one does. Assumes nothing.
+use Rattle.std.specs.Prelude.{if◌then◌else◌}
 use Prim.Native.Nat.{ℕ}
 use mathlib.Core.Path.{◌≡◌, refl, sym, ◌∙◌, ap}
 use mathlib.Core.Bool.{Bool, true, false}
@@ -8,7 +9,7 @@ use native.Mathlib.Omega.{arith}
 use lib.Dec.{eqb}
 use lib.ListN.{length, replicate}
 use borrow.Author.Tests.{eqb-true, eqb-false, eq-eqb, ne_eqb}
-use Rattle.rules.specs.Bytes.{if◌then◌else◌, every}
+use Rattle.rules.specs.Bytes.{every}
 use Rattle.rules.specs.Frame.{Update}
 use Rattle.rules.specs.Row.{Row}
 use Rattle.rules.specs.Update.{Tables, Judge, judge, apply, Batch, each_alone, one_further, failure, rolled_back, unless_failed, all_or_none, batch}

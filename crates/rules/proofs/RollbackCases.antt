@@ -1,11 +1,11 @@
 -- The worked cases of batches that roll back hold because the definitions compute to them. Assumes nothing.
+use Rattle.std.specs.Prelude.{if◌then◌else◌}
 use mathlib.Core.Path.{◌≡◌, refl, sym, ap, ◌∙◌}
 use mathlib.Core.List.{List, [], ◌∷◌, ◌++◌, map}
 use mathlib.Core.Option.{Option, some}
 use Prim.Native.Nat.{ℕ, zero, suc}
 use lib.Dec.{eqb}
 use lib.ListN.{replicate}
-use Rattle.rules.specs.Bytes.{if◌then◌else◌}
 use Rattle.rules.specs.Frame.{Head, Update, update_of, WRITE, Command, on_tables}
 use Rattle.rules.specs.Row.{Row, row_of}
 use Rattle.rules.specs.Update.{Tables, Batch, judge, apply, one_further, failure, unless_failed, each_alone, all_or_none, batch}

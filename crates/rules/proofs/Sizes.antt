@@ -1,5 +1,6 @@
 -- An answer is at most 56,324 bytes: at most 32 notifications of 20, at most 64 pairs, or at most 256 entries of 220, since the
 -- tables that a READ shows hold at most their sizes, which add to 256. Assumes nothing.
+use Rattle.std.specs.Prelude.{if◌then◌else◌}
 use Prim.Native.Nat.{ℕ, zero, suc, ◌+◌, ◌*◌, ◌/◌, ◌%◌, ◌≤◌}
 use mathlib.Core.Path.{◌≡◌, refl, ◌∙◌}
 use mathlib.Core.Bool.{Bool, true, false}
@@ -9,7 +10,7 @@ use native.Mathlib.Nat.{le_trans, le_of_eq, mul-le-mul}
 use native.Mathlib.Omega.{arith}
 use lib.Dec.{eqb}
 use lib.ListN.{length, replicate, length-append, length-map, length-set, length-replicate}
-use Rattle.rules.specs.Bytes.{if◌then◌else◌, keep, concat, sum, between, number_from, int, bytes_of}
+use Rattle.rules.specs.Bytes.{keep, concat, sum, between, number_from, int, bytes_of}
 use Rattle.rules.specs.Frame.{Head, Update, Query, Command, too_short, malformed, OPEN, CLOSE}
 use Rattle.rules.specs.Frame.{ARBITRATE, WRITE, READ, on_streams, on_pipeline, on_tables}
 use Rattle.rules.specs.Streams.{Stream, closed, unbound, bound, Streams, numbers, in_role, members, mark_of, notice_of}

@@ -1,11 +1,12 @@
 -- Every list of calls leaves a sound agent: a fresh one is sound, and no call breaks it. Assumes nothing.
+use Rattle.std.specs.Prelude.{if◌then◌else◌}
 use Prim.Native.Nat.{ℕ, ◌≤◌}
 use mathlib.Core.Path.{◌≡◌, refl}
 use mathlib.Core.Bool.{Bool, true, false}
 use mathlib.Core.List.{List, [], ◌∷◌, map}
 use native.Mathlib.Omega.{arith}
 use borrow.Author.Tests.{eqb-true, not-false}
-use Rattle.rules.specs.Bytes.{if◌then◌else◌, every}
+use Rattle.rules.specs.Bytes.{every}
 use Rattle.rules.specs.Frame.{Head, Update, Command, too_short, malformed}
 use Rattle.rules.specs.Frame.{CONFIGURE, WRITE, READ, on_streams, on_pipeline, on_tables}
 use Rattle.rules.specs.Streams.{mark_of}

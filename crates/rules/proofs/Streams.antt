@@ -1,5 +1,6 @@
 -- No event breaks what is sound of streams and marks: an ARBITRATE binds only an id that no other stream of the role holds, and
 -- the mark rises with it. Assumes nothing.
+use Rattle.std.specs.Prelude.{if◌then◌else◌}
 use Prim.Native.Nat.{ℕ, zero, suc, ◌+◌, ◌≤◌, ◌<◌, max}
 use mathlib.Core.Path.{◌≡◌, refl, sym, ap, subst, ◌∙◌}
 use mathlib.Core.Bool.{Bool, true, false, ◌&&◌, not, false≢true}
@@ -12,7 +13,7 @@ use lib.Dec.{eqb}
 use lib.Seq.{get_or-set_same, get_or-set_other}
 use lib.ListN.{length, get_or, set, length-set, replicate}
 use borrow.Author.Tests.{eqb-true, eqb-false, ltb-false, ne_eqb, eq-eqb, not-true, not-false}
-use Rattle.rules.specs.Bytes.{if◌then◌else◌, between, some_of}
+use Rattle.rules.specs.Bytes.{between, some_of}
 use Rattle.rules.specs.Reason.{first}
 use Rattle.rules.specs.Frame.{Head}
 use Rattle.rules.specs.Streams.{Stream, closed, unbound, bound, Streams, no_streams, stream_at, mark_of, holds}

@@ -1,5 +1,6 @@
 -- No update breaks what is sound of the entries: an INSERT passes 15, 20 and 22, a MODIFY keeps every key, both store what passed 17
 -- to 19, and a DELETE only takes away. Assumes nothing.
+use Rattle.std.specs.Prelude.{if◌then◌else◌}
 use Prim.Native.Nat.{ℕ, suc, ◌+◌, ◌≤◌, ◌<◌}
 use mathlib.Core.Path.{◌≡◌, refl, sym, ◌∙◌, ap}
 use mathlib.Core.Bool.{Bool, true, false, ◌&&◌, ◌||◌, not, false≢true}
@@ -8,7 +9,7 @@ use native.Mathlib.Omega.{arith}
 use lib.Dec.{eqb, leb}
 use lib.ListN.{length, length-map}
 use borrow.Author.Tests.{eqb-true, eqb-false, eq-eqb, ne_eqb, leb-false, not-false}
-use Rattle.rules.specs.Bytes.{if◌then◌else◌, keep, every, some_of, distinct}
+use Rattle.rules.specs.Bytes.{keep, every, some_of, distinct}
 use Rattle.rules.specs.Frame.{Update}
 use Rattle.rules.specs.Row.{Row, rows_allowed, known, row_for}
 use Rattle.rules.specs.Key.{table_of, key_formed, key_fits, key_rules, key_of, has_key, short_key}

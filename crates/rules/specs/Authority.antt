@@ -1,7 +1,7 @@
 -- Who may change entries, read off a list of calls: the highest id, what each stream holds, and the live primary
 -- (document 01, "Looking back"). Assumes nothing.
-use Rattle.std.specs.Prelude.{◌≡◌, true, ◌&&◌, List, [], ◌∷◌, ℕ, ◌<◌, max, eqb}
-use Rattle.rules.specs.Bytes.{if◌then◌else◌, between}
+use Rattle.std.specs.Prelude.{◌≡◌, true, ◌&&◌, List, [], ◌∷◌, ℕ, ◌<◌, max, eqb, if◌then◌else◌}
+use Rattle.rules.specs.Bytes.{between}
 use Rattle.rules.specs.Frame.{Query, StreamEvent, OPEN, CLOSE, ARBITRATE, CONFIGURE, WRITE, READ}
 use Rattle.rules.specs.Frame.{Command, too_short, malformed, on_streams, on_pipeline, on_tables}
 use Rattle.rules.specs.Streams.{Stream, closed, unbound, bound}

@@ -2,8 +2,8 @@
 -- answers, found from what took effect and not from what an agent stores.
 -- Shared with the rules: the orders of refusals, what calls make of streams, marks and rows, and `judge` of one update. Defined
 -- here, from the effects alone: the entries present, a batch, the pairs of a WRITE, the records of a READ. Assumes nothing.
-use Rattle.std.specs.Prelude.{Bool, true, false, ◌&&◌, ◌||◌, not, List, [], ◌∷◌, ◌++◌, map, ℕ, eqb}
-use Rattle.rules.specs.Bytes.{if◌then◌else◌, keep, same}
+use Rattle.std.specs.Prelude.{Bool, true, false, ◌&&◌, ◌||◌, not, List, [], ◌∷◌, ◌++◌, map, ℕ, eqb, if◌then◌else◌}
+use Rattle.rules.specs.Bytes.{keep, same}
 use Rattle.rules.specs.Frame.{Update, Query, CONFIGURE, WRITE, READ, Command, too_short, malformed, on_streams, on_pipeline, on_tables}
 use Rattle.rules.specs.Row.{Row, may_write}
 use Rattle.rules.specs.Key.{table_of, short_key, key_of}

@@ -1,7 +1,7 @@
 -- What a refused call leaves: entries, configuration and remembered ids as they were; only a refused ARBITRATE (5 to 9) closes
 -- a stream, its own (document 01, "Who brings a refusal about"). Assumes nothing.
-use Rattle.std.specs.Prelude.{◌≡◌, ℕ}
-use Rattle.rules.specs.Bytes.{if◌then◌else◌, between}
+use Rattle.std.specs.Prelude.{◌≡◌, ℕ, if◌then◌else◌}
+use Rattle.rules.specs.Bytes.{between}
 use Rattle.rules.specs.Frame.{StreamEvent, OPEN, CLOSE, ARBITRATE, Command, too_short, malformed, on_streams, on_pipeline, on_tables}
 use Rattle.rules.specs.Streams.{Streams, closed, become}
 use Rattle.rules.specs.Call.{State, refusal, next}

@@ -1,7 +1,7 @@
 -- What a batch with atomicity 1 leaves and answers, beside the same batch with atomicity 0; and which updates of a batch looking
 -- back counts (document 02, request Two). Assumes nothing.
-use Rattle.std.specs.Prelude.{◌≡◌, Bool, true, List, [], ◌∷◌, ◌++◌, ℕ, eqb, length, replicate}
-use Rattle.rules.specs.Bytes.{if◌then◌else◌, every}
+use Rattle.std.specs.Prelude.{◌≡◌, Bool, true, List, [], ◌∷◌, ◌++◌, ℕ, eqb, length, replicate, if◌then◌else◌}
+use Rattle.rules.specs.Bytes.{every}
 use Rattle.rules.specs.Frame.{Head, Update, WRITE, on_tables}
 use Rattle.rules.specs.Row.{Row}
 use Rattle.rules.specs.Update.{Tables, judge, Batch, batch}

@@ -1,5 +1,6 @@
 -- Where the first entry of a key is, and what changing, removing or keeping the entries of that key comes to: right because
 -- keys are distinct, so that no entry after it has the key. Assumes nothing.
+use Rattle.std.specs.Prelude.{if◌then◌else◌}
 use Prim.Native.Nat.{ℕ, zero, suc, ◌+◌, ◌<◌}
 use native.Mathlib.Nat.{zero-add}
 use native.Mathlib.Omega.{arith}
@@ -8,7 +9,7 @@ use mathlib.Core.Bool.{Bool, true, false, not, ◌||◌}
 use mathlib.Core.List.{List, [], ◌∷◌, map}
 use mathlib.Core.Option.{none, some}
 use lib.ListN.{length, get_or, set}
-use Rattle.rules.specs.Bytes.{if◌then◌else◌, keep, some_of}
+use Rattle.rules.specs.Bytes.{keep, some_of}
 use Rattle.rules.specs.Key.{key_of, has_key}
 use Rattle.rules.specs.Update.{stored}
 use Rattle.rules.specs.Sound.{Distinct}

@@ -1,5 +1,6 @@
 -- What a loop over the entries of a store has left to do before entry i, and how one turn of the loop lessens it.
 -- Assumes nothing.
+use Rattle.std.specs.Prelude.{if◌then◌else◌}
 use Prim.Native.Nat.{ℕ, zero, suc, ◌+◌, ◌*◌, ◌-◌, ◌/◌, ◌≤◌, ◌<◌, min}
 use native.Mathlib.Omega.{arith}
 use native.Mathlib.Numerals.{add-one}
@@ -11,7 +12,7 @@ use lib.Dec.{ltb}
 use lib.ListN.{length, take, drop, length-append, drop_of_length-le}
 use lib.Seq.{take_at, take_all, take-take, drop_at}
 use borrow.Author.Tests.{ltb-true, ltb-false, eq-eqb, ne_eqb}
-use Rattle.rules.specs.Bytes.{if◌then◌else◌, keep, concat, part, number, int, same}
+use Rattle.rules.specs.Bytes.{keep, concat, part, number, int, same}
 use Rattle.rules.specs.Key.{table_of, has_key, short_key, same_key}
 use Rattle.rules.specs.Update.{in_table, held as held_in}
 use Rattle.rules.proofs.Formed.{parts-count}

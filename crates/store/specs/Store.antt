@@ -1,9 +1,9 @@
 -- The entries that a store holds, by what the record knows of it, and what a change leaves of it. Entries are from the first byte
 -- in order of insertion (document 01, "Frames"). Assumes nothing.
-use Rattle.std.specs.Prelude.{◌≡◌, List, [], ◌∷◌, ◌++◌, ℕ, suc, ◌+◌, ◌*◌, ◌≤◌, ◌<◌, length, take, drop, get_or, set}
+use Rattle.std.specs.Prelude.{◌≡◌, List, [], ◌∷◌, ◌++◌, ℕ, suc, ◌+◌, ◌*◌, ◌≤◌, ◌<◌, length, take, drop, get_or, set, if◌then◌else◌}
 use Rattle.std.proofs.Math.Option.{Option, none, some}
 use Rattle.rules.specs.Frame.{entry_size, key_size}
-use Rattle.rules.specs.Bytes.{if◌then◌else◌, keep, part, parts}
+use Rattle.rules.specs.Bytes.{keep, part, parts}
 use Rattle.buffers.specs.Word.{little_endian}
 use Rattle.rules.specs.Key.{has_key}
 use Rattle.rules.specs.Update as rules

@@ -1,4 +1,5 @@
 -- A READ: its order, its query in the frame, and the entries shown. Assumes nothing.
+use Rattle.std.specs.Prelude.{if◌then◌else◌}
 use Prim.Native.Nat.{ℕ, ◌*◌, ◌-◌, ◌≤◌}
 use native.Mathlib.Omega.{arith}
 use mathlib.Core.Path.{◌≡◌, refl, sym, ap, ap₂, ◌∙◌, subst}
@@ -9,7 +10,7 @@ use lib.ListN.{length, take, drop, length-take, length-drop, length-append}
 use lib.Seq.{take_all, take_at}
 use borrow.Author.Tests.{eqb-true, eq-eqb}
 use borrow.Rule.Slice.PartMut.{put_mid}
-use Rattle.rules.specs.Bytes.{if◌then◌else◌, concat, number, part, bytes_of}
+use Rattle.rules.specs.Bytes.{concat, number, part, bytes_of}
 use Rattle.rules.specs.Reason.{first, code_of}
 use Rattle.rules.specs.Frame as rules
 use Rattle.rules.specs.Frame.{READ, on_tables}

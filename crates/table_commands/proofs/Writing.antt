@@ -1,4 +1,5 @@
 -- A WRITE: its order, what its batch leaves, and its answer. Assumes nothing.
+use Rattle.std.specs.Prelude.{if◌then◌else◌}
 use Prim.Native.Nat.{ℕ, ◌+◌, ◌-◌, ◌*◌, ◌≤◌}
 use native.Mathlib.Omega.{arith}
 use mathlib.Core.Path.{◌≡◌, refl, sym, ap, ◌∙◌, subst}
@@ -8,7 +9,7 @@ use lib.Dec.{eqb, ltb}
 use lib.ListN.{length, take, drop, length-map, length-drop}
 use borrow.Rule.Slice.PartMut.{put_mid}
 use borrow.Author.Tests.{eq-eqb}
-use Rattle.rules.specs.Bytes.{if◌then◌else◌, every, bytes_of, parts, concat}
+use Rattle.rules.specs.Bytes.{every, bytes_of, parts, concat}
 use Rattle.rules.specs.Reason.{first, code_of}
 use Rattle.rules.specs.Frame.{Head, Update, WRITE, Command, on_tables, update_size, update_of}
 use Rattle.rules.specs.Streams as streams

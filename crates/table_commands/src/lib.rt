@@ -2,8 +2,7 @@
 // (document 01, "Configuration and entries", and 5, 6, 10, 12, 13).
 #![tactic(auto)]
 
-ghost use Rattle.std.specs.Prelude.{◌≡◌, not, [], ◌∷◌, ◌++◌, ◌≤◌, ltb, length};
-ghost use Rattle.rules.specs.Bytes.{if◌then◌else◌};
+ghost use Rattle.std.specs.Prelude.{◌≡◌, not, [], ◌∷◌, ◌++◌, ◌≤◌, ltb, length, if◌then◌else◌};
 ghost use Rattle.rules.specs.Reason.{first};
 ghost use Rattle.rules.specs.Frame.{on_tables};
 ghost use Rattle.rules.specs.Streams.{address_order};

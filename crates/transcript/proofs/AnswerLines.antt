@@ -1,5 +1,6 @@
 -- The line printed of an answer's bytes is the line of the rules' answer: the records have the size that the command says, so
 -- the bytes are cut into the records that were written. Assumes nothing.
+use Rattle.std.specs.Prelude.{if◌then◌else◌}
 use Prim.Native.Nat.{ℕ, ◌+◌, ◌*◌, ◌/◌, ◌%◌, ◌≤◌}
 use native.Mathlib.Nat.{mul-le-mul}
 use native.Mathlib.Omega.{arith}
@@ -10,7 +11,7 @@ use lib.Dec.{eqb, lit≤}
 use lib.ListN.{length, drop, length-append}
 use lib.Seq.{take_at, drop_at}
 use borrow.Author.Tests.{le-leb}
-use Rattle.rules.specs.Bytes.{if◌then◌else◌, concat, byte, int, parts, bytes_of}
+use Rattle.rules.specs.Bytes.{concat, byte, int, parts, bytes_of}
 use Rattle.rules.specs.Frame.{Update, PipelineCommand, Command, malformed, OPEN, CLOSE, ARBITRATE, CONFIGURE, WRITE, READ}
 use Rattle.rules.specs.Frame.{on_streams, on_pipeline, on_tables, head_at, query_of, update_of, configure_of, write_of, read_frame}
 use Rattle.rules.specs.Frame.{formed, stream_formed, arbitrate_formed, configure_formed, write_formed, read_formed}

@@ -1,5 +1,6 @@
 -- An input is cut into the same frames whether it comes whole or in pieces: a frame that is whole stays the first whatever comes
 -- after it. Assumes nothing.
+use Rattle.std.specs.Prelude.{if◌then◌else◌}
 use Prim.Native.Nat.{ℕ, ◌+◌, ◌-◌, ◌≤◌}
 use native.Mathlib.Omega.{arith}
 use mathlib.Core.Path.{◌≡◌, refl, sym, ap, ap₂, subst, ◌∙◌}
@@ -10,7 +11,7 @@ use lib.Dec.{leb}
 use lib.ListN.{length, take, drop, length-append, length-drop}
 use lib.Seq.{take-append-le, drop-append-le, length-take-le, drop-drop}
 use borrow.Author.Tests.{leb-true}
-use Rattle.rules.specs.Bytes.{if◌then◌else◌, int, part, number}
+use Rattle.rules.specs.Bytes.{int, part, number}
 use Rattle.rules.proofs.Tests.{and-true}
 use Rattle.transcript.specs.Input.{first_frame, Begins, CutAt, InPieces}
 use Rattle.transcript.proofs.Input.{whole}

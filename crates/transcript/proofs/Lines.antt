@@ -1,4 +1,5 @@
 -- What a line is made of, piece by piece: digits, bytes in hex, records, and the lengths of all of them. Assumes nothing.
+use Rattle.std.specs.Prelude.{if◌then◌else◌}
 use Prim.Native.Nat.{ℕ, zero, suc, ◌+◌, ◌*◌, ◌-◌, ◌/◌, ◌%◌, ◌≤◌, ◌<◌}
 use native.Mathlib.Nat.{mul-suc}
 use native.Mathlib.Numerals.{add-one}
@@ -10,7 +11,7 @@ use lib.Dec.{ltb}
 use lib.ListN.{length, drop, get_or, length-append, drop_of_length-le}
 use lib.Seq.{drop-cons}
 use borrow.Author.Tests.{lt-ltb, le-ltb}
-use Rattle.rules.specs.Bytes.{if◌then◌else◌, part, parts}
+use Rattle.rules.specs.Bytes.{part, parts}
 use Rattle.rules.proofs.Formed.{EveryLength, parts-count}
 use Rattle.rules.proofs.Lists.{parts_from}
 use Rattle.transcript.specs.Line.{digit, digits, hex, blank, field, records_hex}

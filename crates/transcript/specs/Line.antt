@@ -1,7 +1,7 @@
 -- One line of `play`: ordinal, reason, code and count in decimal, then each record in lowercase hex, a blank between
 -- (document 01, "Bench cases"). Assumes nothing.
-use Rattle.std.specs.Prelude.{Bool, ◌&&◌, List, [], ◌∷◌, ◌++◌, ℕ, zero, suc, ◌+◌, ◌*◌, ◌/◌, ◌%◌, eqb, leb, ltb, length, drop}
-use Rattle.rules.specs.Bytes.{if◌then◌else◌, byte, int, parts}
+use Rattle.std.specs.Prelude.{Bool, ◌&&◌, List, [], ◌∷◌, ◌++◌, ℕ, zero, suc, ◌+◌, ◌*◌, ◌/◌, ◌%◌, eqb, leb, ltb, length, drop, if◌then◌else◌}
+use Rattle.rules.specs.Bytes.{byte, int, parts}
 use Rattle.rules.specs.Reason.{code_of}
 use Rattle.rules.specs.Frame.{entry_size}
 use Rattle.rules.specs.Answer.{Answer}

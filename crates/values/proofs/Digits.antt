@@ -1,4 +1,5 @@
 -- Stripping a part of a value is walking over its leading zeros, up to its last byte. Assumes nothing.
+use Rattle.std.specs.Prelude.{if◌then◌else◌}
 use Prim.Native.Nat.{ℕ, suc, ◌<◌, ◌≤◌}
 use native.Mathlib.Nat.{add-zero}
 use native.Mathlib.Omega.{arith}
@@ -9,7 +10,7 @@ use lib.Dec.{eqb}
 use lib.ListN.{length, drop}
 use lib.Seq.{drop-cons, take_all}
 use borrow.Author.Tests.{eqb-true, eq-eqb, ne_eqb}
-use Rattle.rules.specs.Bytes.{if◌then◌else◌, byte, part}
+use Rattle.rules.specs.Bytes.{byte, part}
 use Rattle.rules.specs.Value.{stripped}
 use Rattle.rules.proofs.Lists.{byte-part}
 

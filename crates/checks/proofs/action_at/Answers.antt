@@ -1,4 +1,5 @@
 -- Right because what is left of the actions begins with the one at the index. Assumes nothing.
+use Rattle.std.specs.Prelude.{if◌then◌else◌}
 use Prim.Native.Nat.{ℕ, ◌+◌, ◌*◌}
 use native.Mathlib.Omega.{arith}
 use mathlib.Core.Path.{◌≡◌, refl, sym, ap, ◌∙◌}
@@ -6,7 +7,7 @@ use mathlib.Core.Bool.{Bool, ◌||◌, false≢true}
 use lib.ListN.{drop}
 use lib.Dec.{eqb}
 use borrow.Author.Tests.{eq-eqb, ne_eqb}
-use Rattle.rules.specs.Bytes.{if◌then◌else◌, part}
+use Rattle.rules.specs.Bytes.{part}
 use Rattle.rules.specs.Entry.{has_action, widths_of}
 use Rattle.rows.specs.Meaning.{row_of, action_of}
 use Rattle.checks.specs.Tests.{widths_at}

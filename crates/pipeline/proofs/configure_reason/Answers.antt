@@ -1,8 +1,9 @@
 -- Right because 5, 6, 11 and 10 come first, and then 14 alone is left. Assumes nothing.
+use Rattle.std.specs.Prelude.{if◌then◌else◌}
 use mathlib.Core.Path.{◌≡◌, refl, sym, ◌∙◌}
 use lib.Dec.{eqb}
 use borrow.Author.Tests.{eq-eqb, ne_eqb}
-use Rattle.rules.specs.Bytes.{if◌then◌else◌, parts}
+use Rattle.rules.specs.Bytes.{parts}
 use Rattle.rules.specs.Row as row
 use Rattle.rules.specs.Call.{configure_reason}
 use Rattle.election.specs.Meaning.{head_of}

@@ -1,11 +1,11 @@
 -- Right because each way out is one way through the order, and the entries written are those shown. Assumes nothing.
+use Rattle.std.specs.Prelude.{if◌then◌else◌}
 use Prim.Native.Nat.{ℕ}
 use native.Mathlib.Omega.{arith}
 use mathlib.Core.Path.{◌≡◌, refl, ◌∙◌}
 use lib.Dec.{eqb}
 use lib.ListN.{length-take, length-drop}
 use borrow.Author.Tests.{ne_eqb}
-use Rattle.rules.specs.Bytes.{if◌then◌else◌}
 use Rattle.rules.specs.Frame.{READ}
 use Rattle.rules.specs.Reason.{first}
 use Rattle.rules.specs.Call.{query_order, read_reason}

@@ -1,4 +1,5 @@
 -- Right because each arm gives what the definition gives of its bytes. Assumes nothing.
+use Rattle.std.specs.Prelude.{if◌then◌else◌}
 use Prim.Native.Nat.{ℕ, zero, suc, ◌≤◌, ◌<◌}
 use native.Mathlib.Omega.{arith}
 use mathlib.Core.Path.{◌≡◌, refl, sym, ap, ◌∙◌}
@@ -6,7 +7,7 @@ use mathlib.Core.List.{List, [], ◌∷◌}
 use lib.Dec.{eqb}
 use lib.ListN.{length}
 use borrow.Author.Tests.{ne_eqb}
-use Rattle.rules.specs.Bytes.{if◌then◌else◌, byte}
+use Rattle.rules.specs.Bytes.{byte}
 use Rattle.transcript.specs.Line.{record_size}
 use Rattle.transcript.proofs.record_size.Goals as goal
 

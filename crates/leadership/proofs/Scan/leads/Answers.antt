@@ -1,10 +1,10 @@
 -- Right because a bound stream is the primary where the mark is set and it is the mark's first holder. Assumes nothing.
+use Rattle.std.specs.Prelude.{if◌then◌else◌}
 use Prim.Native.Nat.{ℕ, ◌<◌}
 use mathlib.Core.Path.{◌≡◌, refl, sym, ap, ◌∙◌}
 use mathlib.Core.Bool.{Bool, true, false, ◌&&◌, not}
 use mathlib.Core.Option.{none}
 use lib.Dec.{eqb}
-use Rattle.rules.specs.Bytes.{if◌then◌else◌}
 use Rattle.rules.specs.Streams.{is_open, is, primary}
 use Rattle.rules.proofs.Tests.{contradiction}
 use Rattle.election.specs.declared.Binding.{Binding}

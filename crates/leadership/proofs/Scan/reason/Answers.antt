@@ -1,4 +1,5 @@
 -- Right because the tests stand in the order of the rules for what the stream is: each way out is one way through it. Assumes nothing.
+use Rattle.std.specs.Prelude.{if◌then◌else◌}
 use mathlib.Core.Path.{◌≡◌, sym, ap, ◌∙◌}
 use mathlib.Core.Bool.{◌||◌, not}
 use mathlib.Core.List.{[], ◌∷◌}
@@ -6,7 +7,6 @@ use Prim.Native.Nat.{ℕ}
 use lib.Dec.{eqb, leb}
 use lib.ListN.{length}
 use borrow.Author.Tests.{eq-eqb, ne_eqb, le-leb, lt-leb}
-use Rattle.rules.specs.Bytes.{if◌then◌else◌}
 use Rattle.rules.specs.Reason.{first}
 use Rattle.rules.specs.Streams as rules
 use Rattle.election.specs.declared.Head.{Head}
