@@ -1,5 +1,5 @@
 // Reads frames from standard input, each after a length of 2 bytes, and prints a line for each call (document 01, "Bench cases").
-// What is done with the bytes is in `session`: this program moves them between the file descriptors and the slices that it lends.
+// What is done with the bytes is in `session`: this program moves them between the standard streams and the slices that it lends.
 #![tactic(auto)]
 
 ghost use Rattle.std.specs.Prelude.{◌≡◌, ◌+◌, ◌-◌, ◌≤◌, ◌<◌, length, take, drop};
@@ -9,8 +9,8 @@ ghost use Rattle.transcript.specs.Input.{first_frame, CutAt};
 ghost use Rattle.transcript.specs.Line.{longest_line};
 ghost use Rattle.session.specs.Session.{Session};
 
-use libc::{STDIN_FILENO, STDOUT_FILENO};
 use memory::Agent;
+use std::io::Read;
 
 // What a run ends with: the agent, and the ordinal that the next call would have.
 #[derive(Clone, Copy)]
@@ -20,28 +20,34 @@ struct Ended {
 }
 
 // One read; how many bytes it gave, 0 where the input ends or the read fails.
-fn read(part: &mut [u8]) -> usize
+fn read(rt: &HostRuntime, part: &mut [u8]) -> usize
     ensures { result ≤ length part.old }
 {
-    let got = libc::read(STDIN_FILENO, part);
-    io::count(got, part)
+    rt.stdin().read(part).unwrap_or(0)
 }
 
 // Keeps the bytes of the input from `at` on, up to `filled`, at its start, and reads more after them; how many there are then.
 // What comes before `at` must be whole frames, and what is kept must hold none.
-fn refill(input: &mut [u8], at: usize, filled: usize) -> usize
+fn refill(rt: &HostRuntime, input: &mut [u8], at: usize, filled: usize) -> usize
     requires room { (at ≤ filled) × (filled ≤ length input.old) × (filled < length input.old + at) }
     requires cut { CutAt (take filled input.old) at × (first_frame (drop at (take filled input.old)) ≡ none) }
     ensures count { (filled - at ≤ result) × (result ≤ length input.old) }
     ensures kept { take (filled - at) input.new ≡ part at (filled - at) input.old }
 {
     let rest = session::compact(input, at, filled);
-    rest + read(&mut input[rest..])
+    rest + read(rt, &mut input[rest..])
 }
 
 // Makes the calls of the whole input: those at hand, then more of it, until it ends. Lines are written out before a read, so that
 // who drives the program gets each answer.
-fn run(agent: Agent, input: &mut [u8], store: &mut [u8], answer: &mut [u8], out: &mut [u8]) -> Ended
+fn run(
+    rt: &HostRuntime,
+    agent: Agent,
+    input: &mut [u8],
+    store: &mut [u8],
+    answer: &mut [u8],
+    out: &mut [u8],
+) -> Ended
     requires { (65_537 ≤ length input.old) × (longest_line ≤ length out.old) }
     ensures { Session agent 1 store.old answer.old result.agent result.ordinal store.new answer.new }
 {
@@ -54,7 +60,8 @@ fn run(agent: Agent, input: &mut [u8], store: &mut [u8], answer: &mut [u8], out:
     while turns < u64::MAX {
         let s = session::advance(state, ordinal, &input[at..filled], store, answer, out);
         let end = s.end;
-        io::write_all(STDOUT_FILENO, &out[..end]);
+        // lines that cannot be written are lost, and the calls go on
+        let _ = rt.write_all(&out[..end]);
         state = s.agent;
         ordinal = s.ordinal;
         at += s.at;
@@ -63,7 +70,7 @@ fn run(agent: Agent, input: &mut [u8], store: &mut [u8], answer: &mut [u8], out:
         }
         if s.waiting {
             let rest = filled - at;
-            filled = refill(input, at, filled);
+            filled = refill(rt, input, at, filled);
             at = 0;
             if filled == rest {
                 break;
@@ -77,10 +84,17 @@ fn run(agent: Agent, input: &mut [u8], store: &mut [u8], answer: &mut [u8], out:
     }
 }
 
-fn main() {
+fn main(rt: HostRuntime) {
     let mut input = [0u8; 131072];
     let mut store = [0u8; 56320];
     let mut answer = [0u8; 57344];
     let mut out = [0u8; 262144];
-    run(Agent::new(1), &mut input, &mut store, &mut answer, &mut out);
+    run(
+        &rt,
+        Agent::new(1),
+        &mut input,
+        &mut store,
+        &mut answer,
+        &mut out,
+    );
 }

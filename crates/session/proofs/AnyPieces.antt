@@ -1,6 +1,6 @@
 -- What is printed depends on the whole input alone: calls after calls are one list, and an input is cut into the same frames in any
 -- pieces. Assumes nothing.
-use Prim.Native.Nat.{ℕ, ◌+◌, ◌≤◌}
+use Prim.Native.Nat.{ℕ, ◌≤◌}
 use mathlib.Core.Path.{◌≡◌, sym, ap, ap₂, subst, ◌∙◌}
 use mathlib.Core.List.{List, ◌++◌, map-append}
 use mathlib.Core.Option.{none}

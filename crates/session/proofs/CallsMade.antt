@@ -23,7 +23,7 @@ use Rattle.transcript.proofs.Fitting.{line_in-length}
 use Rattle.memory.specs.declared.Agent.{Agent}
 use Rattle.agent.specs.declared.Called.{Called}
 use Rattle.memory.specs.Layout as meaning
-use Rattle.memory.specs.Layout.{Flat, memory, result}
+use Rattle.memory.specs.Layout.{Flat, memory, outcome}
 use Rattle.session.specs.Session.{frames_of, OneBuffer, memory_after, buffer_after, lines, line_of_call, line_of_step, Session, CallsMade}
 
 -- ---- calls after calls
@@ -101,11 +101,11 @@ session-none agent first store answer = record {
 }
 
 pub session-one : (agent : Agent) (ordinal : ℕ) (store answer f : List ℕ) (r : Called) (store' answer' : List ℕ)
-    → Contract Flat (memory agent store) (meaning.input f answer) (result r.agent r.reason store' answer')
+    → Contract Flat (memory agent store) (meaning.input f answer) (outcome r.agent r.reason store' answer')
     → Session agent ordinal store answer r.agent (ordinal + 1) store' answer'
 unfolding Trace OneBuffer memory_after buffer_after
 session-one agent ordinal store answer f r store' answer' k = record {
-  steps = record { input = meaning.input f answer; result = result r.agent r.reason store' answer' } ∷ [];
+  steps = record { input = meaning.input f answer; result = outcome r.agent r.reason store' answer' } ∷ [];
   trace = (k, tt);
   buffers = (refl, tt);
   ordinals = refl;
@@ -147,7 +147,7 @@ module _ {agent : Agent} {first : ℕ} {input store answer out : List ℕ} {agen
   pub made-next : {n end' : ℕ} {r : Called} {store' answer' out' : List ℕ} → FrameAt input at n →
       let f = take (at + n - (at + 2)) (drop (at + 2) input) in
       let line = line_of_call ordinal f answer' in
-      Contract Flat (memory agent₁ store₁) (meaning.input f answer₁) (result r.agent r.reason store' answer')
+      Contract Flat (memory agent₁ store₁) (meaning.input f answer₁) (outcome r.agent r.reason store' answer')
       → (end' ≡ end + length line) × (out' ≡ splice out₁ end line) → end + 112_980 ≤ length out
       → CallsMade agent first input store answer out r.agent (ordinal + 1) (at + n) end' store' answer' out'
   unfolding Begins lines session-one session-append
