@@ -1,4 +1,4 @@
-// The agent's way in for a host in C or Rust: the host holds the record and lends it to each call.
+// The agent for a host that holds the record and lends it to each call. `savorylatch_c` is the same for hosts in C.
 #![tactic(auto)]
 
 ghost use Rattle.calls.specs.Contract.{Fresh, Contract};
@@ -8,8 +8,7 @@ use frames::{Command, Frame};
 use memory::Agent;
 
 // Makes the record that the host holds fresh, for a device id.
-#[unsafe(no_mangle)]
-pub extern "C" fn savorylatch_new(agent: &mut Agent, device: u64)
+pub fn savorylatch_new(agent: &mut Agent, device: u64)
     ensures { Fresh Flat device agent.new }
 {
     *agent = Agent::new(device);
@@ -17,13 +16,7 @@ pub extern "C" fn savorylatch_new(agent: &mut Agent, device: u64)
 
 // One call over the record that the host holds: it becomes the one that the call by value returns. In place: each way copies of the
 // record no more than its group reads, and stores the parts that the group may change.
-#[unsafe(no_mangle)]
-pub extern "C" fn savorylatch_call(
-    agent: &mut Agent,
-    frame: &[u8],
-    store: &mut [u8],
-    answer: &mut [u8],
-) -> u8
+pub fn savorylatch_call(agent: &mut Agent, frame: &[u8], store: &mut [u8], answer: &mut [u8]) -> u8
     ensures { Contract Flat (memory agent.old store.old) (input frame.now answer.old)
         (outcome agent.new result store.new answer.new) }
 {
