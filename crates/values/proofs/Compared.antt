@@ -30,7 +30,7 @@ same-zeros (suc n) (a ∷ x) h = ap₂ ◌&&◌ (eqb-sym a 0) (same-zeros n x (o
 
 module _ (e d : List ℕ) (size : length e ≡ 17) (few : length d ≤ 16) where
   -- another count
-  other-count : (byte 0 e ≡ length d → ⊥) → same e (padded d) ≡ false
+  pub other-count : (byte 0 e ≡ length d → ⊥) → same e (padded d) ≡ false
   other-count n = rw (drop-cons e 0 0 (omega arith), ne_eqb (byte 0 e) (length d) n)
 
   -- the same count: then the digits, and what is after them
