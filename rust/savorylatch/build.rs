@@ -16,7 +16,7 @@ fn main() {
     if !archive.is_file() {
         panic!(
             "there is no archive {}\n\
-             Make it with `rt staticlib savorylatch` in the repository's root, \
+             Make it with `./build library` in the repository's root, \
              or set SAVORYLATCH_LIB to the full path of the folder that holds libsavorylatch.a.",
             archive.display()
         );

@@ -113,7 +113,7 @@
 //!
 //! The crate links `libsavorylatch.a` from the folder that the environment variable
 //! `SAVORYLATCH_LIB` names by its full path, or else from `target/staticlib` in the repository's
-//! root, where `rt staticlib savorylatch` puts it. The archive is for x86-64.
+//! root, where `./build library` puts it. The archive is for x86-64.
 
 #![warn(missing_docs)]
 #![deny(unsafe_code)]
