@@ -1,6 +1,6 @@
 -- A configuration is allowed where each row is so by itself and their tables and sizes are so together; allowed rows have counts
 -- that fit, so that they are held as the rules read them. Assumes nothing.
-use Prim.Native.Nat.{ℕ, ◌+◌, ◌*◌, ◌-◌, ◌≤◌, ◌<◌}
+use Prim.Native.Nat.{ℕ, ◌+◌, ◌*◌, ◌≤◌, ◌<◌}
 use mathlib.Core.Path.{◌≡◌, refl, sym, ap, ◌∙◌}
 use mathlib.Core.Bool.{Bool, true, ◌&&◌, and_assoc, and_comm}
 use mathlib.Core.List.{List, [], ◌∷◌, map, map-map}

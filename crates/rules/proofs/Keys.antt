@@ -1,7 +1,7 @@
 -- Keys are compared as numbers after every list of calls: what is stored is bytes and passed 17, so that its shortest forms are
 -- equal where its numbers are, and keys of different tables differ in both. Assumes nothing.
 use Rattle.std.specs.Prelude.{if◌then◌else◌}
-use Prim.Native.Nat.{ℕ, ◌+◌, ◌≤◌}
+use Prim.Native.Nat.{ℕ, ◌≤◌}
 use mathlib.Core.Path.{◌≡◌, refl, sym, ap, ap₂, ◌∙◌, subst}
 use mathlib.Core.Bool.{Bool, true, false, ◌&&◌, ◌||◌, not, true≢false, false≢true}
 use mathlib.Core.Logic.{inl, inr, ◌↔◌}

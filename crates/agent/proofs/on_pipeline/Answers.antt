@@ -12,11 +12,9 @@ write_head-requires c = c.requires.1
 
 pub returns-then-reason-ne0 : goal.returns-then-reason-ne0
 returns-then-reason-ne0 c =
-    let w = c in
-    let r = w in
-    let a = r.args in
-    λ store. pipeline-refused-handled a.agent store a.answer.now w.write_head.new.answer (pipeline_read a.command a.frame.now)
-    r.refusal-reason.result r.refusal-reason.ensures (head-alone _ a.answer.now _ w.write_head.ensures) c.if-reason-ne0.true
+    let a = c.args in
+    λ store. pipeline-refused-handled a.agent store a.answer.now c.write_head.new.answer (pipeline_read a.command a.frame.now)
+    c.refusal-reason.result c.refusal-reason.ensures (head-alone _ a.answer.now _ c.write_head.ensures) c.if-reason-ne0.true
 
 pub carry_out-left-requires : goal.carry_out-left-requires
 carry_out-left-requires c = c.requires.0
@@ -24,9 +22,6 @@ carry_out-left-requires c = c.requires.0
 pub returns : goal.returns
 returns c =
     let o = c.carry_out-left in
-    let e = c in
-    let w = e in
-    let r = w in
-    let a = r.args in
-    λ store. pipeline-handled a.agent store a.answer.now w.write_head.new.answer (pipeline_read a.command a.frame.now)
-    r.refusal-reason.result r.refusal-reason.ensures (head-alone _ a.answer.now _ w.write_head.ensures) e.if-reason-ne0.false o.result o.ensures
+    let a = c.args in
+    λ store. pipeline-handled a.agent store a.answer.now c.write_head.new.answer (pipeline_read a.command a.frame.now)
+    c.refusal-reason.result c.refusal-reason.ensures (head-alone _ a.answer.now _ c.write_head.ensures) c.if-reason-ne0.false o.result o.ensures

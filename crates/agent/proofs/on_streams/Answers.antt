@@ -9,7 +9,6 @@ respond-requires c = c.requires
 pub returns : goal.returns
 returns c =
     let r = c.respond in
-    let o = c in
-    let a = o.args in
-    λ store. event-handled a.agent store a.answer.now r.new.answer (event_read a.event) o.carry_out-left.result o.carry_out-left.ensures
+    let a = c.args in
+    λ store. event-handled a.agent store a.answer.now r.new.answer (event_read a.event) c.carry_out-left.result c.carry_out-left.ensures
     r.ensures

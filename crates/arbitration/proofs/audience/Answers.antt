@@ -22,29 +22,23 @@ returns-then-reason-eq4 c = λ device e w p.
 
 pub returns-then-reason-ne0 : goal.returns-then-reason-ne0
 returns-then-reason-ne0 c = λ device e w p.
-    let l = c in
-    let t = l in
-    let f = t in
-    let a = f.args in
+    let a = c.args in
     let h = a.head in
     let q : role_or a.scan.role (binding_of a.scan.own) ≡ a.scan.role = rw w.role (own-role (binding_of a.scan.own) h.role) in
-    notified-as c.closing_audience.result (arbitrate-closes e a.stream device (head_of h) p f.if-reason-eq4.false t.if-reason-ne0.true)
-    (c.closing_audience.ensures e a.stream (binding_of a.scan.own) w.own q (l.leads.ensures e h.role _ w))
+    notified-as c.closing_audience.result (arbitrate-closes e a.stream device (head_of h) p c.if-reason-eq4.false c.if-reason-ne0.true)
+    (c.closing_audience.ensures e a.stream (binding_of a.scan.own) w.own q (c.leads.ensures e h.role _ w))
 
 pub returns-then-keeps : goal.returns-then-keeps
 unfolding records_of bind_records
 returns-then-keeps c = λ device e w p.
-    let t = c in
-    let k = t in
-    let z = k in
-    let a = z.args in
+    let a = c.args in
     let s = a.stream in
     let h = head_of a.head in
     let e' = rules.binds e s h in
-    let q = sym z.if-reason-ne0.false ∙ p in
+    let q = sym c.if-reason-ne0.false ∙ p in
     let l = c.leadership.ensures in
     let r : c.leadership.result.role ≡ a.head.role = l.role ∙ w.role ∙ accepted-role e s device h q w.own in
-    let same : rules.same_pair e e' a.head.role ≡ true = sym (k.keeps.ensures device e w q) ∙ t.if-keeps.true in
+    let same : rules.same_pair e e' a.head.role ≡ true = sym (c.keeps.ensures device e w q) ∙ c.if-keeps.true in
     let n = notice-is c.leadership.result e (l.shown e s a.head.role _ w) s
     ∙ ap (λ (x : ℕ). rules.notification e x s) r
     ∙ notification-kept e e' a.head.role s same in
@@ -53,11 +47,9 @@ returns-then-keeps c = λ device e w p.
 pub returns : goal.returns
 unfolding records_of bind_records
 returns c = λ device e w p.
-    let k = c in
-    let z = k in
-    let a = z.args in
+    let a = c.args in
     let s = a.stream in
     let h = head_of a.head in
-    let q = sym z.if-reason-ne0.false ∙ p in
-    let same : rules.same_pair e (rules.binds e s h) a.head.role ≡ false = sym (k.keeps.ensures device e w q) ∙ c.if-keeps.false in
+    let q = sym c.if-reason-ne0.false ∙ p in
+    let same : rules.same_pair e (rules.binds e s h) a.head.role ≡ false = sym (c.keeps.ensures device e w q) ∙ c.if-keeps.false in
     notified-as (All a.head.role) (arbitrate-binds e s device h q) (rw same)

@@ -11,16 +11,14 @@ loop-i-init c = (omega arith, omega arith, refl, λ goal u. record { room = refl
 
 pub undo-held-requires : goal.undo-held-requires
 undo-held-requires c =
-    let g = c in
-    let l = g.loop-i in
-    let s = g in
+    let l = c.loop-i in
     let k : ℕ = l.i - 1 in
     let e : 74 * k + 74 - 74 * k ≡ 74 = omega arith in
     let e' : 221 * k + 221 - 221 * k ≡ 221 = omega arith in (
       l.invariant.1,
-      omega (arith, l.invariant.2, s.requires.0.1),
-      rw e (length-window (74 * k) 74 s.args.log.now (omega arith)),
-      rw e' (length-window (221 * k) 221 s.args.updates.now (omega arith)),
+      omega (arith, l.invariant.2, c.requires.0.1),
+      rw e (length-window (74 * k) 74 c.args.log.now (omega arith)),
+      rw e' (length-window (221 * k) 221 c.args.updates.now (omega arith)),
     )
 
 pub loop-i-preserved : goal.loop-i-preserved

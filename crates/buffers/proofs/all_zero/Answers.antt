@@ -12,15 +12,10 @@ returns-then-n-lt16 c = c.few_zero.ensures
 
 pub returns-then-few_zero : goal.returns-then-few_zero
 returns-then-few_zero c =
-    let z = c in
-    let f = z in
-    let e = f in
-    let s : List ℕ = e.args.s.now in
-    zeros-found s {m = length s - 8 - 0} (omega (arith, e.if-n-lt16.false)) (omega arith) (sym f.few_zero-2.ensures ∙ z.if-few_zero.true)
+    let s : List ℕ = c.args.s.now in
+    zeros-found s {m = length s - 8 - 0} (omega (arith, c.if-n-lt16.false)) (omega arith) (sym c.few_zero-2.ensures ∙ c.if-few_zero.true)
     c.equal.ensures
 
 pub returns-else-few_zero : goal.returns-else-few_zero
 returns-else-few_zero c =
-    let f = c in
-    let e = f in
-    c.if-few_zero.false ∙ zeros-missed e.args.s.now (sym f.few_zero-2.ensures ∙ c.if-few_zero.false)
+    c.if-few_zero.false ∙ zeros-missed c.args.s.now (sym c.few_zero-2.ensures ∙ c.if-few_zero.false)

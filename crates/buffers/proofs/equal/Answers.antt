@@ -17,56 +17,51 @@ returns-then-a-b c = let g = c.args in sym (same-long g.a.now g.b.now c.if-a-b.t
 pub returns-then-not-equal_eight : goal.returns-then-not-equal_eight
 returns-then-not-equal_eight c =
     let g = c.args in
-    let l = c in
     let a : List ℕ = g.a.now in
     let b : List ℕ = g.b.now in
-    let i : ℕ = l.loop-i.i in
+    let i : ℕ = c.loop-i.i in
     let f : same (take 8 (drop i a)) (take 8 (drop i b)) ≡ false =
     sym c.equal_eight.ensures ∙ c.if-not-equal_eight.true in
-    sym (l.loop-i.invariant.2 ∙ eight-step a b i (omega arith) (omega arith)
+    sym (c.loop-i.invariant.2 ∙ eight-step a b i (omega arith) (omega arith)
     ∙ ap (λ (t : Bool). t && same (drop (i + 8) a) (drop (i + 8) b)) f)
 
 pub loop-i-preserved : goal.loop-i-preserved
 loop-i-preserved c =
     let g = c.args in
-    let l = c in
     let a : List ℕ = g.a.now in
     let b : List ℕ = g.b.now in
-    let i : ℕ = l.loop-i.i in
+    let i : ℕ = c.loop-i.i in
     let f : same (take 8 (drop i a)) (take 8 (drop i b)) ≡ true =
     sym c.equal_eight.ensures ∙ c.if-not-equal_eight.false in
     let s : same a b ≡ same (drop (i + 8) a) (drop (i + 8) b) =
-    l.loop-i.invariant.2 ∙ eight-step a b i (omega arith) (omega arith)
+    c.loop-i.invariant.2 ∙ eight-step a b i (omega arith) (omega arith)
     ∙ ap (λ (t : Bool). t && same (drop (i + 8) a) (drop (i + 8) b)) f in
     (omega arith, omega arith, s)
 
 pub returns-then-a-i : goal.returns-then-a-i
 returns-then-a-i c =
     let g = c.args in
-    let l = c in
     let a : List ℕ = g.a.now in
     let b : List ℕ = g.b.now in
-    let i : ℕ = l.loop-i-2.i in
-    sym (l.loop-i-2.invariant.2 ∙ same_step a b i (omega arith) (omega arith) ∙ (rw (ne_eqb (get_or a i 0) (get_or b i 0) c.if-a-i.true)))
+    let i : ℕ = c.loop-i-2.i in
+    sym (c.loop-i-2.invariant.2 ∙ same_step a b i (omega arith) (omega arith) ∙ (rw (ne_eqb (get_or a i 0) (get_or b i 0) c.if-a-i.true)))
 
 pub loop-i-2-preserved : goal.loop-i-2-preserved
 loop-i-2-preserved c =
     let g = c.args in
-    let l = c in
     let a : List ℕ = g.a.now in
     let b : List ℕ = g.b.now in
-    let i : ℕ = l.loop-i-2.i in
+    let i : ℕ = c.loop-i-2.i in
     let s : same a b ≡ same (drop (i + 1) a) (drop (i + 1) b) =
-    l.loop-i-2.invariant.2 ∙ same_step a b i (omega arith) (omega arith)
+    c.loop-i-2.invariant.2 ∙ same_step a b i (omega arith) (omega arith)
     ∙ (rw (eq-eqb (get_or a i 0) (get_or b i 0) c.if-a-i.false, add-one i)) in
     (omega arith, omega arith, s)
 
 pub returns : goal.returns
 returns c =
     let g = c.args in
-    let l = c in
     let a : List ℕ = g.a.now in
     let b : List ℕ = g.b.now in
-    let i : ℕ = l.loop-i-2.i in
-    sym (l.loop-i-2.invariant.2 ∙ ap (λ (z : List ℕ). same z (drop i b)) (drop_of_length-le a {i = i} (omega arith))
+    let i : ℕ = c.loop-i-2.i in
+    sym (c.loop-i-2.invariant.2 ∙ ap (λ (z : List ℕ). same z (drop i b)) (drop_of_length-le a {i = i} (omega arith))
     ∙ ap (same []) (drop_of_length-le b {i = i} (omega arith)))

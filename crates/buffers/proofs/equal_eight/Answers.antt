@@ -10,12 +10,11 @@ use Rattle.buffers.proofs.equal_eight.Goals as goal
 
 pub returns : goal.returns
 returns c =
-    let d = c in
-    let a = d.args in
+    let a = c.args in
     let x : ℕ = little_endian (take 8 (drop a.i a.a.now)) in
     let y : ℕ = little_endian (take 8 (drop a.j a.b.now)) in
     let e : eqb c.word.result c.word-2.result ≡ eqb x y =
     ap (λ (z : ℕ). eqb z c.word-2.result) c.word.ensures ∙ ap (eqb x) c.word-2.ensures in
     e ∙ eight-same a.a.now a.b.now a.i a.j (omega arith) (omega arith)
-    (record { at = λ k. (d.type_inv.a k).fits })
+    (record { at = λ k. (c.type_inv.a k).fits })
     (record { at = λ k. (c.type_inv.b k).fits })

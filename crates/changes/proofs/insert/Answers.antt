@@ -5,6 +5,7 @@ use mathlib.Core.Path.{◌≡◌, ap, ◌∙◌}
 use mathlib.Core.List.{List}
 use lib.ListN.{length, drop}
 use borrow.Rule.Slice.PartMut.{put_mid, same_len_mid}
+use Rattle.rules.specs.Bytes.{part}
 use Rattle.rules.specs.Key.{short_key}
 use Rattle.rules.specs.Entry.{short_entry}
 use Rattle.rules.proofs.Shortest.{key-length, entry_length}
@@ -23,45 +24,35 @@ whole e s keyed after at l room w v =
     ∙ splice-next s at (at + 148) (short_key e) (drop 148 (short_entry e)) (omega arith) (omega arith)
     ∙ ap (splice s at) (entry-parts e l)
 
+-- the store is as long as before, once the key is written in what comes after its last entry
+keyed-long : (s d : List ℕ) (at : ℕ) → length d ≡ length (part at (length s - at) s) → length (put_mid at (length s - at) s d) ≡ length s
+keyed-long s d at l = same_len_mid at (length s - at) s d l
+
 pub write_action-requires : goal.write_action-requires
 write_action-requires c =
-    let keyed-long : let a = c.args in let s = a.store.now in let at = 220 * a.tables.count in length (put_mid at (length s - at) s c.shorten_key.new.dst) ≡ length s =
     let a = c.args in
-    let s : List ℕ = a.store.now in
-    same_len_mid (220 * a.tables.count) (length s - 220 * a.tables.count) s c.shorten_key.new.dst c.shorten_key.auto.dst in
-    let k = c in
-    let p = k.requires in
-    (p.0, omega (arith, keyed-long, p.1), p.2)
+    let p = c.requires in
+    (p.0, omega (arith, keyed-long a.store.now c.shorten_key.new.dst (220 * a.tables.count) c.shorten_key.auto.dst, p.1), p.2)
 
 pub shape_of-store : goal.shape_of-store
 shape_of-store c =
-    let keyed-long : let a = c.args in let s = a.store.now in let at = 220 * a.tables.count in length (put_mid at (length s - at) s c.shorten_key.new.dst) ≡ length s =
     let a = c.args in
-    let s : List ℕ = a.store.now in
-    same_len_mid (220 * a.tables.count) (length s - 220 * a.tables.count) s c.shorten_key.new.dst c.shorten_key.auto.dst in
-    let w = c in
-    w.write_action.auto.store ∙ keyed-long
+    c.write_action.auto.store ∙ keyed-long a.store.now c.shorten_key.new.dst (220 * a.tables.count) c.shorten_key.auto.dst
 
 pub returns : goal.returns
 returns c =
-    let keyed : let a = c.args in let s = a.store.now in let at = 220 * a.tables.count in put_mid at (length s - at) s c.shorten_key.new.dst ≡ splice s at (short_key a.entry.now) =
-    let b = c in
-    let a = b.args in
-    let n : length (short_key a.entry.now) ≡ 148 = key-length a.entry.now (omega (arith, b.requires.2)) in
-    rest_back a.store.now c.shorten_key.new.dst (short_key a.entry.now) (220 * a.tables.count) c.shorten_key.ensures
-    (omega (arith, b.requires.0, b.requires.1)) in
-    let w = c in
-    let k = w in
-    let b = k in
-    let a = b.args in
+    let a = c.args in
     let e : List ℕ = a.entry.now in
     let s : List ℕ = a.store.now in
     let at : ℕ = 220 * a.tables.count in
-    let l : length (short_entry e) ≡ 220 = entry_length e b.requires.2 in
-    let room : at + 220 ≤ length s = omega (arith, b.requires.0, b.requires.1) in
-    rw (whole e s _ w.write_action.new.store at b.requires.2 room keyed w.write_action.ensures) (record {
+    let n : length (short_key e) ≡ 148 = key-length e (omega (arith, c.requires.2)) in
+    let l : length (short_entry e) ≡ 220 = entry_length e c.requires.2 in
+    let room : at + 220 ≤ length s = omega (arith, c.requires.0, c.requires.1) in
+    let keyed : put_mid at (length s - at) s c.shorten_key.new.dst ≡ splice s at (short_key e) =
+    rest_back s c.shorten_key.new.dst (short_key e) at c.shorten_key.ensures (omega (arith, c.requires.0, c.requires.1)) in
+    rw (whole e s _ c.write_action.new.store at c.requires.2 room keyed c.write_action.ensures) (record {
       holds = parts-append a.tables.count 220 s (short_entry e) (omega (arith, room)) l;
-      few = omega (arith, b.requires.0);
+      few = omega (arith, c.requires.0);
       room = length-splice s at (short_entry e) (omega (arith, l, room));
-      beyond = drop-splice 56_320 s at (short_entry e) (omega (arith, l, b.requires.0)) (omega (arith, room));
+      beyond = drop-splice 56_320 s at (short_entry e) (omega (arith, l, c.requires.0)) (omega (arith, room));
     })

@@ -1,24 +1,32 @@
 -- Right because an INSERT needs no more than its type, and the others the action of the entry that they found. Assumes nothing.
 use native.Mathlib.Omega.{arith}
 use Prim.Native.Nat.{ℕ, ◌<◌}
-use mathlib.Core.Path.{refl, sym, ap, ◌∙◌}
+use mathlib.Core.Path.{◌≡◌, refl, sym, ap, ◌∙◌}
 use mathlib.Core.List.{List, ◌∷◌}
+use Rattle.store.specs.declared.Tables.{Tables}
+use Rattle.judging.specs.Verdict.{Possible}
+use Rattle.judging.specs.declared.Verdict.{Verdict}
+use Rattle.judging.specs.declared.Verdict.TheVariants.{Modify, Delete}
 use Rattle.changes.proofs.Undoing.{action-at, type-written}
 use borrow.Author.Rules.{rules}
 use Rattle.changes.proofs.note.Goals as goal
 
+-- the place that a MODIFY can be carried out at is that of an entry
+modified : {v : Verdict} (i : ℕ) (t : Tables) → v ≡ Modify i → Possible v t → i < t.count
+modified i t e p = rw e at p
+
+-- and so is that of a DELETE
+deleted : {v : Verdict} (i : ℕ) (t : Tables) → v ≡ Delete i → Possible v t → i < t.count
+deleted i t e p = rw e at p
+
 pub note_entry-requires : goal.note_entry-requires
 note_entry-requires c =
-    let modified : c.in-Modify.i < c.args.tables.count =
-    rw c.in-Modify.is at c.requires.0 in
-    let h = modified in
+    let h = modified c.in-Modify.i c.args.tables c.in-Modify.is c.requires.0 in
     (omega (arith, h), omega (arith, h), search rules)
 
 pub note_entry-requires-in-Delete : goal.note_entry-requires-in-Delete
 note_entry-requires-in-Delete c =
-    let deleted : c.in-Delete.i < c.args.tables.count =
-    rw c.in-Delete.is at c.requires.0 in
-    let h = deleted in
+    let h = deleted c.in-Delete.i c.args.tables c.in-Delete.is c.requires.0 in
     (omega (arith, h), omega (arith, h), search rules)
 
 pub returns-in-Refused : goal.returns-in-Refused
@@ -29,20 +37,14 @@ returns-in-Insert c = rw c.in-Insert.is (type-written c.args.note.now 1 (search 
 
 pub returns-in-Modify : goal.returns-in-Modify
 returns-in-Modify c =
-    let modified : c.in-Modify.i < c.args.tables.count =
-    rw c.in-Modify.is at c.requires.0 in
-    let v = c in
-    let a = v.args in
-    let i : ℕ = v.in-Modify.i in
-    rw v.in-Modify.is
-    (c.note_entry.ensures ∙ ap (λ (e : List ℕ). 2 ∷ i ∷ e) (sym (action-at i a.tables a.store.now modified)))
+    let a = c.args in
+    let i : ℕ = c.in-Modify.i in
+    let h = modified i a.tables c.in-Modify.is c.requires.0 in
+    rw c.in-Modify.is (c.note_entry.ensures ∙ ap (λ (e : List ℕ). 2 ∷ i ∷ e) (sym (action-at i a.tables a.store.now h)))
 
 pub returns-in-Delete : goal.returns-in-Delete
 returns-in-Delete c =
-    let deleted : c.in-Delete.i < c.args.tables.count =
-    rw c.in-Delete.is at c.requires.0 in
-    let v = c in
-    let a = v.args in
-    let i : ℕ = v.in-Delete.i in
-    rw v.in-Delete.is
-    (c.note_entry-in-Delete.ensures ∙ ap (λ (e : List ℕ). 3 ∷ i ∷ e) (sym (action-at i a.tables a.store.now deleted)))
+    let a = c.args in
+    let i : ℕ = c.in-Delete.i in
+    let h = deleted i a.tables c.in-Delete.is c.requires.0 in
+    rw c.in-Delete.is (c.note_entry-in-Delete.ensures ∙ ap (λ (e : List ℕ). 3 ∷ i ∷ e) (sym (action-at i a.tables a.store.now h)))

@@ -35,8 +35,7 @@ made u note before keyed piece l m n k w =
 
 pub returns : goal.returns
 returns c =
-    let s = c in
-    let a = s.args in
+    let a = c.args in
     let w = c.copy in
-    made a.update.now a.note.now a.out.now s.shorten_key.new.dst w.new.dst (omega arith) (omega arith) (omega arith)
-    s.shorten_key.ensures w.ensures
+    made a.update.now a.note.now a.out.now c.shorten_key.new.dst w.new.dst (omega arith) (omega arith) (omega arith)
+    c.shorten_key.ensures w.ensures

@@ -33,14 +33,11 @@ returns-in-Insert c = rw c.in-Insert.is c.insert.ensures
 
 pub returns-in-Modify : goal.returns-in-Modify
 returns-in-Modify c =
-    let w = c in
-    let v = w in
-    let b = v in
-    let a = b.args in
+    let a = c.args in
     let e : List ℕ = short_entry a.entry.now in
     let l : length (drop 148 e) ≡ 72 = length-drop 148 e ∙ ap (λ (n : ℕ). n - 148) (entry_length a.entry.now (omega arith)) in
-    let inside = rw v.in-Modify.is at b.requires.0 in
-    rw (v.in-Modify.is, w.write_action.ensures)
+    let inside = rw c.in-Modify.is at c.requires.0 in
+    rw (c.in-Modify.is, c.write_action.ensures)
     (action-over _ a.tables a.store.now (drop 148 e) inside (omega arith) (omega arith) l)
 
 pub returns-in-Delete : goal.returns-in-Delete

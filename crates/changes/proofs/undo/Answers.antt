@@ -25,14 +25,12 @@ shape_of-store-then-kind-eq2 c = c.replace_action.auto.store
 
 pub returns-then-i-count : goal.returns-then-i-count
 returns-then-i-count c =
-    let v = c in
-    let b = v in
-    let a = b.args in
+    let a = c.args in
     let note : List ℕ = a.note.now in
     let s : List ℕ = a.store.now in
-    let w = v.wide-i.ensures.0 in
+    let w = c.wide-i.ensures.0 in
     let e : byte 0 note ≡ 2 = c.if-kind-eq2.true in
-    let l : length note ≡ 74 = b.requires.2 in
+    let l : length note ≡ 74 = c.requires.2 in
     let r = c.replace_action in
     record { bound = omega arith; left = back-two note a.update.now s r.new.store a.tables a.tables w l e (λ h. r.ensures) (λ n. absurd (n (omega arith))) }
 

@@ -10,11 +10,10 @@ use Rattle.checks.proofs.entry_reason.Goals as goal
 pub returns-then-kind-eq3 : goal.returns-then-kind-eq3
 unfolding entry_formed entry_fits
 returns-then-kind-eq3 c =
-    let t = c in
-    let a = t.args in
+    let a = c.args in
     let row = row_of a.row.now in
     let e = a.entry.now in
-    rw (eq-eqb a.kind 3 t.if-kind-eq3.true, and-true (key_formed row e), and-true (key_fits row e)) (c.key_reason.ensures e refl)
+    rw (eq-eqb a.kind 3 c.if-kind-eq3.true, and-true (key_formed row e), and-true (key_fits row e)) (c.key_reason.ensures e refl)
 
 pub returns : goal.returns
 unfolding entry_formed entry_fits

@@ -1,14 +1,12 @@
 -- Right because each turn passes one field: whether all are allowed is whether those left are. Assumes nothing.
-use Prim.Native.Nat.{ℕ, ◌*◌, ◌-◌, ◌≤◌}
+use Prim.Native.Nat.{ℕ, ◌*◌}
 use native.Mathlib.Omega.{arith}
-use mathlib.Core.Path.{◌≡◌, refl, sym, ap, ◌∙◌}
+use mathlib.Core.Path.{refl, sym, ap, ◌∙◌}
 use mathlib.Core.List.{List}
 use lib.ListN.{get_or}
 use borrow.Author.Rules.{rules}
-use borrow.Author.Tests.{not-true, not-false}
 use Rattle.rules.specs.Row as rules
-use Rattle.configuration.specs.Passing.{fields_pass}
-use Rattle.configuration.proofs.OneRow.{left-refused, left_passed, left-none, count_none, count-over, count_fits, field_passes, fields_left}
+use Rattle.configuration.proofs.OneRow.{left-refused, left_passed, left-none, count_none, count-over, count_fits, field_passes}
 use Rattle.configuration.proofs.OneRow.{fields-refused, fields-asked}
 use Rattle.configuration.proofs.fields_allowed.Goals as goal
 
@@ -32,27 +30,24 @@ loop-i-init c =
 
 pub returns-then-not-allowed : goal.returns-then-not-allowed
 returns-then-not-allowed c =
-    let l = c in
-    let b : List ℕ = l.args.b.now in
+    let b : List ℕ = c.args.b.now in
     let n : ℕ = get_or b 7 0 in
     let r = c.allowed in
     let e = r.ensures ∙ ap rules.field_allowed c.at-f.ensures in
     let q = c.if-not-allowed.true in
-    sym (l.loop-i.invariant.1 ∙ left-refused field_passes 2 8 8 n (2 * n) b l.loop-i.i (omega arith) (omega arith) e q)
+    sym (c.loop-i.invariant.1 ∙ left-refused field_passes 2 8 8 n (2 * n) b c.loop-i.i (omega arith) (omega arith) e q)
 
 pub loop-i-preserved : goal.loop-i-preserved
 loop-i-preserved c =
-    let l = c in
-    let b : List ℕ = l.args.b.now in
+    let b : List ℕ = c.args.b.now in
     let n : ℕ = get_or b 7 0 in
     let r = c.allowed in
     let e = r.ensures ∙ ap rules.field_allowed c.at-f.ensures in
     let q = c.if-not-allowed.false in
-    (omega arith, l.loop-i.invariant.1 ∙ left_passed field_passes 2 8 8 n (2 * n) b l.loop-i.i (omega arith) (omega arith) e q)
+    (omega arith, c.loop-i.invariant.1 ∙ left_passed field_passes 2 8 8 n (2 * n) b c.loop-i.i (omega arith) (omega arith) e q)
 
 pub returns : goal.returns
 returns c =
-    let l = c in
-    let b : List ℕ = l.args.b.now in
+    let b : List ℕ = c.args.b.now in
     let n : ℕ = get_or b 7 0 in
-    c.all_zero.ensures ∙ sym (l.loop-i.invariant.1 ∙ left-none field_passes 2 8 8 n (2 * n) b l.loop-i.i 16 (omega arith) refl)
+    c.all_zero.ensures ∙ sym (c.loop-i.invariant.1 ∙ left-none field_passes 2 8 8 n (2 * n) b c.loop-i.i 16 (omega arith) refl)

@@ -1,13 +1,10 @@
 -- Right because each turn passes one record: whether one has the id is whether one of those left has. Assumes nothing.
-use Prim.Native.Nat.{ℕ, ◌*◌, ◌-◌}
-use native.Mathlib.Omega.{arith}
-use mathlib.Core.Path.{refl, ◌≡◌, sym, ◌∙◌}
+use Prim.Native.Nat.{◌-◌}
+use mathlib.Core.Path.{◌≡◌}
 use lib.Dec.{eqb}
 use lib.ListN.{drop}
-use borrow.Author.Tests.{eq-eqb, ne_eqb}
-use Rattle.rules.specs.Bytes.{some_of, parts, int}
+use Rattle.rules.specs.Bytes.{some_of, parts}
 use Rattle.configuration.specs.Passing.{ids}
-use Rattle.configuration.proofs.OneRow.{ids_next, ids-none, record-within}
 use Rattle.configuration.proofs.id_repeated.Given as goal
 
 abbrev pub invariant-loop-j : goal.invariant-loop-j

@@ -9,4 +9,4 @@ pub returns-then-reason-eq4 : goal.returns-then-reason-eq4
 returns-then-reason-eq4 c = rw (ne_eqb _ 0 c.if-reason-eq0.false, eq-eqb _ 4 c.if-reason-eq4.true)
 
 pub returns : goal.returns
-returns c = let l = c in rw (ne_eqb _ 0 l.if-reason-eq0.false, ne_eqb _ 4 l.if-reason-eq4.false) c.stream-2.ensures
+returns c = rw (ne_eqb _ 0 c.if-reason-eq0.false, ne_eqb _ 4 c.if-reason-eq4.false) c.stream-2.ensures

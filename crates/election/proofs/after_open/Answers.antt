@@ -3,7 +3,7 @@ use mathlib.Core.Path.{sym, ◌∙◌}
 use Rattle.election.proofs.after_open.Goals as goal
 
 pub returns-then-and : goal.returns-then-and
-returns-then-and c = let t = c in rw (sym t.and.ensures ∙ t.if-and.true) c.stream.ensures
+returns-then-and c = rw (sym c.and.ensures ∙ c.if-and.true) c.stream.ensures
 
 pub returns : goal.returns
 returns c = rw (sym c.and.ensures ∙ c.if-and.false)

@@ -6,10 +6,7 @@ use Rattle.election.proofs.is_mark.Goals as goal
 
 pub returns-then-is_set : goal.returns-then-is_set
 returns-then-is_set c =
-    let m = c in
-    let t = m in
-    let i = t in
-    rw (sym i.is_set.ensures ∙ t.if-is_set.true) (c.equals.ensures ∙ ap (eqb (id_of i.args.id)) m.mark_of.ensures)
+    rw (sym c.is_set.ensures ∙ c.if-is_set.true) (c.equals.ensures ∙ ap (eqb (id_of c.args.id)) c.mark_of.ensures)
 
 pub returns : goal.returns
 returns c = rw (sym c.is_set.ensures ∙ c.if-is_set.false)

@@ -11,10 +11,8 @@ returns-then-role-ge8 c = rw (eq-eqb _ 0 c.if-reason-ne0.false, le-ltb _ 8 c.if-
 
 pub returns-then-below : goal.returns-then-below
 returns-then-below c =
-    let l = c in
-    rw (eq-eqb _ 0 l.if-reason-ne0.false, lt-ltb _ 8 l.if-role-ge8.false, sym c.below.ensures ∙ c.if-below.true)
+    rw (eq-eqb _ 0 c.if-reason-ne0.false, lt-ltb _ 8 c.if-role-ge8.false, sym c.below.ensures ∙ c.if-below.true)
 
 pub returns : goal.returns
 returns c =
-    let l = c in
-    rw (eq-eqb _ 0 l.if-reason-ne0.false, lt-ltb _ 8 l.if-role-ge8.false, sym c.below.ensures ∙ c.if-below.false)
+    rw (eq-eqb _ 0 c.if-reason-ne0.false, lt-ltb _ 8 c.if-role-ge8.false, sym c.below.ensures ∙ c.if-below.false)

@@ -13,32 +13,25 @@ use Rattle.frames.proofs.read_read.Goals as goal
 pub returns-then-frame-ne159 : goal.returns-then-frame-ne159
 returns-then-frame-ne159 c = record { means = read_length c.args.frame.now _ c.if-frame-ne159.true; there = tt }
 
+-- by each arm of the match the test is that of the byte *only*; grind finds the same in the answer after this one
 pub returns-then-not-formed : goal.returns-then-not-formed
 returns-then-not-formed c =
-    let key_fits_lem : c.match-only.formed ≡ key_fits c.args.frame.now =
     let f = c.args.frame.now in
     let named = ap (λ (t : ℕ). not (eqb t 0)) c.integer-table.ensures in
+    let k : c.match-only.formed ≡ key_fits f =
     elim c.match-only.branch [
       | in-0 w ↦ w.formed-is ∙ w.all_zero-formed.ensures ∙ key-all f w.in-0.is
       | in-1 w ↦ w.formed-is ∙ named ∙ key-only f w.in-1.is
       | in-2-to-255 w ↦ w.formed-is ∙ key-over f (omega arith) (omega arith)
     ] in
-    let f = c.args.frame.now in
-    record { means = read-key f _ (sym key_fits_lem ∙ c.if-not-formed.true); there = tt }
+    record { means = read-key f _ (sym k ∙ c.if-not-formed.true); there = tt }
 
 pub returns : goal.returns
 returns c =
-    let key_fits_lem : c.match-only.formed ≡ key_fits c.args.frame.now =
-    let f = c.args.frame.now in
-    let named = ap (λ (t : ℕ). not (eqb t 0)) c.integer-table.ensures in
-    elim c.match-only.branch [
-      | in-0 w ↦ w.formed-is ∙ w.all_zero-formed.ensures ∙ key-all f w.in-0.is
-      | in-1 w ↦ w.formed-is ∙ named ∙ key-only f w.in-1.is
-      | in-2-to-255 w ↦ w.formed-is ∙ key-over f (omega arith) (omega arith)
-    ] in
     let f = c.args.frame.now in
     let h : length f ≡ 159 = omega arith in
-    let e : key_fits f ≡ true = sym key_fits_lem ∙ c.if-not-formed.false in
+    let k : c.match-only.formed ≡ key_fits f = grind (arith, key-all, key-only, key-over) in
+    let e : key_fits f ≡ true = sym k ∙ c.if-not-formed.false in
     let device : c.integer.result ≡ int 1 8 f = c.integer.ensures in
     let i = c.integer-table in
     let table : i.result ≡ int 10 4 f = i.ensures in

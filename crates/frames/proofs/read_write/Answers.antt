@@ -3,12 +3,16 @@ use native.Mathlib.Omega.{arith}
 use mathlib.Core.Path.{◌≡◌, sym, ap, ◌∙◌}
 use Rattle.rules.specs.Frame as rules
 use Rattle.rules.specs.Bytes.{byte, parts}
-use Prim.Native.Nat.{◌+◌, ◌*◌, ◌≤◌}
+use Prim.Native.Nat.{ℕ, ◌+◌, ◌*◌, ◌≤◌}
 use lib.ListN.{length, drop}
-use mathlib.Core.Bool.{true}
-use mathlib.Core.List.{map}
+use mathlib.Core.Bool.{Bool, true}
+use mathlib.Core.List.{List, map}
 use Rattle.frames.proofs.Readings.{write-length, write-many, write-flag, write-atomicity, write-fits}
 use Rattle.frames.proofs.read_write.Goals as goal
+
+-- what was tested of the head's flag is what the rules test
+flag : (f : List ℕ) {t : Bool} {h : rules.Head} → t ≡ rules.flag_fits (byte 10 f) h.id → h ≡ rules.head_at 1 f → rules.head_fits 1 f ≡ t
+flag f e q = sym (e ∙ ap (λ (x : rules.Head). rules.flag_fits (byte 10 f) x.id) q)
 
 pub returns-then-frame-lt29 : goal.returns-then-frame-lt29
 returns-then-frame-lt29 c =
@@ -31,22 +35,16 @@ returns-then-atomicity-gt2 c =
 
 pub returns-then-not-flag_fits : goal.returns-then-not-flag_fits
 returns-then-not-flag_fits c =
-    let flag : let f = (c).args.frame.now in rules.head_fits 1 f ≡ c.flag_fits.result =
-    let f = (c).args.frame.now in
-    sym (c.flag_fits.ensures ∙ ap (λ (h : rules.Head). rules.flag_fits (byte 10 f) h.id) c.head_at-head.ensures) in
-    let f = (c).args.frame.now in
-    record { means = write-flag f (byte 28 f) _ (flag ∙ c.if-not-flag_fits.true); there = tt }
+    let f = c.args.frame.now in
+    record { means = write-flag f (byte 28 f) _ (flag f c.flag_fits.ensures c.head_at-head.ensures ∙ c.if-not-flag_fits.true); there = tt }
 
 pub returns : goal.returns
 unfolding rules.write_of
 returns c =
-    let flag : let f = (c).args.frame.now in rules.head_fits 1 f ≡ c.flag_fits.result =
-    let f = (c).args.frame.now in
-    sym (c.flag_fits.ensures ∙ ap (λ (h : rules.Head). rules.flag_fits (byte 10 f) h.id) c.head_at-head.ensures) in
-    let f = (c).args.frame.now in
+    let f = c.args.frame.now in
     let h : length f ≡ 29 + 221 * byte 28 f = omega arith in
     let k : byte 28 f ≤ 64 = omega arith in
-    let e : rules.head_fits 1 f ≡ true = flag ∙ c.if-not-flag_fits.false in
+    let e : rules.head_fits 1 f ≡ true = flag f c.flag_fits.ensures c.head_at-head.ensures ∙ c.if-not-flag_fits.false in
     let us = map rules.update_of (parts (byte 28 f) 221 (drop 29 f)) in
     let q = ap (λ (x : rules.Head). rules.on_tables (rules.WRITE x (byte 27 f) us)) c.head_at-head.ensures in
     record { means = write-fits f (byte 28 f) h k e (omega arith) q; there = (k, h) }

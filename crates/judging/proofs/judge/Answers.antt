@@ -13,17 +13,16 @@ use Rattle.judging.proofs.judge.Goals as goal
 
 pub returns : goal.returns
 returns c =
-    let f = c in
-    let a = f.args in
+    let a = c.args in
     let u : List ℕ = a.update.now in
     let rows = rows_in a.count a.rows.now in
-    let at = f.find-found.result.at in
+    let at = c.find-found.result.at in
     let w : at + 53 - at ≡ 53 = omega arith in
-    let its : f.integer.result ≡ table_of (update_of u).entry = f.integer.ensures in
-    let is_known = f.find-found.ensures.known ∙ ap (λ (n : ℕ). known n rows) its in
+    let its : c.integer.result ≡ table_of (update_of u).entry = c.integer.ensures in
+    let is_known = c.find-found.ensures.known ∙ ap (λ (n : ℕ). known n rows) its in
     let v = c.judge_by.ensures in record {
       reason = judged-by-rows rows a.role (tables_in a.tables a.store.now) (update_of u) (rw w at v.reason) is_known
-          (λ e. f.find-found.ensures.row e ∙ ap (λ (n : ℕ). row_for n rows) its);
+          (λ e. c.find-found.ensures.row e ∙ ap (λ (n : ℕ). row_for n rows) its);
       justified = v.justified;
       possible = v.possible;
     }

@@ -8,10 +8,9 @@ use Rattle.judging.proofs.judge_change.Goals as goal
 
 pub returns-then-kind-eq2 : goal.returns-then-kind-eq2
 returns-then-kind-eq2 c =
-    let f = c in
-    let a = f.args in
-    let n = f.requires in
-    let its = f.in-At.is in record {
+    let a = c.args in
+    let n = c.requires in
+    let its = c.in-At.is in record {
       judged = λ row es e p.
           let q = sym p ∙ ap place_of its in
           (sym (change-present row e es a.kind _ n q), (n, eq-eqb a.kind 2 c.if-kind-eq2.true, q));
@@ -20,10 +19,9 @@ returns-then-kind-eq2 c =
 
 pub returns-else-kind-eq2 : goal.returns-else-kind-eq2
 returns-else-kind-eq2 c =
-    let f = c in
-    let a = f.args in
-    let n = f.requires in
-    let its = f.in-At.is in record {
+    let a = c.args in
+    let n = c.requires in
+    let its = c.in-At.is in record {
       judged = λ row es e p.
           let q = sym p ∙ ap place_of its in
           (sym (change-present row e es a.kind _ n q), (n, ne_eqb a.kind 2 c.if-kind-eq2.false, q));

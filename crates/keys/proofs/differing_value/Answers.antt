@@ -10,13 +10,11 @@ returns-then-not-is_shortest_of c = record { slot = 0; few = omega arith; place 
 
 pub returns-then-not-is_shortest_of-2 : goal.returns-then-not-is_shortest_of-2
 returns-then-not-is_shortest_of-2 c =
-    let l = c in
-    record { slot = l.loop-i.i - 1; few = omega arith; place = inr (omega arith) }
+    record { slot = c.loop-i.i - 1; few = omega arith; place = inr (omega arith) }
 
 pub returns-then-not-is_shortest_of-3 : goal.returns-then-not-is_shortest_of-3
 returns-then-not-is_shortest_of-3 c =
-    let l = c in
-    record { slot = l.loop-i.i - 1; few = omega arith; place = inl refl }
+    record { slot = c.loop-i.i - 1; few = omega arith; place = inl refl }
 
 pub returns : goal.returns
 returns c = record { slot = 0; few = omega arith; place = inl refl }

@@ -16,24 +16,21 @@ loop-i-init c =
 
 pub returns-then-not-is_short_slot : goal.returns-then-not-is_short_slot
 returns-then-not-is_short_slot c =
-    let l = c in
-    let k : List ℕ = l.args.key.now in
-    let i : ℕ = l.loop-i.i in
+    let k : List ℕ = c.args.key.now in
+    let i : ℕ = c.loop-i.i in
     let w : 35 * i + 4 + 35 - (35 * i + 4) ≡ 35 = omega arith in
     let e = sym c.is_short_slot.ensures ∙ c.if-not-is_short_slot.true in
-    sym (l.loop-i.invariant.1 ∙ left-slot k k (omega arith) (omega arith) i _ false (omega arith) w e)
+    sym (c.loop-i.invariant.1 ∙ left-slot k k (omega arith) (omega arith) i _ false (omega arith) w e)
 
 pub loop-i-preserved : goal.loop-i-preserved
 loop-i-preserved c =
-    let l = c in
-    let k : List ℕ = l.args.key.now in
-    let i : ℕ = l.loop-i.i in
+    let k : List ℕ = c.args.key.now in
+    let i : ℕ = c.loop-i.i in
     let w : 35 * i + 4 + 35 - (35 * i + 4) ≡ 35 = omega arith in
     let e = sym c.is_short_slot.ensures ∙ c.if-not-is_short_slot.false in
-    (omega arith, l.loop-i.invariant.1 ∙ left-slot k k (omega arith) (omega arith) i _ true (omega arith) w e)
+    (omega arith, c.loop-i.invariant.1 ∙ left-slot k k (omega arith) (omega arith) i _ true (omega arith) w e)
 
 pub returns : goal.returns
 returns c =
-    let l = c in
-    let k : List ℕ = l.args.key.now in
-    sym (l.loop-i.invariant.1 ∙ left-none k k (omega arith) (omega arith) l.loop-i.i (omega arith))
+    let k : List ℕ = c.args.key.now in
+    sym (c.loop-i.invariant.1 ∙ left-none k k (omega arith) (omega arith) c.loop-i.i (omega arith))

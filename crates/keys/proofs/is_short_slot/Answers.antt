@@ -12,17 +12,15 @@ use Rattle.keys.proofs.is_short_slot.Goals as goal
 pub returns-then-is_short : goal.returns-then-is_short
 unfolding same_slot same_value
 returns-then-is_short c =
-    let w = c in
-    let s : List ℕ = w.args.slot.now in
+    let s : List ℕ = c.args.slot.now in
     c.is_short-then-is_short.ensures
     ∙ sym (ap₂ (λ (a b : Bool). a && (b && same (value2 s) (short (value2 s)))) (eq-eqb (kind s) (kind s) refl)
-    (sym w.is_short.ensures ∙ c.if-is_short.true))
+    (sym c.is_short.ensures ∙ c.if-is_short.true))
 
 pub returns-else-is_short : goal.returns-else-is_short
 unfolding same_slot same_value
 returns-else-is_short c =
-    let w = c in
-    let s : List ℕ = w.args.slot.now in
+    let s : List ℕ = c.args.slot.now in
     c.if-is_short.false
     ∙ sym (ap₂ (λ (a b : Bool). a && (b && same (value2 s) (short (value2 s)))) (eq-eqb (kind s) (kind s) refl)
-    (sym w.is_short.ensures ∙ c.if-is_short.false))
+    (sym c.is_short.ensures ∙ c.if-is_short.false))

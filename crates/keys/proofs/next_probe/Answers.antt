@@ -8,11 +8,8 @@ use Rattle.keys.proofs.next_probe.Goals as goal
 
 pub returns : goal.returns
 returns c =
-    let d = c in
-    let e = d in
-    let b = e in
-    let own = b.requires.2 (e.if-not-short.false) in
+    let own = c.requires.2 c.if-not-short.false in
     record {
-      inside = d.differing_word-at.ensures;
-      there = c.word.ensures ∙ ap (λ (l : List ℕ). little_endian (part d.differing_word-at.result 8 l)) (sym own);
+      inside = c.differing_word-at.ensures;
+      there = c.word.ensures ∙ ap (λ (l : List ℕ). little_endian (part c.differing_word-at.result 8 l)) (sym own);
     }

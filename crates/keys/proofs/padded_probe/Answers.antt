@@ -5,42 +5,35 @@ use Rattle.keys.proofs.padded_probe.Goals as goal
 
 pub bounds-stored-at : goal.bounds-stored-at
 bounds-stored-at c =
-    let d = c in
-    let w = value-inside d.differing_value-at.result d.differing_value-at.ensures in
+    let w = value-inside c.differing_value-at.result c.differing_value-at.ensures in
     omega arith
 
 pub overflow_add-at : goal.overflow_add-at
 overflow_add-at c =
-    let d = c in
-    let w = value-inside d.differing_value-at.result d.differing_value-at.ensures in
+    let w = value-inside c.differing_value-at.result c.differing_value-at.ensures in
     omega arith
 
 pub word-requires : goal.word-requires
 word-requires c =
-    let d = c in
-    let w = value-inside d.differing_value-at.result d.differing_value-at.ensures in
+    let w = value-inside c.differing_value-at.result c.differing_value-at.ensures in
     omega arith
 
 pub overflow_add-result : goal.overflow_add-result
 overflow_add-result c =
-    let d = c in
-    let w = value-inside d.differing_value-at.result d.differing_value-at.ensures in
+    let w = value-inside c.differing_value-at.result c.differing_value-at.ensures in
     omega arith
 
 pub returns-then-last-word : goal.returns-then-last-word
 returns-then-last-word c =
-    let d = c in
-    let w = value-inside d.differing_value-at.result d.differing_value-at.ensures in
+    let w = value-inside c.differing_value-at.result c.differing_value-at.ensures in
     record { inside = omega arith; there = c.word_at-last.ensures }
 
 pub overflow_add-result-2 : goal.overflow_add-result-2
 overflow_add-result-2 c =
-    let d = c in
-    let w = value-inside d.differing_value-at.result d.differing_value-at.ensures in
+    let w = value-inside c.differing_value-at.result c.differing_value-at.ensures in
     omega arith
 
 pub returns : goal.returns
 returns c =
-    let d = c in
-    let w = value-inside d.differing_value-at.result d.differing_value-at.ensures in
+    let w = value-inside c.differing_value-at.result c.differing_value-at.ensures in
     record { inside = omega arith; there = c.word_at.ensures }

@@ -18,22 +18,18 @@ returns-then-stored-slot c =
 pub returns-then-not-is_shortest_of : goal.returns-then-not-is_shortest_of
 unfolding same_slot
 returns-then-not-is_shortest_of c =
-    let w = c in
-    let k = w in
-    let a = k.args in
+    let a = c.args in
     let e : List ℕ = a.stored.now in
     let s : List ℕ = a.slot.now in
-    sym (ap₂ (λ (b v : Bool). b && (v && same_value (value2 e) (value2 s))) (eq-eqb (kind e) (kind s) k.if-stored-slot.false)
-    (sym w.is_shortest_of.ensures ∙ c.if-not-is_shortest_of.true))
+    sym (ap₂ (λ (b v : Bool). b && (v && same_value (value2 e) (value2 s))) (eq-eqb (kind e) (kind s) c.if-stored-slot.false)
+    (sym c.is_shortest_of.ensures ∙ c.if-not-is_shortest_of.true))
 
 pub returns : goal.returns
 unfolding same_slot
 returns c =
-    let w = c in
-    let k = w in
-    let a = k.args in
+    let a = c.args in
     let e : List ℕ = a.stored.now in
     let s : List ℕ = a.slot.now in
     c.is_shortest_of-2.ensures
-    ∙ sym (ap₂ (λ (b v : Bool). b && (v && same_value (value2 e) (value2 s))) (eq-eqb (kind e) (kind s) k.if-stored-slot.false)
-    (sym w.is_shortest_of.ensures ∙ c.if-not-is_shortest_of.false))
+    ∙ sym (ap₂ (λ (b v : Bool). b && (v && same_value (value2 e) (value2 s))) (eq-eqb (kind e) (kind s) c.if-stored-slot.false)
+    (sym c.is_shortest_of.ensures ∙ c.if-not-is_shortest_of.false))

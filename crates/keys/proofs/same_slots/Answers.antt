@@ -11,24 +11,21 @@ loop-i-init c = (omega arith, refl)
 
 pub returns-then-not-same_slot : goal.returns-then-not-same_slot
 returns-then-not-same_slot c =
-    let l = c in
-    let a = l.args in
-    let i : ℕ = l.loop-i.i in
+    let a = c.args in
+    let i : ℕ = c.loop-i.i in
     let w : 35 * i + 4 + 35 - (35 * i + 4) ≡ 35 = omega arith in
     let e = sym c.same_slot.ensures ∙ c.if-not-same_slot.true in
-    sym (l.loop-i.invariant.1 ∙ left-slot a.stored.now a.key.now (omega arith) (omega arith) i _ false (omega arith) w e)
+    sym (c.loop-i.invariant.1 ∙ left-slot a.stored.now a.key.now (omega arith) (omega arith) i _ false (omega arith) w e)
 
 pub loop-i-preserved : goal.loop-i-preserved
 loop-i-preserved c =
-    let l = c in
-    let a = l.args in
-    let i : ℕ = l.loop-i.i in
+    let a = c.args in
+    let i : ℕ = c.loop-i.i in
     let w : 35 * i + 4 + 35 - (35 * i + 4) ≡ 35 = omega arith in
     let e = sym c.same_slot.ensures ∙ c.if-not-same_slot.false in
-    (omega arith, l.loop-i.invariant.1 ∙ left-slot a.stored.now a.key.now (omega arith) (omega arith) i _ true (omega arith) w e)
+    (omega arith, c.loop-i.invariant.1 ∙ left-slot a.stored.now a.key.now (omega arith) (omega arith) i _ true (omega arith) w e)
 
 pub returns : goal.returns
 returns c =
-    let l = c in
-    let a = l.args in
-    sym (l.loop-i.invariant.1 ∙ left-none a.stored.now a.key.now (omega arith) (omega arith) l.loop-i.i (omega arith))
+    let a = c.args in
+    sym (c.loop-i.invariant.1 ∙ left-none a.stored.now a.key.now (omega arith) (omega arith) c.loop-i.i (omega arith))

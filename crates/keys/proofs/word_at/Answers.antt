@@ -16,8 +16,7 @@ slice_bounds-short_word-end c = let w = value-inside c.args.at c.requires.1 in o
 
 pub returns : goal.returns
 returns c =
-    let b = c in
-    let a = b.args in
+    let a = c.args in
     let n : a.at + 17 - a.at ≡ 17 = omega arith in
     c.short_word.ensures ∙ ap (λ (m : ℕ). little_endian (part a.from 8 (short (part a.at m a.key.now)))) n
-    ∙ ap little_endian (sym (value-at a.key.now a.at a.from (omega arith) b.requires.1 (omega arith)))
+    ∙ ap little_endian (sym (value-at a.key.now a.at a.from (omega arith) c.requires.1 (omega arith)))

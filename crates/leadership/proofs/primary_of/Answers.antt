@@ -1,28 +1,22 @@
 -- Right because the two tests are those of the contract. Assumes nothing.
 use mathlib.Core.Path.{◌≡◌, sym, ◌∙◌}
-use mathlib.Core.Bool.{true, false}
+use mathlib.Core.Bool.{Bool, true, false, not}
 use lib.Dec.{eqb}
 use borrow.Author.Tests.{not-true, not-false, lt-ltb, le-ltb}
+use Rattle.election.specs.declared.ElectionId.{ElectionId}
 use Rattle.election.specs.Meaning.{id_of}
 use Rattle.leadership.proofs.primary_of.Goals as goal
 
+-- a mark that was tested and is set
+mark_set : {t : Bool} (m : ElectionId) → t ≡ not (eqb (id_of m) 0) → t ≡ true → eqb (id_of m) 0 ≡ false
+mark_set m e u = not-true (eqb (id_of m) 0) (sym e ∙ u)
+
 pub returns-then-not-is_set : goal.returns-then-not-is_set
-returns-then-not-is_set c =
-    let i = c in
-    let t : eqb (id_of i.args.mark) 0 ≡ true =
-    not-false (eqb (id_of i.args.mark) 0) (sym i.is_set.ensures ∙ c.if-not-is_set.true) in
-    rw t
+returns-then-not-is_set c = rw (not-false (eqb (id_of c.args.mark) 0) (sym c.is_set.ensures ∙ c.if-not-is_set.true))
 
 pub returns-then-holder-ge32 : goal.returns-then-holder-ge32
 returns-then-holder-ge32 c =
-    let mark_set : eqb (id_of c.args.mark) 0 ≡ false =
-    let i = c in
-    not-true (eqb (id_of i.args.mark) 0) (sym i.is_set.ensures ∙ c.if-not-is_set.false) in
-    rw (mark_set, le-ltb _ 32 c.if-holder-ge32.true)
+    rw (mark_set c.args.mark c.is_set.ensures c.if-not-is_set.false, le-ltb _ 32 c.if-holder-ge32.true)
 
 pub returns : goal.returns
-returns c =
-    let mark_set : eqb (id_of c.args.mark) 0 ≡ false =
-    let i = c in
-    not-true (eqb (id_of i.args.mark) 0) (sym i.is_set.ensures ∙ c.if-not-is_set.false) in
-    rw (mark_set, lt-ltb _ 32 c.if-holder-ge32.false)
+returns c = rw (mark_set c.args.mark c.is_set.ensures c.if-not-is_set.false, lt-ltb _ 32 c.if-holder-ge32.false)

@@ -25,56 +25,37 @@ loop-i-init c =
     (omega arith, written_none 20 (map (notice_by a.leadership) (take a.count a.members.now)) a.out.now)
 
 pub slice_bounds-write_notification-count : goal.slice_bounds-write_notification-count
-slice_bounds-write_notification-count c =
-    let long : length c.loop-i.out ≡ length c.args.out.now =
-    written-length c.loop-i.invariant.1 (omega arith) in
-    let h = long in omega arith
+slice_bounds-write_notification-count c = omega (arith, written-length c.loop-i.invariant.1)
 
 pub slice_bounds-write_notification-start : goal.slice_bounds-write_notification-start
-slice_bounds-write_notification-start c =
-    let long : length c.loop-i.out ≡ length c.args.out.now =
-    written-length c.loop-i.invariant.1 (omega arith) in
-    let h = long in omega arith
+slice_bounds-write_notification-start c = omega (arith, written-length c.loop-i.invariant.1)
 
 pub write_notification-requires : goal.write_notification-requires
-write_notification-requires c =
-    let long : length c.loop-i.out ≡ length c.args.out.now =
-    written-length c.loop-i.invariant.1 (omega arith) in
-    let h = long in
-    simp (length-take, length-drop) (omega arith)
+write_notification-requires c = simp (length-take, length-drop) (omega (arith, written-length c.loop-i.invariant.1))
 
 pub loop-i-preserved : goal.loop-i-preserved
 loop-i-preserved c =
-    let long : length c.loop-i.out ≡ length c.args.out.now =
-    written-length c.loop-i.invariant.1 (omega arith) in
-    let w = c in
-    let t = w in
-    let d = t in
-    let a = d.args in
+    let a = c.args in
     let g = a.leadership in
-    let i = d.loop-i.i in
-    let o = d.loop-i.out in
+    let i = c.loop-i.i in
+    let o = c.loop-i.out in
     let l = a.members.now in
     let f = notice_by g in
     let x = f (get_or l i 0) in
-    let n = long in
+    let n = written-length c.loop-i.invariant.1 (omega arith) in
     let z : length x ≡ 20 = notice-length (primary_of g.primary) (id_of g.mark) g.role (get_or l i 0) in
     let q = ap (map f) (next l a.count i (omega arith) (omega arith)) in
-    let v = part-copied o w.write_notification.new.out x (20 * i) (length o - 20 * i)
-    w.write_notification.ensures (omega arith) (omega arith) in
-    (omega arith, written_next d.loop-i.invariant.1 q z (omega arith) v refl)
+    let v = part-copied o c.write_notification.new.out x (20 * i) (length o - 20 * i)
+    c.write_notification.ensures (omega arith) (omega arith) in
+    (omega arith, written_next c.loop-i.invariant.1 q z (omega arith) v refl)
 
 pub shape_of-out : goal.shape_of-out
-shape_of-out c =
-    let long : length c.loop-i.out ≡ length c.args.out.now =
-    written-length c.loop-i.invariant.1 (omega arith) in
-    long
+shape_of-out c = written-length c.loop-i.invariant.1 (omega arith)
 
 pub returns : goal.returns
 returns c =
-    let d = c in
-    let a = d.args in
+    let a = c.args in
     let l = take a.count a.members.now in
     let n : length l ≡ a.count = length-take-le a.count a.members.now (omega arith) in
-    let h : length l ≤ d.loop-i.i = omega arith in
-    (written_all d.loop-i.invariant.1 (ap (map (notice_by a.leadership)) (drop_of_length-le l h))).1
+    let h : length l ≤ c.loop-i.i = omega arith in
+    (written_all c.loop-i.invariant.1 (ap (map (notice_by a.leadership)) (drop_of_length-le l h))).1

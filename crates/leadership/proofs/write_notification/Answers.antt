@@ -34,35 +34,22 @@ write-requires c = simp (length-take, length-drop, length-set) (omega arith)
 
 pub shape_of-out : goal.shape_of-out
 shape_of-out c =
-    let front : List ℕ =
-    sets c.args.out.now 0 ((let f = c in
-    let a = f.args in
-    a.stream ∷ a.leadership.role ∷ f.status.result ∷ f.flag.result ∷ [])) in
-    let w = c in
-    same_len_mid 4 (length front - 4) front w.write.new.out w.write.auto.out
-    ∙ length-sets w.args.out.now 0 ((let f = c in
-    let a = f.args in
-    a.stream ∷ a.leadership.role ∷ f.status.result ∷ f.flag.result ∷ []))
+    let a = c.args in
+    same_len_mid 4 _ _ c.write.new.out c.write.auto.out
+    ∙ length-sets a.out.now 0 (a.stream ∷ a.leadership.role ∷ c.status.result ∷ c.flag.result ∷ [])
 
 pub returns : goal.returns
 unfolding notice_of
 returns c =
-    let front : List ℕ =
-    sets c.args.out.now 0 ((let f = c in
-    let a = f.args in
-    a.stream ∷ a.leadership.role ∷ f.status.result ∷ f.flag.result ∷ [])) in
-    let w = c in
-    let f = w in
-    let a = f.args in
-    let m = id_of a.leadership.mark in
+    let a = c.args in
     let d : List ℕ = a.out.now in
-    let xs : List ℕ = (let f = c in
-    let a = f.args in
-    a.stream ∷ a.leadership.role ∷ f.status.result ∷ f.flag.result ∷ []) in
+    let xs : List ℕ = a.stream ∷ a.leadership.role ∷ c.status.result ∷ c.flag.result ∷ [] in
+    let front : List ℕ = sets d 0 xs in
+    let m = id_of a.leadership.mark in
     let ys : List ℕ = bytes_of 16 m in
     let n : length ys ≡ 16 = bytes-length 16 m in
     let l : length front ≡ length d = length-sets d 0 xs in
-    part-copied front w.write.new.out ys 4 (length front - 4) w.write.ensures (omega arith) (omega arith)
+    part-copied front c.write.new.out ys 4 (length front - 4) c.write.ensures (omega arith) (omega arith)
     ∙ ap (λ (x : List ℕ). splice x 4 ys) (sets-eq xs d 0 (omega arith) ∙ sym (splice_front d xs))
     ∙ splice-next d 0 4 xs ys refl (omega arith)
-    ∙ ap₂ (λ (t g : ℕ). splice d 0 (a.stream ∷ a.leadership.role ∷ t ∷ g ∷ ys)) f.status.ensures f.flag.ensures
+    ∙ ap₂ (λ (t g : ℕ). splice d 0 (a.stream ∷ a.leadership.role ∷ t ∷ g ∷ ys)) c.status.ensures c.flag.ensures

@@ -19,17 +19,15 @@ overflow_add-x c = record { fits = omega (arith, pow-seven c.loop-k.k (omega ari
 
 pub loop-k-preserved : goal.loop-k-preserved
 loop-k-preserved c =
-    let d = c in
-    let a = d.args in
-    let k : ℕ = d.loop-k.k in (
+    let a = c.args in
+    let k : ℕ = c.loop-k.k in (
       omega arith,
-      below_next d.loop-k.x c.wide.result k d.loop-k.invariant.1 c.wide.ensures.1,
+      below_next c.loop-k.x c.wide.result k c.loop-k.invariant.1 c.wide.ensures.1,
       omega (arith, int-next a.at k a.b.now (omega arith)),
     )
 
 pub returns : goal.returns
 returns c =
-    let d = c in
-    let a = d.args in
-    let e : d.loop-k.k ≡ a.n = omega arith in
-    d.loop-k.invariant.2 ∙ ap (λ (m : ℕ). int a.at m a.b.now) e
+    let a = c.args in
+    let e : c.loop-k.k ≡ a.n = omega arith in
+    c.loop-k.invariant.2 ∙ ap (λ (m : ℕ). int a.at m a.b.now) e

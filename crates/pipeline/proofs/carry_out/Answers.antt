@@ -22,10 +22,9 @@ read-requires c = let s = c.requires in (s.0, simp (length-take, length-drop) (o
 
 pub returns : goal.returns
 returns c =
-    let s = c in
-    let a = s.args in
+    let a = c.args in
     let t = a.command.count in
     let rows = drop 28 a.frame.now in
-    let long : 53 * t ≤ length rows = rw length-drop (omega (arith, s.requires.1)) in
+    let long : 53 * t ≤ length rows = rw length-drop (omega (arith, c.requires.1)) in
     let read = c.read.ensures ∙ ap (λ (l : List ℕ). map row_of (parts t 53 l)) (rest_all 28 a.frame.now) in
     rows-configured (head_of a.command.head) t rows long read c.none.ensures

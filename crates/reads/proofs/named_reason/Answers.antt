@@ -9,22 +9,18 @@ use Rattle.reads.proofs.named_reason.Goals as goal
 
 pub returns-then-barred-ne0 : goal.returns-then-barred-ne0
 returns-then-barred-ne0 c =
-    let f = c in
-    let a = f.args in
-    by-table a.known (row_of a.row.now) a.role a.only (key_in a.query.now) f.table_reason-barred.ensures c.if-barred-ne0.true
+    let a = c.args in
+    by-table a.known (row_of a.row.now) a.role a.only (key_in a.query.now) c.table_reason-barred.ensures c.if-barred-ne0.true
 
 pub returns-then-only-ne1 : goal.returns-then-only-ne1
 returns-then-only-ne1 c =
-    let f = c in
-    let a = f.args in
-    by-nothing a.known (row_of a.row.now) a.role a.only (key_in a.query.now) f.table_reason-barred.ensures c.if-barred-ne0.false
+    let a = c.args in
+    by-nothing a.known (row_of a.row.now) a.role a.only (key_in a.query.now) c.table_reason-barred.ensures c.if-barred-ne0.false
     c.if-only-ne1.true
 
 pub returns : goal.returns
 returns c =
-    let g = c in
-    let f = g in
-    let a = f.args in
+    let a = c.args in
     let b : List ℕ = a.query.now in
-    by_key a.known (row_of a.row.now) a.role a.only (key_in b) f.table_reason-barred.ensures g.if-barred-ne0.false
-    g.if-only-ne1.false (c.key_reason.ensures (key_in b) (key-behind b (search rules)))
+    by_key a.known (row_of a.row.now) a.role a.only (key_in b) c.table_reason-barred.ensures c.if-barred-ne0.false
+    c.if-only-ne1.false (c.key_reason.ensures (key_in b) (key-behind b (search rules)))

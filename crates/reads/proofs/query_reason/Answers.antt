@@ -9,17 +9,15 @@ use Rattle.reads.proofs.query_reason.Goals as goal
 
 pub returns-then-table-eq0 : goal.returns-then-table-eq0
 returns-then-table-eq0 c =
-    let s = c in
-    let a = s.args in
+    let a = c.args in
     let z = c.if-table-eq0.true in
-    none_named (rows_in a.count a.rows.now) a.role a.table a.only (key_in a.query.now) z (λ o. s.requires.2 o z)
+    none_named (rows_in a.count a.rows.now) a.role a.table a.only (key_in a.query.now) z (λ o. c.requires.2 o z)
 
 pub returns : goal.returns
 returns c =
-    let f = c in
-    let a = f.args in
-    let at = f.find-found.result.at in
+    let a = c.args in
+    let at = c.find-found.result.at in
     let w : at + 53 - at ≡ 53 = omega arith in
     rw w at c.named_reason.ensures
-    ∙ one-named (rows_in a.count a.rows.now) a.role a.table a.only (key_in a.query.now) f.if-table-eq0.false
-    f.find-found.ensures.known f.find-found.ensures.row
+    ∙ one-named (rows_in a.count a.rows.now) a.role a.table a.only (key_in a.query.now) c.if-table-eq0.false
+    c.find-found.ensures.known c.find-found.ensures.row

@@ -6,11 +6,9 @@ use Rattle.reads.proofs.read.Goals as goal
 pub returns-then-only-eq1 : goal.returns-then-only-eq1
 unfolding read_in
 returns-then-only-eq1 c =
-    let g = c in
-    rw (eq-eqb g.args.only 1 g.if-only-eq1.true) c.read_key.ensures
+    rw (eq-eqb c.args.only 1 c.if-only-eq1.true) c.read_key.ensures
 
 pub returns : goal.returns
 unfolding read_in
 returns c =
-    let g = c in
-    rw (ne_eqb g.args.only 1 g.if-only-eq1.false) (λ d. c.read_all.ensures)
+    rw (ne_eqb c.args.only 1 c.if-only-eq1.false) (λ d. c.read_all.ensures)

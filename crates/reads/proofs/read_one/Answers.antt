@@ -3,49 +3,39 @@ use Prim.Native.Nat.{ℕ, ◌+◌, ◌*◌, ◌-◌, ◌<◌}
 use native.Mathlib.Omega.{arith}
 use mathlib.Core.Path.{◌≡◌, sym, ap, ◌∙◌}
 use mathlib.Core.List.{List, ◌++◌}
-use mathlib.Core.Option.{some}
 use Rattle.rules.specs.Key.{short_key}
-use Rattle.store.specs.Store.{entries_in, place, place_of}
+use Rattle.store.specs.declared.Tables.{Tables}
+use Rattle.store.specs.declared.Found.{Found}
+use Rattle.store.specs.declared.Found.TheVariants.{At}
+use Rattle.store.specs.Store.{InRange, place_of}
 use Rattle.reads.proofs.Records.{none_read, one-read}
 use borrow.Author.Rules.{rules}
 use Rattle.reads.proofs.read_one.Goals as goal
 
+-- the place that was found is that of an entry
+inside : {found : Found} (i : ℕ) (t : Tables) → found ≡ At i → InRange found t → i < t.count
+inside i t e r = rw e at r
+
 pub overflow_mul-from : goal.overflow_mul-from
-overflow_mul-from c =
-    let inside : c.in-At.i < c.args.tables.count =
-    rw c.in-At.is at c.find-found.ensures.range in
-    omega (arith, inside)
+overflow_mul-from c = omega (arith, inside c.in-At.i c.args.tables c.in-At.is c.find-found.ensures.range)
 
 pub overflow_add-end : goal.overflow_add-end
-overflow_add-end c =
-    let inside : c.in-At.i < c.args.tables.count =
-    rw c.in-At.is at c.find-found.ensures.range in
-    omega (arith, inside)
+overflow_add-end c = omega (arith, inside c.in-At.i c.args.tables c.in-At.is c.find-found.ensures.range)
 
 pub slice_bounds-write_entry-end : goal.slice_bounds-write_entry-end
-slice_bounds-write_entry-end c =
-    let inside : c.in-At.i < c.args.tables.count =
-    rw c.in-At.is at c.find-found.ensures.range in
-    omega (arith, inside)
+slice_bounds-write_entry-end c = omega (arith, inside c.in-At.i c.args.tables c.in-At.is c.find-found.ensures.range)
 
 pub returns-in-At : goal.returns-in-At
 returns-in-At c =
-    let found : let a = c.args in some c.in-At.i ≡ place (short_key (a.table.now ++ a.key.now)) (entries_in a.tables a.store.now) =
-    ap place_of (sym c.in-At.is) ∙ c.find-found.ensures.place in
-    let inside : c.in-At.i < c.args.tables.count =
-    rw c.in-At.is at c.find-found.ensures.range in
-    let w = c in
-    let d = w in
-    let a = d.args in
+    let a = c.args in
     let i : ℕ = c.in-At.i in
     let k : 220 * i + 220 - 220 * i ≡ 220 = omega arith in
     let sought : List ℕ = short_key (a.table.now ++ a.key.now) in
-    one-read a.tables a.store.now sought a.answer.now i w.write_entry.new.dst found inside (search rules)
-    (rw k at w.write_entry.ensures)
+    one-read a.tables a.store.now sought a.answer.now i c.write_entry.new.dst (ap place_of (sym c.in-At.is) ∙ c.find-found.ensures.place)
+    (inside i a.tables c.in-At.is c.find-found.ensures.range) (search rules) (rw k at c.write_entry.ensures)
 
 pub returns-in-Absent : goal.returns-in-Absent
 returns-in-Absent c =
-    let d = c in
-    let a = d.args in
+    let a = c.args in
     let sought : List ℕ = short_key (a.table.now ++ a.key.now) in
-    λ t. none_read a.tables a.store.now sought a.answer.now (ap place_of (sym c.in-Absent.is) ∙ d.find-found.ensures.place)
+    λ t. none_read a.tables a.store.now sought a.answer.now (ap place_of (sym c.in-Absent.is) ∙ c.find-found.ensures.place)

@@ -1,16 +1,9 @@
 -- Right because what is left of the rows begins with the one at the index. Assumes nothing.
-use Prim.Native.Nat.{◌-◌, ◌*◌, min, ◌≤◌}
-use native.Mathlib.Omega.{arith}
-use mathlib.Core.Path.{◌≡◌, refl, sym, ap, ◌∙◌}
-use mathlib.Core.Bool.{true, false}
+use Prim.Native.Nat.{◌-◌, ◌*◌}
+use mathlib.Core.Path.{◌≡◌}
 use lib.ListN.{drop}
-use lib.Dec.{eqb}
-use borrow.Author.Tests.{eq-eqb, ne_eqb}
-use Rattle.rules.specs.Bytes.{int}
 use Rattle.rules.specs.Row as rules
-use Rattle.rules.proofs.Tests.{contradiction}
 use Rattle.rows.specs.Meaning.{rows_in, place_from}
-use Rattle.rows.proofs.RowsWalk.{rows_none, known_next, row_next, place-next}
 use Rattle.rows.proofs.find.Given as goal
 
 abbrev pub invariant-loop-i : goal.invariant-loop-i

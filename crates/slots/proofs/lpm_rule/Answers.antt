@@ -23,8 +23,7 @@ returns-then-w-n c =
 
 pub returns : goal.returns
 returns c =
-    let s = c in
-    let a = s.args in
+    let a = c.args in
     c.low_zero.ensures
     ∙ prefix-some a.width (whole_of a.x) (whole_of a.y) a.y.low
-    (low-alone a.y.high a.y.low s.if-y-ne0.false) c.if-n-eq0.false c.if-w-n.false
+    (low-alone a.y.high a.y.low c.if-y-ne0.false) c.if-n-eq0.false c.if-w-n.false

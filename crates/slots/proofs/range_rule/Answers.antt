@@ -1,7 +1,6 @@
 -- Right because it is the tests of `range_rule`, in their order. Assumes nothing.
-use lib.Dec.{leb}
-use mathlib.Core.Path.{◌≡◌, sym, ap, ◌∙◌}
-use mathlib.Core.Bool.{true, not}
+use mathlib.Core.Path.{sym, ap, ◌∙◌}
+use mathlib.Core.Bool.{not}
 use Rattle.numbers.specs.Whole.{whole_of}
 use Rattle.slots.proofs.Slots.{bounds-turned, bounds-from-zero, bounds-above}
 use Rattle.slots.proofs.range_rule.Goals as goal
@@ -14,18 +13,12 @@ returns-then-not-at_most c =
 
 pub returns-then-is_zero : goal.returns-then-is_zero
 returns-then-is_zero c =
-    let in_order : leb (whole_of c.args.x) (whole_of c.args.y) ≡ true =
-    sym c.at_most.ensures ∙ c.if-not-at_most.false in
-    let z = c in
-    let a = z.args in
+    let a = c.args in
     ap not c.is_ones.ensures
-    ∙ bounds-from-zero a.width (whole_of a.x) (whole_of a.y) in_order
-    (sym z.is_zero.ensures ∙ c.if-is_zero.true)
+    ∙ bounds-from-zero a.width (whole_of a.x) (whole_of a.y) (sym c.at_most.ensures ∙ c.if-not-at_most.false)
+    (sym c.is_zero.ensures ∙ c.if-is_zero.true)
 
 pub returns : goal.returns
 returns c =
-    let in_order : leb (whole_of c.args.x) (whole_of c.args.y) ≡ true =
-    sym c.at_most.ensures ∙ c.if-not-at_most.false in
-    let z = c in
-    let a = z.args in
-    bounds-above a.width (whole_of a.x) (whole_of a.y) in_order (sym z.is_zero.ensures ∙ c.if-is_zero.false)
+    let a = c.args in
+    bounds-above a.width (whole_of a.x) (whole_of a.y) (sym c.at_most.ensures ∙ c.if-not-at_most.false) (sym c.is_zero.ensures ∙ c.if-is_zero.false)

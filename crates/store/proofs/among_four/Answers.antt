@@ -16,12 +16,9 @@ returns-then-word-3 c = λ e. absurd (true≢false e)
 
 pub returns : goal.returns
 returns c =
-    let third = c in
-    let second = third in
-    let first = second in
-    let a = first.args in
+    let a = c.args in
     λ e. none_of_four a.at a.word a.store.now
-    (λ q. first.if-word.false (first.word.ensures ∙ q))
-    (λ q. second.if-word-2.false (second.word-2.ensures ∙ q))
-    (λ q. third.if-word-3.false (third.word-3.ensures ∙ q))
+    (λ q. c.if-word.false (c.word.ensures ∙ q))
+    (λ q. c.if-word-2.false (c.word-2.ensures ∙ q))
+    (λ q. c.if-word-3.false (c.word-3.ensures ∙ q))
     (λ q. eqb-false c.word-4.result a.word e (c.word-4.ensures ∙ q))

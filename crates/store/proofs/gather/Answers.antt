@@ -28,12 +28,11 @@ returns-then-answer-at-lt-ENTRY c =
 
 pub loop-i-preserved : goal.loop-i-preserved
 loop-i-preserved c =
-    let l = c in
-    let s : List ℕ = l.args.store.now in
-    let x : List ℕ = l.loop-i.answer in
-    let i : ℕ = l.loop-i.i in
-    let at : ℕ = 220 * l.loop-i.n in
-    let g = l.loop-i.invariant in
+    let s : List ℕ = c.args.store.now in
+    let x : List ℕ = c.loop-i.answer in
+    let i : ℕ = c.loop-i.i in
+    let at : ℕ = 220 * c.loop-i.n in
+    let g = c.loop-i.invariant in
     let e = c.integer.ensures in
     elim c.if-integer-table.branch [
       | then-integer-table+else-answer-at-lt-ENTRY w ↦

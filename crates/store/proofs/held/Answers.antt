@@ -13,23 +13,21 @@ loop-i-init c = let a = c.args in (omega arith, omega arith, held-left a.table a
 
 pub loop-i-preserved : goal.loop-i-preserved
 loop-i-preserved c =
-    let l = c in
-    let a = l.args in
+    let a = c.args in
     let s : List ℕ = a.store.now in
-    let i : ℕ = l.loop-i.i in
+    let i : ℕ = c.loop-i.i in
     let h : i < a.tables.count = omega arith in
     let e = c.integer.ensures in
     elim c.if-integer-table.branch [
       | then-integer-table w ↦
           let p = ap length (left-hit a.table a.tables s i h (sym e ∙ w.if-integer-table.true)) in
-          (omega arith, omega arith, omega (arith, p, w.n-is, l.loop-i.invariant.2))
+          (omega arith, omega arith, omega (arith, p, w.n-is, c.loop-i.invariant.2))
       | else-integer-table w ↦
           let p = ap length (left-miss a.table a.tables s i h (λ q. w.if-integer-table.false (e ∙ q))) in
-          (omega arith, omega arith, omega (arith, p, w.n-is, l.loop-i.invariant.2))
+          (omega arith, omega arith, omega (arith, p, w.n-is, c.loop-i.invariant.2))
     ]
 
 pub returns : goal.returns
 returns c =
-    let l = c in
-    let a = l.args in
-    omega (arith, l.loop-i.invariant.2, ap length (left-none a.table a.tables a.store.now l.loop-i.i (omega arith)))
+    let a = c.args in
+    omega (arith, c.loop-i.invariant.2, ap length (left-none a.table a.tables a.store.now c.loop-i.i (omega arith)))

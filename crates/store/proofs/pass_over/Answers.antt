@@ -8,19 +8,16 @@ loop-i-init c = (omega arith, omega arith, λ j a b. absurd (omega arith))
 
 pub returns-then-among_four : goal.returns-then-among_four
 returns-then-among_four c =
-    let l = c in
-    record { later = l.loop-i.invariant.0; inside = l.loop-i.invariant.1; apart = l.loop-i.invariant.2 }
+    record { later = c.loop-i.invariant.0; inside = c.loop-i.invariant.1; apart = c.loop-i.invariant.2 }
 
 pub loop-i-preserved : goal.loop-i-preserved
 loop-i-preserved c =
-    let l = c in
-    let a = l.args in (
+    let a = c.args in (
       omega arith,
       omega arith,
-      four-more a.from l.loop-i.i a.place a.word a.store.now l.loop-i.invariant.2 (c.among_four.ensures c.if-among_four.false),
+      four-more a.from c.loop-i.i a.place a.word a.store.now c.loop-i.invariant.2 (c.among_four.ensures c.if-among_four.false),
     )
 
 pub returns : goal.returns
 returns c =
-    let l = c in
-    record { later = l.loop-i.invariant.0; inside = l.loop-i.invariant.1; apart = l.loop-i.invariant.2 }
+    record { later = c.loop-i.invariant.0; inside = c.loop-i.invariant.1; apart = c.loop-i.invariant.2 }

@@ -8,17 +8,14 @@ returns-then-input-lt2 c = record { found = no_length c.args.input.now c.if-inpu
 
 pub overflow_add-end : goal.overflow_add-end
 overflow_add-end c =
-    let k = c in
-    let few = int-two 0 k.args.input.now (λ i. (k.type_inv.input i).fits) (omega arith) in
+    let few = int-two 0 c.args.input.now (λ i. (c.type_inv.input i).fits) (omega arith) in
     record { fits = omega (arith, c.integer.ensures, few) }
 
 pub returns-then-input-end : goal.returns-then-input-end
 returns-then-input-end c =
-    let d = c in
-    record { found = breaks-off d.args.input.now d.integer.result d.integer.ensures (omega arith) c.if-input-end.true; within = tt }
+    record { found = breaks-off c.args.input.now c.integer.result c.integer.ensures (omega arith) c.if-input-end.true; within = tt }
 
 pub returns : goal.returns
 returns c =
-    let d = c in
-    let frame = whole d.args.input.now d.integer.result d.integer.ensures (omega arith) c.if-input-end.false in
+    let frame = whole c.args.input.now c.integer.result c.integer.ensures (omega arith) c.if-input-end.false in
     record { found = frame; within = (omega arith, c.if-input-end.false) }

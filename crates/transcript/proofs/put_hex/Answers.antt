@@ -45,29 +45,24 @@ bounds-out-to-in-loop-i c = simp length-set (omega (arith, room c.args.bytes.now
 
 pub loop-i-preserved : goal.loop-i-preserved
 loop-i-preserved c =
-    let l = c in
-    let s = l in
-    let a = s.args in
-    let i : ℕ = l.loop-i.i in
-    let out : List ℕ = l.loop-i.out in
+    let a = c.args in
+    let i : ℕ = c.loop-i.i in
+    let out : List ℕ = c.loop-i.out in
     let x : ℕ = c.glyph.result in
     let y : ℕ = c.glyph-in-loop-i.result in
     let bs : List ℕ = a.bytes.now in
     let e : hex (drop i bs) ≡ (x ∷ y ∷ []) ++ hex (drop (i + 1) bs) =
     rw (c.glyph.ensures, c.glyph-in-loop-i.ensures) (hex-from bs i c.loop-i-test.true) in
-    let t = c in
     let stores = two-sets out (a.at + 2 * i) x y (omega (arith, room c.args.bytes.now c.loop-i.i c.args.at (c.args.at + 2 * c.loop-i.i) c.args.out.now c.loop-i.out c.loop-i-test.true c.requires c.loop-i.invariant.1, out-length c.args.bytes.now c.loop-i.i c.args.at (c.args.at + 2 * c.loop-i.i) c.args.out.now c.loop-i.out c.loop-i-test.true c.requires c.loop-i.invariant.1)) in
-    (search rules, prefix-next l.loop-i.invariant.1 (x ∷ y ∷ []) e s.requires (omega arith, stores))
+    (search rules, prefix-next c.loop-i.invariant.1 (x ∷ y ∷ []) e c.requires (omega arith, stores))
 
 pub overflow_mul-result : goal.overflow_mul-result
 overflow_mul-result c =
-    let s = c in
-    record { fits = omega (arith, s.requires, hex-length s.args.bytes.now) }
+    record { fits = omega (arith, c.requires, hex-length c.args.bytes.now) }
 
 pub overflow_add-result : goal.overflow_add-result
 overflow_add-result c =
-    let s = c in
-    record { fits = omega (arith, s.requires, hex-length s.args.bytes.now) }
+    record { fits = omega (arith, c.requires, hex-length c.args.bytes.now) }
 
 pub shape_of-out : goal.shape_of-out
 shape_of-out c = prefix-length c.loop-i.invariant.1 c.requires

@@ -10,8 +10,7 @@ use Rattle.transcript.proofs.write_line.Goals as goal
 
 pub put_line-requires : goal.put_line-requires
 put_line-requires c =
-    let t = c in
-    sym t.line_fits.ensures ∙ t.if-line_fits.true
+    sym c.line_fits.ensures ∙ c.if-line_fits.true
 
 pub returns-then-line_fits : goal.returns-then-line_fits
 returns-then-line_fits c = record { count = c.put_line.ensures.next; bytes = c.put_line.ensures.bytes }

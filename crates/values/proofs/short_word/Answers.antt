@@ -23,43 +23,38 @@ pub loop-k-init : goal.loop-k-init
 loop-k-init c = (omega arith, search rules, refl)
 
 pub overflow_mul-x : goal.overflow_mul-x
-overflow_mul-x c = let d = c in record { fits = omega (arith, pow-seven (8 - d.loop-k.k) (omega arith), d.loop-k.invariant.1) }
+overflow_mul-x c = record { fits = omega (arith, pow-seven (8 - c.loop-k.k) (omega arith), c.loop-k.invariant.1) }
 
 pub overflow_add-x : goal.overflow_add-x
 overflow_add-x c =
-    let d = c in
-    record { fits = omega (arith, pow-seven (8 - d.loop-k.k) (omega arith), d.loop-k.invariant.1, c.wide.ensures.1) }
+    record { fits = omega (arith, pow-seven (8 - c.loop-k.k) (omega arith), c.loop-k.invariant.1, c.wide.ensures.1) }
 
 pub loop-k-preserved : goal.loop-k-preserved
 loop-k-preserved c =
-    let d = c in
-    let b = d in
-    let a = b.args in
-    let n : ℕ = b.digit_count-n.result in
-    let first : ℕ = b.significant-first.result in
+    let a = c.args in
+    let n : ℕ = c.digit_count-n.result in
+    let first : ℕ = c.significant-first.result in
     let form : List ℕ = Form a.v.now n first in
     let few : length (part first (n + 1 - first) a.v.now) ≤ 16 =
     omega (arith, from-length a.v.now n first (omega arith) (omega arith) (omega arith) (omega arith)) in
     let l : length form ≡ 17 = padded-length (part first (n + 1 - first) a.v.now) few in
-    let j : ℕ = d.loop-k.k - 1 in
-    let s : d.loop-k.k ≡ j + 1 = omega arith in
-    let w = word_more form a.at j d.loop-k.x c.wide.result (omega arith) (omega arith)
+    let j : ℕ = c.loop-k.k - 1 in
+    let s : c.loop-k.k ≡ j + 1 = omega arith in
+    let w = word_more form a.at j c.loop-k.x c.wide.result (omega arith) (omega arith)
     c.wide.ensures.1 (c.wide.ensures.0 ∙ c.short_digit.ensures)
-    (subst (λ (z : ℕ). d.loop-k.x < 256 ^ (8 - z)) s d.loop-k.invariant.1)
-    (subst (λ (z : ℕ). d.loop-k.x ≡ little_endian (take (8 - z) (drop (a.at + z) form))) s d.loop-k.invariant.2) in
+    (subst (λ (z : ℕ). c.loop-k.x < 256 ^ (8 - z)) s c.loop-k.invariant.1)
+    (subst (λ (z : ℕ). c.loop-k.x ≡ little_endian (take (8 - z) (drop (a.at + z) form))) s c.loop-k.invariant.2) in
     (omega arith, w.0, w.1)
 
 pub returns : goal.returns
 returns c =
-    let d = c in
-    let b = d in
-    let a = b.args in
-    let n : ℕ = b.digit_count-n.result in
-    let first : ℕ = b.significant-first.result in
+    let a = c.args in
+    let n : ℕ = c.digit_count-n.result in
+    let first : ℕ = c.significant-first.result in
     let form : List ℕ = Form a.v.now n first in
-    let e : d.loop-k.k ≡ 0 = omega arith in
+    let e : c.loop-k.k ≡ 0 = omega arith in
     let f : a.at + 0 ≡ a.at = omega arith in
-    d.loop-k.invariant.2 ∙ ap (λ (z : ℕ). little_endian (take (8 - z) (drop (a.at + z) form))) e
+    c.loop-k.invariant.2 ∙ ap (λ (z : ℕ). little_endian (take (8 - z) (drop (a.at + z) form))) e
     ∙ ap (λ (z : ℕ). little_endian (take 8 (drop z form))) f
     ∙ ap (λ (l : List ℕ). little_endian (part a.at 8 l))
-    (sym (short-from a.v.now n first (omega arith) b.digit_count-n.ensures (omega arith) b.significant-first.ensures.digits))
+    (sym (short-from a.v.now n first (omega arith) c.digit_count-n.ensures (omega arith) c.significant-first.ensures.digits))

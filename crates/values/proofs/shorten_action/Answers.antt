@@ -17,28 +17,26 @@ loop-i-init c = (omega arith, refl, replaced-none short 17 _ _ 72)
 
 pub loop-i-preserved : goal.loop-i-preserved
 loop-i-preserved c =
-    let l = c in
-    let a = l.args in
+    let a = c.args in
     let k : List ℕ = part 148 72 a.entry.now in
     let lk : length k ≡ 72 = part_length 148 72 a.entry.now (omega arith) in
-    let m = l.copy in
+    let m = c.copy in
     let s = c.shorten_at in
-    let i : ℕ = l.loop-i.i in (
+    let i : ℕ = c.loop-i.i in (
       omega arith,
-      s.auto.dst ∙ l.loop-i.invariant.1,
+      s.auto.dst ∙ c.loop-i.invariant.1,
       replaced-next short 17 k a.dst.now m.new.dst m.ensures short-length (17 * i + 4) (17 * (i - 1) + 4) (4 - i) (4 - (i - 1))
-          l.loop-i.dst s.new.dst (omega arith) (omega arith) (omega arith) l.loop-i.invariant.2 s.ensures,
+          c.loop-i.dst s.new.dst (omega arith) (omega arith) (omega arith) c.loop-i.invariant.2 s.ensures,
     )
 
 pub returns : goal.returns
 returns c =
-    let l = c in
-    let a = l.args in
+    let a = c.args in
     let k : List ℕ = part 148 72 a.entry.now in
     let lk : length k ≡ 72 = part_length 148 72 a.entry.now (omega arith) in
-    let m = l.copy in
-    let e : l.loop-i.i ≡ 0 = omega arith in
-    replaced-all short 17 k a.dst.now m.new.dst m.ensures (17 * l.loop-i.i + 4) (4 - l.loop-i.i) l.loop-i.dst (omega arith)
-    l.loop-i.invariant.2
+    let m = c.copy in
+    let e : c.loop-i.i ≡ 0 = omega arith in
+    replaced-all short 17 k a.dst.now m.new.dst m.ensures (17 * c.loop-i.i + 4) (4 - c.loop-i.i) c.loop-i.dst (omega arith)
+    c.loop-i.invariant.2
     ∙ ap (λ (i : ℕ). splice a.dst.now 0 (take (17 * i + 4) k ++ concat (map short (parts (4 - i) 17 (drop (17 * i + 4) k))))) e
     ∙ ap (splice a.dst.now 0) (action-parts a.entry.now (omega arith))

@@ -5,7 +5,6 @@ use Rattle.values.proofs.shorten_slot.Goals as goal
 
 pub returns : goal.returns
 returns c =
-    let k = c in
-    let a = k.args in
-    slot-in-place a.dst.now k.shorten_at.new.dst c.shorten_at-2.new.dst a.at (omega arith)
-    k.shorten_at.ensures c.shorten_at-2.ensures
+    let a = c.args in
+    slot-in-place a.dst.now c.shorten_at.new.dst c.shorten_at-2.new.dst a.at (omega arith)
+    c.shorten_at.ensures c.shorten_at-2.ensures

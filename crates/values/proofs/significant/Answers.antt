@@ -13,31 +13,28 @@ loop-i-init c =
 
 pub returns-then-v-at-ne0 : goal.returns-then-v-at-ne0
 returns-then-v-at-ne0 c =
-    let l = c in
-    let a = l.args in
+    let a = c.args in
     let n : ℕ = a.n in
-    let i : ℕ = l.loop-i.i in
-    let e : n + 1 - i ≡ suc (n - i) = omega arith in record { bounds = (omega arith, omega arith); digits = l.loop-i.invariant.2 ∙ rw e (other-stays a.v.now (a.at + i) (n - i) (omega arith) c.if-v-at-ne0.true) }
+    let i : ℕ = c.loop-i.i in
+    let e : n + 1 - i ≡ suc (n - i) = omega arith in record { bounds = (omega arith, omega arith); digits = c.loop-i.invariant.2 ∙ rw e (other-stays a.v.now (a.at + i) (n - i) (omega arith) c.if-v-at-ne0.true) }
 
 pub loop-i-preserved : goal.loop-i-preserved
 loop-i-preserved c =
-    let l = c in
-    let a = l.args in
+    let a = c.args in
     let n : ℕ = a.n in
-    let i : ℕ = l.loop-i.i in
+    let i : ℕ = c.loop-i.i in
     let e : n + 1 - i ≡ suc (n - i) = omega arith in
     let f : n + 1 - (i + 1) ≡ n - i = omega arith in
     let g : a.at + (i + 1) ≡ suc (a.at + i) = omega arith in (
       omega arith,
       omega arith,
-      l.loop-i.invariant.2 ∙ rw (e, f, g) (zero-goes a.v.now (a.at + i) (n - i) (omega arith) c.if-v-at-ne0.false),
+      c.loop-i.invariant.2 ∙ rw (e, f, g) (zero-goes a.v.now (a.at + i) (n - i) (omega arith) c.if-v-at-ne0.false),
     )
 
 pub returns : goal.returns
 returns c =
-    let l = c in
-    let a = l.args in
+    let a = c.args in
     let n : ℕ = a.n in
-    let i : ℕ = l.loop-i.i in
+    let i : ℕ = c.loop-i.i in
     let e : n + 1 - i ≡ 1 = omega arith in
-    record { bounds = (omega arith, omega arith); digits = l.loop-i.invariant.2 ∙ rw e (last-stays a.v.now (a.at + i) (omega arith)) }
+    record { bounds = (omega arith, omega arith); digits = c.loop-i.invariant.2 ∙ rw e (last-stays a.v.now (a.at + i) (omega arith)) }

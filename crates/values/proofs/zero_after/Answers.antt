@@ -3,6 +3,7 @@ use Prim.Native.Nat.{ℕ, ◌^◌}
 use native.Mathlib.Omega.{arith}
 use mathlib.Core.Path.{◌≡◌, refl, sym, ap₂, ◌∙◌}
 use mathlib.Core.Bool.{Bool, true, false, ◌&&◌}
+use mathlib.Core.List.{List}
 use lib.Dec.{eqb, ltb}
 use borrow.Author.Tests.{eq-eqb, ne_eqb}
 use Rattle.rules.specs.Bytes.{part}
@@ -21,37 +22,27 @@ last-true false = refl
 
 pub returns-then-n-eq16 : goal.returns-then-n-eq16
 returns-then-n-eq16 c =
-    let bytes : Bytes (c.args.v.now) =
-    record { at = λ i. (c.type_inv.v i).fits } in
-    let k = c in
-    sym (none_after (k.args.v.now) k.args.n (omega arith) bytes c.if-n-eq16.true)
+    let bytes : Bytes c.args.v.now = record { at = λ i. (c.type_inv.v i).fits } in
+    sym (none_after c.args.v.now c.args.n (omega arith) bytes c.if-n-eq16.true)
 
 pub returns-then-n-ge8 : goal.returns-then-n-ge8
 returns-then-n-ge8 c =
-    let bytes : Bytes (c.args.v.now) =
-    record { at = λ i. (c.type_inv.v i).fits } in
-    let w = c in
-    let k = w in
-    let n : ℕ = k.args.n in
-    ap₂ ltb w.word-word.ensures c.power.ensures ∙ after-eight (k.args.v.now) n (omega arith) bytes (omega arith)
+    let bytes : Bytes c.args.v.now = record { at = λ i. (c.type_inv.v i).fits } in
+    ap₂ ltb c.word-word.ensures c.power.ensures ∙ after-eight c.args.v.now c.args.n (omega arith) bytes (omega arith)
 
 pub returns-then-word-ne0 : goal.returns-then-word-ne0
 returns-then-word-ne0 c =
-    let bytes : Bytes (c.args.v.now) =
-    record { at = λ i. (c.type_inv.v i).fits } in
-    let w = c in
-    let k = w in
-    let n : ℕ = k.args.n in
-    let z : eqb (little_endian (part 9 8 (k.args.v.now))) 0 ≡ false = ne_eqb _ _ (λ e. c.if-word-ne0.true (w.word-word.ensures ∙ e)) in
-    sym (after_fewer (k.args.v.now) n (omega arith) bytes false (omega arith) z ∙ last-false (ltb (little_endian (part 1 8 (k.args.v.now))) (256 ^ n)))
+    let v : List ℕ = c.args.v.now in
+    let n : ℕ = c.args.n in
+    let bytes : Bytes v = record { at = λ i. (c.type_inv.v i).fits } in
+    let z : eqb (little_endian (part 9 8 v)) 0 ≡ false = ne_eqb _ _ (λ e. c.if-word-ne0.true (c.word-word.ensures ∙ e)) in
+    sym (after_fewer v n (omega arith) bytes false (omega arith) z ∙ last-false (ltb (little_endian (part 1 8 v)) (256 ^ n)))
 
 pub returns : goal.returns
 returns c =
-    let bytes : Bytes (c.args.v.now) =
-    record { at = λ i. (c.type_inv.v i).fits } in
-    let w = c in
-    let k = w in
-    let n : ℕ = k.args.n in
-    let z : eqb (little_endian (part 9 8 (k.args.v.now))) 0 ≡ true = eq-eqb _ _ (sym w.word-word.ensures ∙ c.if-word-ne0.false) in
+    let v : List ℕ = c.args.v.now in
+    let n : ℕ = c.args.n in
+    let bytes : Bytes v = record { at = λ i. (c.type_inv.v i).fits } in
+    let z : eqb (little_endian (part 9 8 v)) 0 ≡ true = eq-eqb _ _ (sym c.word-word.ensures ∙ c.if-word-ne0.false) in
     ap₂ ltb c.word.ensures c.power-2.ensures
-    ∙ sym (after_fewer (k.args.v.now) n (omega arith) bytes true (omega arith) z ∙ last-true (ltb (little_endian (part 1 8 (k.args.v.now))) (256 ^ n)))
+    ∙ sym (after_fewer v n (omega arith) bytes true (omega arith) z ∙ last-true (ltb (little_endian (part 1 8 v)) (256 ^ n)))

@@ -4,6 +4,7 @@ use native.Mathlib.Nat.{pow-le-pow_right}
 use native.Mathlib.Omega.{arith}
 use mathlib.Core.Path.{◌≡◌, sym, ap₂, ◌∙◌}
 use mathlib.Core.Bool.{true, false}
+use mathlib.Core.List.{List}
 use lib.Dec.{lit<, eqb}
 use borrow.Author.Tests.{eq-eqb, ne_eqb}
 use Rattle.rules.specs.Bytes.{part}
@@ -21,33 +22,23 @@ nonzero_rem-result c = omega (arith, c.power.ensures, some c.args.k)
 
 pub returns-then-k-lt8 : goal.returns-then-k-lt8
 returns-then-k-lt8 c =
-    let bytes : Bytes (c.args.v.now) =
-    record { at = λ i. (c.type_inv.v i).fits } in
-    let w = c in
-    let k = w in
-    let n : ℕ = k.args.k in
-    ap₂ (λ (x p : ℕ). eqb (x % p) 0) w.word-word.ensures c.power.ensures ∙ before-eight (k.args.v.now) n bytes (omega arith)
+    let bytes : Bytes c.args.v.now = record { at = λ i. (c.type_inv.v i).fits } in
+    ap₂ (λ (x p : ℕ). eqb (x % p) 0) c.word-word.ensures c.power.ensures ∙ before-eight c.args.v.now c.args.k bytes (omega arith)
 
 pub returns-then-word-ne0 : goal.returns-then-word-ne0
 returns-then-word-ne0 c =
-    let bytes : Bytes (c.args.v.now) =
-    record { at = λ i. (c.type_inv.v i).fits } in
-    let w = c in
-    let k = w in
-    let n : ℕ = k.args.k in
-    let z : eqb (little_endian (part 1 8 (k.args.v.now))) 0 ≡ false = ne_eqb _ _ (λ e. c.if-word-ne0.true (w.word-word.ensures ∙ e)) in
-    sym (before_more (k.args.v.now) n bytes false (omega arith) (omega arith) z)
+    let v : List ℕ = c.args.v.now in
+    let bytes : Bytes v = record { at = λ i. (c.type_inv.v i).fits } in
+    let z : eqb (little_endian (part 1 8 v)) 0 ≡ false = ne_eqb _ _ (λ e. c.if-word-ne0.true (c.word-word.ensures ∙ e)) in
+    sym (before_more v c.args.k bytes false (omega arith) (omega arith) z)
 
 pub nonzero_rem-result-2 : goal.nonzero_rem-result-2
 nonzero_rem-result-2 c = omega (arith, c.power-2.ensures, some (c.args.k - 8))
 
 pub returns : goal.returns
 returns c =
-    let bytes : Bytes (c.args.v.now) =
-    record { at = λ i. (c.type_inv.v i).fits } in
-    let w = c in
-    let k = w in
-    let n : ℕ = k.args.k in
-    let z : eqb (little_endian (part 1 8 (k.args.v.now))) 0 ≡ true = eq-eqb _ _ (sym w.word-word.ensures ∙ c.if-word-ne0.false) in
+    let v : List ℕ = c.args.v.now in
+    let bytes : Bytes v = record { at = λ i. (c.type_inv.v i).fits } in
+    let z : eqb (little_endian (part 1 8 v)) 0 ≡ true = eq-eqb _ _ (sym c.word-word.ensures ∙ c.if-word-ne0.false) in
     ap₂ (λ (x p : ℕ). eqb (x % p) 0) c.word.ensures c.power-2.ensures
-    ∙ sym (before_more (k.args.v.now) n bytes true (omega arith) (omega arith) z)
+    ∙ sym (before_more v c.args.k bytes true (omega arith) (omega arith) z)

@@ -15,16 +15,11 @@ returns c =
     search (rules, length-mapped) in
     let marks : length c.args.self.marks ≡ 8 =
     search (rules, length-mapped) in
-    let x = c in
-    let t = x in
-    let d = t in
-    let v = d in
-    let i = v in
-    let a = i.args in
+    let a = c.args in
     let e = streams_of a.self in
-    let w = v.scan-scan.ensures in
-    let p = d.reason-reason.ensures e a.stream w in
-    arbitrate-leaves e a.stream a.device (head_of a.head) t.audience-notify.result
-    (arbitrates-stream a.self size a.stream x.after_arbitrate.result marks a.head c.mark_after.result a.device
-    d.reason-reason.result p x.after_arbitrate.ensures c.mark_after.ensures)
-    p (t.audience-notify.ensures a.device e w p)
+    let w = c.scan-scan.ensures in
+    let p = c.reason-reason.ensures e a.stream w in
+    arbitrate-leaves e a.stream a.device (head_of a.head) c.audience-notify.result
+    (arbitrates-stream a.self size a.stream c.after_arbitrate.result marks a.head c.mark_after.result a.device
+    c.reason-reason.result p c.after_arbitrate.ensures c.mark_after.ensures)
+    p (c.audience-notify.ensures a.device e w p)

@@ -33,15 +33,12 @@ mark-held e r i {o} t h =
 pub returns-then-not-is_mark : goal.returns-then-not-is_mark
 unfolding by_primary
 returns-then-not-is_mark c =
-    let marks : length c.args.self.marks ≡ 8 =
-    search (rules, length-mapped) in
-    let m = c in
-    let t = m in
-    let a = t.args in
+    let a = c.args in
     let e = streams_of a.self in
     let i = id_of a.id in
+    let marks : length a.self.marks ≡ 8 = search (rules, length-mapped) in
     not-mark (not (eqb i 0)) (is_some (primary e a.role)) (eqb i (mark_of e a.role))
-    (mark-tested a.self marks a.role i m.is_mark.ensures ∙ c.if-not-is_mark.true)
+    (mark-tested a.self marks a.role i c.is_mark.ensures ∙ c.if-not-is_mark.true)
 
 pub loop-k-init : goal.loop-k-init
 loop-k-init c =
@@ -50,48 +47,23 @@ loop-k-init c =
 
 pub returns-then-holds : goal.returns-then-holds
 returns-then-holds c =
-    let size : length c.args.self.streams ≡ 32 =
-    search (rules, length-mapped) in
-    let marks : length c.args.self.marks ≡ 8 =
-    search (rules, length-mapped) in
-    let found : (o : Option ℕ) → let a = c.args in let e = streams_of a.self in o ≡ head (numbers (holds a.role (id_of a.id)) 0 e.streams) → is_some o ≡ by_primary e a.role (id_of a.id) =
-    λ o h. let m = c in
-    let t = m in
-    let a = t.args in
+    let a = c.args in
     let i = id_of a.id in
-    let q = mark-tested a.self marks a.role i m.is_mark.ensures ∙ c.if-not-is_mark.false in
-    mark-held (streams_of a.self) a.role i q h in
-    let h = c in
-    let b = h in
-    let t = b in
-    let d = t in
-    let z = size in
-    found _ (first-hit _ z d.loop-k.invariant.1 t.loop-k-test.true b.binding-b.ensures (sym c.if-holds.true ∙ h.holds.ensures))
+    let size : length a.self.streams ≡ 32 = search (rules, length-mapped) in
+    let marks : length a.self.marks ≡ 8 = search (rules, length-mapped) in
+    mark-held (streams_of a.self) a.role i (mark-tested a.self marks a.role i c.is_mark.ensures ∙ c.if-not-is_mark.false)
+    (first-hit _ size c.loop-k.invariant.1 c.loop-k-test.true c.binding-b.ensures (sym c.if-holds.true ∙ c.holds.ensures))
 
 pub loop-k-preserved : goal.loop-k-preserved
 loop-k-preserved c =
-    let size : length c.args.self.streams ≡ 32 =
-    search (rules, length-mapped) in
-    let h = c in
-    let b = h in
-    let t = b in
-    let d = t in
-    let z = size in
-    (search rules, first-same _ z d.loop-k.invariant.1 t.loop-k-test.true b.binding-b.ensures (sym c.if-holds.false ∙ h.holds.ensures))
+    let size : length c.args.self.streams ≡ 32 = search (rules, length-mapped) in
+    (search rules, first-same _ size c.loop-k.invariant.1 c.loop-k-test.true c.binding-b.ensures (sym c.if-holds.false ∙ c.holds.ensures))
 
 pub returns : goal.returns
 returns c =
-    let size : length c.args.self.streams ≡ 32 =
-    search (rules, length-mapped) in
-    let marks : length c.args.self.marks ≡ 8 =
-    search (rules, length-mapped) in
-    let found : (o : Option ℕ) → let a = c.args in let e = streams_of a.self in o ≡ head (numbers (holds a.role (id_of a.id)) 0 e.streams) → is_some o ≡ by_primary e a.role (id_of a.id) =
-    λ o h. let m = c in
-    let t = m in
-    let a = t.args in
+    let a = c.args in
     let i = id_of a.id in
-    let q = mark-tested a.self marks a.role i m.is_mark.ensures ∙ c.if-not-is_mark.false in
-    mark-held (streams_of a.self) a.role i q h in
-    let d = c in
-    let z = size in
-    found _ (first-all _ z d.loop-k.invariant.1 c.loop-k-test.false)
+    let size : length a.self.streams ≡ 32 = search (rules, length-mapped) in
+    let marks : length a.self.marks ≡ 8 = search (rules, length-mapped) in
+    mark-held (streams_of a.self) a.role i (mark-tested a.self marks a.role i c.is_mark.ensures ∙ c.if-not-is_mark.false)
+    (first-all _ size c.loop-k.invariant.1 c.loop-k-test.false)

@@ -3,7 +3,6 @@ use mathlib.Core.Path.{◌≡◌, sym, ap, ◌∙◌}
 use mathlib.Core.Bool.{Bool}
 use lib.ListN.{length}
 use borrow.Author.Rules.{rules}
-use Rattle.rules.specs.Streams as rules
 use Rattle.election.specs.declared.Binding.{Binding}
 use Rattle.election.specs.Meaning.{binding_of, role_or}
 use Rattle.leadership.specs.Scanning.{leads}
@@ -17,21 +16,15 @@ use Rattle.arbitration.proofs.Streams.close.Goals as goal
 
 pub leads-primary-requires : goal.leads-primary-requires
 leads-primary-requires c =
-    let size : length c.args.self.streams ≡ 32 =
-    search (rules, length-mapped) in
-    let as_is : let a = c.args in binding_of c.binding_of-b.result ≡ rules.stream_at (streams_of a.self) a.stream =
-    let a = c.args in read_at a.self size a.stream c.binding_of-b.ensures in
-    let m = c in
-    let b = m in
-    ap binding_of (sym c.in-Bound.is) ∙ as_is
+    let a = c.args in
+    let size : length a.self.streams ≡ 32 = search (rules, length-mapped) in
+    ap binding_of (sym c.in-Bound.is) ∙ read_at a.self size a.stream c.binding_of-b.ensures
 
 pub returns : goal.returns
 returns c =
-    let size : length c.args.self.streams ≡ 32 =
-    search (rules, length-mapped) in
-    let as_is : let a = c.args in binding_of c.binding_of-b.result ≡ rules.stream_at (streams_of a.self) a.stream =
-    let a = c.args in read_at a.self size a.stream c.binding_of-b.ensures in
     let a = c.args in
+    let size : length a.self.streams ≡ 32 = search (rules, length-mapped) in
+    let as_is = read_at a.self size a.stream c.binding_of-b.ensures in
     let x = binding_of c.binding_of-b.result in
     let kept : c.match-b.b ≡ c.binding_of-b.result =
     elim c.match-b.branch [ in-Closed w ↦ w.b-is | in-Open w ↦ w.b-is | in-Bound w ↦ w.b-is ∙ sym w.in-Bound.is ] in

@@ -10,8 +10,6 @@ use Rattle.arbitration.proofs.Streams.open.Goals as goal
 pub returns : goal.returns
 unfolding records_of
 returns c =
-    let o = c in
-    let b = o in
-    let a = b.args in
+    let a = c.args in
     let n : length a.self.streams ≡ 32 = search (rules, length-mapped) in
-    opens-stream a.self n a.stream c.after_open.result b.binding-b.ensures o.open_reason-reason.ensures c.after_open.ensures
+    opens-stream a.self n a.stream c.after_open.result c.binding-b.ensures c.open_reason-reason.ensures c.after_open.ensures

@@ -26,29 +26,24 @@ loop-k-init c =
 
 pub loop-k-preserved : goal.loop-k-preserved
 loop-k-preserved c =
-    let size : length c.args.self.streams ≡ 32 =
-    search (rules, length-mapped) in
-    let r = c in
-    let b = r in
-    let t = b in
-    let d = t in
-    let a = d.args in
-    let m = id_of d.mark_of-mark.result in
-    let i = d.loop-k.invariant in
-    let k = t.loop-k-test.true in
-    let x = b.binding-b.ensures in
+    let a = c.args in
+    let size : length a.self.streams ≡ 32 = search (rules, length-mapped) in
+    let m = id_of c.mark_of-mark.result in
+    let i = c.loop-k.invariant in
+    let k = c.loop-k-test.true in
+    let x = c.binding-b.ensures in
     elim c.if-in_role.branch [
       | then-in_role w ↦
-          let l = listed_next a.self size i.3 k x (omega arith) (sym w.if-in_role.true ∙ r.in_role.ensures) in (
+          let l = listed_next a.self size i.3 k x (omega arith) (sym w.if-in_role.true ∙ c.in_role.ensures) in (
             omega arith,
             omega (arith, w.count-is),
-            ap length w.members-is ∙ length-set d.loop-k.members d.loop-k.count d.loop-k.k ∙ i.2,
+            ap length w.members-is ∙ length-set c.loop-k.members c.loop-k.count c.loop-k.k ∙ i.2,
             rw (w.members-is, w.count-is) l,
             first_next a.self size i.4 k x w.holds.ensures (w.holder-is ∙ w.first_of-holder.ensures),
           )
       | else-in_role w ↦
-          let out = sym r.in_role.ensures ∙ w.if-in_role.false in
-          let f = first-same a.self size i.4 k x (none-held a.role m (binding_of b.binding-b.result) out) in (
+          let out = sym c.in_role.ensures ∙ w.if-in_role.false in
+          let f = first-same a.self size i.4 k x (none-held a.role m (binding_of c.binding-b.result) out) in (
             omega arith,
             omega (arith, w.count-is),
             ap length w.members-is ∙ i.2,
@@ -60,16 +55,17 @@ loop-k-preserved c =
 pub returns : goal.returns
 unfolding primary
 returns c =
-    let size : length c.args.self.streams ≡ 32 =
-    search (rules, length-mapped) in
-    let marks : length c.args.self.marks ≡ 8 =
-    search (rules, length-mapped) in
-    let e = c in
-    let d = e in
-    let g = d in
-    let a = g.args in
-    let i = d.loop-k.invariant in
-    let h = e.loop-k-test.false in
-    let m = g.mark_of-mark.ensures ∙ mark-read a.self marks a.role in
+    let a = c.args in
+    let size : length a.self.streams ≡ 32 = search (rules, length-mapped) in
+    let marks : length a.self.marks ≡ 8 = search (rules, length-mapped) in
+    let i = c.loop-k.invariant in
+    let h = c.loop-k-test.false in
+    let m = c.mark_of-mark.ensures ∙ mark-read a.self marks a.role in
     let l = listed-all a.self size i.3 h in
-    let f = first-all a.self size i.4 h in record { count = sym (length-take-le d.loop-k.count d.loop-k.members (omega arith)) ∙ ap length l; members = l; role = refl; leadership = record { primary = rw (← m, ← f) c.primary_of.ensures; mark = m } }
+    let f = first-all a.self size i.4 h in
+    record {
+      count = sym (length-take-le c.loop-k.count c.loop-k.members (omega arith)) ∙ ap length l;
+      members = l;
+      role = refl;
+      leadership = record { primary = rw (← m, ← f) c.primary_of.ensures; mark = m };
+    }

@@ -24,12 +24,10 @@ write_members-requires c =
 pub returns : goal.returns
 unfolding notify_all
 returns c =
-    let w = c in
-    let f = w in
-    let a = f.args in
+    let a = c.args in
     let e = streams_of a.self in
-    let l = f.role_members-members.result.leadership in
-    let s = f.role_members-members.ensures in
+    let l = c.role_members-members.result.leadership in
+    let s = c.role_members-members.ensures in
     let r : l.role ≡ a.role = s.role in
     let m = s.members ∙ ap (members e) (sym r) in
-    let q = notices-are l e s.leadership m ∙ ap (notify_all e) r in record { count = s.count ∙ sym (length-map (members e a.role) (notification e a.role)); records = rw (← q) w.write_members.ensures }
+    let q = notices-are l e s.leadership m ∙ ap (notify_all e) r in record { count = s.count ∙ sym (length-map (members e a.role) (notification e a.role)); records = rw (← q) c.write_members.ensures }

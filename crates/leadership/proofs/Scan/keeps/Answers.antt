@@ -1,6 +1,6 @@
 -- Right because the scan shows the mark and its first holder, and each way out is one way that the pair can go. Assumes nothing.
 use mathlib.Core.Path.{◌≡◌, sym, ap, ◌∙◌}
-use mathlib.Core.Bool.{Bool, false, ◌&&◌, not}
+use mathlib.Core.Bool.{Bool, true, false, ◌&&◌, not}
 use Prim.Native.Nat.{ℕ, ◌≤◌, ◌<◌}
 use native.Mathlib.Omega.{arith}
 use lib.Dec.{eqb, ltb}
@@ -41,58 +41,45 @@ accepted scan h s device e w z =
           ∙ ap (rules.is s) (w.holder ∙ ap (λ (q : ℕ). head (numbers (holds q (mark_of e q)) 0 e.streams)) r);
     }
 
+module _ {scan : Scan} {e : rules.Streams} {s : ℕ} {h : Head} (v : Accepted scan e s h) {t : Bool} where
+  -- where the scan's mark was tested and is set, that of the role is set
+  mark-set : t ≡ not (eqb (id_of scan.mark) 0) → t ≡ true → eqb (mark_of e h.role) 0 ≡ false
+  mark-set q u = rw (← v.mark) (not-true _ (sym q ∙ u))
+
+  -- where it was tested and is not below the id, the id is at most the mark of the role
+  at_most : t ≡ ltb (id_of scan.mark) (id_of h.id) → t ≡ false → id_of h.id ≤ mark_of e h.role
+  at_most q u = rw (← v.mark) (ltb-false _ _ (sym q ∙ u))
+
 pub returns-then-not-is_set : goal.returns-then-not-is_set
 returns-then-not-is_set c = λ device e w z.
-    let j = c in
-    let t = j in
-    let a = t.args in
+    let a = c.args in
     let v = accepted a.self a.head a.stream device e w z in
-    let m = not-false _ (sym t.is_set.ensures ∙ t.if-not-is_set.true) in
-    ap not (c.and.ensures ∙ ap (λ (b : Bool). ltb a.head.role 8 && b) j.is_set-then-not-is_set.ensures)
+    let m = not-false _ (sym c.is_set.ensures ∙ c.if-not-is_set.true) in
+    ap not (c.and.ensures ∙ ap (λ (b : Bool). ltb a.head.role 8 && b) c.is_set-then-not-is_set.ensures)
     ∙ pair-unset e a.stream (head_of a.head) v.marks (sym v.mark ∙ eqb-true _ _ m)
 
 pub returns-then-below : goal.returns-then-below
-returns-then-below c =
-    let is_set : eqb (id_of c.args.self.mark) 0 ≡ false =
-    let i = c in
-    not-true _ (sym i.is_set.ensures ∙ c.if-not-is_set.false) in
-    λ device e w z.
-    let b = c in
-    let a = b.args in
+returns-then-below c = λ device e w z.
+    let a = c.args in
     let v = accepted a.self a.head a.stream device e w z in
-    let l : mark_of e a.head.role < id_of a.head.id = rw (← v.mark) (ltb-true _ _ (sym b.below.ensures ∙ c.if-below.true)) in
-    pair-raised e a.stream (head_of a.head) v.marks (rw (← v.mark) is_set) l
+    let t = mark-set v c.is_set.ensures c.if-not-is_set.false in
+    let l : mark_of e a.head.role < id_of a.head.id = rw (← v.mark) (ltb-true _ _ (sym c.below.ensures ∙ c.if-below.true)) in
+    pair-raised e a.stream (head_of a.head) v.marks t l
 
 pub returns-then-equals : goal.returns-then-equals
-returns-then-equals c =
-    let is_set : eqb (id_of c.args.self.mark) 0 ≡ false =
-    let i = c in
-    not-true _ (sym i.is_set.ensures ∙ c.if-not-is_set.false) in
-    let at_most : let a = c.args in id_of a.head.id ≤ id_of a.self.mark =
-    ltb-false _ _ (sym c.below.ensures ∙ c.if-below.false) in
-    λ device e w z.
-    let q = c in
-    let d = q in
-    let a = d.args in
+returns-then-equals c = λ device e w z.
+    let a = c.args in
     let v = accepted a.self a.head a.stream device e w z in
-    let l : id_of a.head.id ≤ mark_of e a.head.role = rw (← v.mark) at_most in
-    let t : eqb (mark_of e a.head.role) 0 ≡ false = rw (← v.mark) is_set in
-    let i : id_of a.head.id ≡ mark_of e a.head.role = eqb-true _ _ (sym q.equals.ensures ∙ c.if-equals.true) ∙ v.mark in
+    let t = mark-set v c.is_set.ensures c.if-not-is_set.false in
+    let l = at_most v c.below.ensures c.if-below.false in
+    let i : id_of a.head.id ≡ mark_of e a.head.role = eqb-true _ _ (sym c.equals.ensures ∙ c.if-equals.true) ∙ v.mark in
     v.holder ∙ pair-holder e a.stream (head_of a.head) v.marks t l i v.within v.alone
 
 pub returns : goal.returns
-returns c =
-    let is_set : eqb (id_of c.args.self.mark) 0 ≡ false =
-    let i = c in
-    not-true _ (sym i.is_set.ensures ∙ c.if-not-is_set.false) in
-    let at_most : let a = c.args in id_of a.head.id ≤ id_of a.self.mark =
-    ltb-false _ _ (sym c.below.ensures ∙ c.if-below.false) in
-    λ device e w z.
-    let q = c in
-    let d = q in
-    let a = d.args in
+returns c = λ device e w z.
+    let a = c.args in
     let v = accepted a.self a.head a.stream device e w z in
-    let l : id_of a.head.id ≤ mark_of e a.head.role = rw (← v.mark) at_most in
-    let t : eqb (mark_of e a.head.role) 0 ≡ false = rw (← v.mark) is_set in
-    let i : eqb (id_of a.head.id) (mark_of e a.head.role) ≡ false = rw (← v.mark) (sym q.equals.ensures ∙ c.if-equals.false) in
+    let t = mark-set v c.is_set.ensures c.if-not-is_set.false in
+    let l = at_most v c.below.ensures c.if-below.false in
+    let i : eqb (id_of a.head.id) (mark_of e a.head.role) ≡ false = rw (← v.mark) (sym c.equals.ensures ∙ c.if-equals.false) in
     ap not v.holder ∙ pair-other e a.stream (head_of a.head) v.marks t l i

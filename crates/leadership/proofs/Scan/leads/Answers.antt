@@ -31,13 +31,11 @@ returns-in-Open c = λ e r i w. rw c.in-Open.is
 pub returns-in-Bound : goal.returns-in-Bound
 unfolding primary
 returns-in-Bound c = λ e r i w.
-    let n = c in
-    let b = n in
-    let a = b.args in
-    let p = b.in-Bound.is in
+    let a = c.args in
+    let p = c.in-Bound.is in
     let x = ap binding_of (sym p) ∙ w.own in
     let h = within e a.stream w.streams (λ q. contradiction (ap is_open (sym x)) (ap is_open (sym q))) in
     let q = w.role ∙ ap (λ (y : Binding). role_or r (binding_of y)) p in
     rw (p, ← q, ← w.holder, ← w.mark)
-    (c.and.ensures ∙ ap (λ (t : Bool). t && eqb a.self.holder a.stream) n.is_set.ensures
+    (c.and.ensures ∙ ap (λ (t : Bool). t && eqb a.self.holder a.stream) c.is_set.ensures
     ∙ first-holder (id_of a.self.mark) a.self.holder a.stream h)

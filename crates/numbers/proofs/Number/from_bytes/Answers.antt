@@ -5,5 +5,4 @@ use Rattle.numbers.proofs.Number.from_bytes.Goals as goal
 
 pub returns : goal.returns
 returns c =
-    let a = c in
-    omega (arith, number-halves a.args.b.now a.requires, c.integer.ensures, c.integer-2.ensures)
+    omega (arith, number-halves c.args.b.now c.requires, c.integer.ensures, c.integer-2.ensures)

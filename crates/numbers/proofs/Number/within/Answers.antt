@@ -12,8 +12,7 @@ returns-then-self-mask c =
 
 pub returns : goal.returns
 returns c =
-    let i = c in
-    let a = i.args in
+    let a = c.args in
     let x = a.self in
     let m = a.mask in
-    high-within x.high x.low m.high m.low (omega arith) (omega arith) (omega arith) i.if-self-mask.false
+    high-within x.high x.low m.high m.low (omega arith) (omega arith) (omega arith) c.if-self-mask.false

@@ -13,8 +13,7 @@ use Rattle.numbers.proofs.Number.write.Goals as goal
 
 pub returns : goal.returns
 returns c =
-    let w = c in
-    let a = w.args in
+    let a = c.args in
     let d : List ℕ = a.out.now in
     let hs : List ℕ = bytes_of 8 a.self.high in
     let ls : List ℕ = bytes_of 8 a.self.low in
@@ -23,4 +22,4 @@ returns c =
     let la : length all ≡ 16 = bytes-length 16 (whole_of a.self) in
     let e : hs ++ ls ≡ all = sym (bytes_of-append 8 8 a.self.high a.self.low (omega arith)) in
     let v = c.write_word-2 in
-    rest-after d w.write_word.new.out v.new.out hs ls all 8 lh e (omega arith) w.write_word.ensures v.ensures
+    rest-after d c.write_word.new.out v.new.out hs ls all 8 lh e (omega arith) c.write_word.ensures v.ensures

@@ -1,7 +1,6 @@
 -- Right because the rows are copied to the front, and as many are counted. Assumes nothing.
 use native.Mathlib.Omega.{arith}
 use mathlib.Core.Path.{ap, ◌∙◌}
-use borrow.Author.Rules.{rules}
 use Rattle.rows.specs.Meaning.{rows_in}
 use Rattle.rows.proofs.Records.{rows-copied}
 use Rattle.rows.proofs.Rows.read.Goals as goal
