@@ -8,6 +8,7 @@ use mathlib.Core.List.{List}
 use lib.Dec.{leb}
 use lib.ListN.{length}
 use borrow.Author.Tests.{leb-true}
+use Rattle.rules.specs.Named.{reason_of}
 use Rattle.rules.specs.Frame as rules
 use Rattle.rules.specs.Frame.{Command, too_short, malformed, on_streams, on_pipeline, read_frame}
 use Rattle.rules.specs.Streams.{event}
@@ -40,7 +41,7 @@ module _ (a : Agent) (store d out : List ℕ) where
   -- a stream event
   pub event-handled : (x : rules.StreamEvent) (r : Outcome) → outcome_of r ≡ event a.device.id (streams_of a.streams) x
       → out ≡ splice d 0 (answer_bytes (event_answer (outcome_of r)))
-      → Handles (memory a store) (on_streams x) d (outcome (with_streams a r.streams) r.reason store out)
+      → Handles (memory a store) (on_streams x) d (outcome (with_streams a r.streams) (reason_of r.result) store out)
   unfolding next next_control next_tables answer
   event-handled x r h o t k =
       store-stays a (on_streams x) store d out (λ z. let w : ◌≡◌ {A = ℕ} 0 1 = cc in omega arith) t (event_answer (outcome_of r))

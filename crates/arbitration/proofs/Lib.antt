@@ -1,5 +1,4 @@
--- What is proved of the record's places, of a scan over its streams, and of what events leave.
+-- What is proved of the record's places, of the streams that pass a test, and of what events leave.
 pub mod Places
-pub mod ScanInvariants
+pub mod Passing
 pub mod Events
-pub mod EventStores

@@ -1,11 +1,12 @@
 -- What the stream record, an outcome and those who are to be notified mean in the rules' terms. Assumes nothing.
-use Rattle.std.specs.Prelude.{◌≡◌, Bool, List, [], ◌∷◌, map, ℕ}
+use Rattle.std.specs.Prelude.{◌≡◌, List, [], ◌∷◌, map, ℕ, max, set}
+use Rattle.rules.specs.Named.{reason_of}
 use Rattle.rules.specs.Streams as rules
 use Rattle.election.specs.declared.Head.{Head}
-use Rattle.election.specs.Meaning.{id_of, head_of, stream_of, role_or}
+use Rattle.election.specs.Meaning.{id_of, head_of, stream_of}
 use Rattle.leadership.specs.declared.Scan.{Scan}
 use Rattle.leadership.specs.Meaning.{notice_by}
-use Rattle.leadership.specs.Scanning.{ScanOf, leads}
+use Rattle.leadership.specs.Scanning.{ScanOf}
 use Rattle.arbitration.specs.declared.Streams.{Streams}
 use Rattle.arbitration.specs.declared.Notify.{Notify}
 use Rattle.arbitration.specs.declared.Notify.TheVariants.{None, Only, All}
@@ -13,6 +14,10 @@ use Rattle.arbitration.specs.declared.Outcome.{Outcome}
 
 unfoldable pub streams_of : Streams → rules.Streams
 streams_of e = record { streams = map stream_of e.streams; marks = map id_of e.marks }
+
+-- the mark of role r raised to id i
+abbrev pub raised : rules.Streams → ℕ → ℕ → rules.Streams
+raised e r i = record { streams = e.streams; marks = set e.marks r (max (rules.mark_of e r) i) }
 
 -- the records of who is to be notified: nobody, one stream, with the leadership that its record shows, or all streams of a role
 unfoldable pub records_of : Notify → rules.Streams → List (List ℕ)
@@ -24,23 +29,9 @@ records_of (All r) e = rules.notify_all e r
 abbrev pub outcome_of : Outcome → rules.Outcome
 outcome_of o = record {
   after = streams_of o.streams;
-  reason = o.reason;
+  reason = reason_of o.result;
   records = records_of o.notify (streams_of o.streams);
 }
-
--- the stream record as it stands, with a reason
-abbrev pub left_as : rules.Streams → ℕ → rules.Outcome
-left_as e reason = record { after = e; reason = reason; records = [] }
-
--- stream s closed under a reason, with the notifications of a CLOSE
-abbrev pub closed_under : rules.Streams → ℕ → ℕ → rules.Outcome
-closed_under e s reason = record { after = rules.become e s rules.closed; reason = reason; records = rules.close_records e s }
-
--- n is who is to be notified when a stream closes that is bound to no role but r, where t says whether it is the primary
-abbrev pub ClosingOf : Notify → ℕ → Bool → Type 0
-ClosingOf n r t =
-    (e : rules.Streams) (s : ℕ) (x : rules.Stream) → x ≡ rules.stream_at e s → role_or r x ≡ r → t ≡ leads e s x
-    → records_of n (rules.become e s rules.closed) ≡ rules.close_records e s
 
 -- n is who is to be notified of an ARBITRATE of stream s, in every record that the scan shows and on every device where reason is its reason
 abbrev pub AudienceOf : Notify → ℕ → ℕ → Head → Scan → Type 0

@@ -32,9 +32,6 @@ module _ (reason : ℕ) (failed : Bool) {flag : Bool} where
   pub flag-set : (reason ≡ 0 → ⊥) → flag ≡ true → flag ≡ flagged reason failed
   flag-set n e = rw (ne_eqb 0 reason (λ z. n (sym z))) e
 
-  pub flag-kept : reason ≡ 0 → flag ≡ failed → flag ≡ flagged reason failed
-  flag-kept z e = rw z e
-
 still : (reason : ℕ) (failed rest : Bool) → (not failed && (eqb 0 reason && rest)) ≡ (not (flagged reason failed) && rest)
 still reason failed rest = go (eqb 0 reason) failed
   where

@@ -1,7 +1,7 @@
 -- What a batch of updates is held to, in the rules' terms. Assumes nothing.
 use Rattle.std.specs.Prelude.{◌≡◌, not, List, map, ℕ, eqb}
-use Rattle.rules.specs.Bytes.{every, concat, parts}
-use Rattle.rules.specs.Frame.{update_size, Update, update_of}
+use Rattle.rules.specs.Bytes.{every, concat}
+use Rattle.rules.specs.Frame.{Update, update_of}
 use Rattle.rules.specs.Row.{Row}
 use Rattle.rules.specs.Update as rules
 use Rattle.rules.specs.Call.{pair_of}
@@ -12,14 +12,14 @@ use Rattle.store.specs.Store.{entries_in, tables_in, Holds}
 use Rattle.judging.specs.Verdict.{judge_in}
 use Rattle.batches.specs.declared.Written.{Written}
 
--- the updates of a batch, 221 bytes each
-abbrev pub updates_in : ℕ → List ℕ → List Update
-updates_in n us = map update_of (parts n update_size us)
+-- the updates of a batch, each from its 221 bytes
+abbrev pub updates_in : List (List ℕ) → List Update
+updates_in us = map update_of us
 
--- what n updates come to by the atomicity, and by the tables before them, each judged as the code judges it (`judge_in`): wherever the
+-- what updates come to by the atomicity, and by the tables before them, each judged as the code judges it (`judge_in`): wherever the
 -- tables are sound, that is what the rules make of them
-abbrev pub batch_in : ℕ → List Row → ℕ → ℕ → List ℕ → rules.Tables → rules.Batch
-batch_in atomicity rows role n us t = rules.batch atomicity (judge_in rows role) t (updates_in n us)
+abbrev pub batch_in : ℕ → List Row → ℕ → List (List ℕ) → rules.Tables → rules.Batch
+batch_in atomicity rows role us t = rules.batch atomicity (judge_in rows role) t (updates_in us)
 
 -- the store holds what the batch leaves, in its order; free bytes may be any
 pub record BatchApplied (b : rules.Batch) (before after : List ℕ) (w : Written) : Type 0 where

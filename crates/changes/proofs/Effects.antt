@@ -1,11 +1,10 @@
--- One update: what doing a verdict does is what the rules do, since keys are distinct; and they stay distinct. Assumes nothing.
-use Rattle.std.specs.Prelude.{if◌then◌else◌}
+-- One update: what doing what was judged does is what the rules do, since keys are distinct; and they stay distinct. Assumes nothing.
+use Rattle.std.specs.Prelude.{if◌then◌else◌, Some, Result, Ok, Err}
 use Prim.Native.Nat.{ℕ}
 use native.Mathlib.Omega.{arith}
 use mathlib.Core.Path.{◌≡◌, refl, sym, ap, ◌∙◌}
 use mathlib.Core.Bool.{Bool, true, false, not}
 use mathlib.Core.List.{List, [], ◌∷◌, ◌++◌, map}
-use mathlib.Core.Option.{some}
 use lib.Dec.{eqb}
 use lib.ListN.{length, take, drop, get_or, set, length-drop, take-append-drop}
 use borrow.Author.Tests.{eqb-true, ne_eqb}
@@ -23,12 +22,14 @@ use Rattle.rules.proofs.Shortest.{key-of-short}
 use Rattle.rules.proofs.Tables.{revised, distinct-map, distinct-keep, distinct_snoc}
 use Rattle.store.specs.Store.{place, without, changed_at}
 use Rattle.store.proofs.KeyPlace.{modify-place, delete-place, place-stored}
-use Rattle.judging.specs.Verdict.{judge_in, reason_of, Justified}
-use Rattle.judging.specs.declared.Verdict.{Verdict}
-use Rattle.judging.specs.declared.Verdict.TheVariants.{Refused, Insert, Modify, Delete}
+use Rattle.rules.specs.declared.Reason.{Reason}
+use Rattle.rules.specs.Named.{number_of, reason_of}
+use Rattle.judging.specs.Verdict.{judge_in, Justified}
+use Rattle.judging.specs.declared.Change.{Change}
+use Rattle.judging.specs.declared.Change.TheVariants.{Insert, Modify, Delete}
 use Rattle.changes.specs.Effect.{effect}
 
--- ---- what doing a verdict does
+-- ---- what doing what was judged does
 
 -- an entry that has the key of e, with the action of e after it, is e
 changed-whole : (old e : List ℕ) → length e ≡ 220 → has_key (short_key e) old ≡ true
@@ -38,16 +39,16 @@ changed-whole old e l h =
     ∙ take-append-drop 148 (short_entry e)
 
 -- a MODIFY of the entry found
-modified : (e : List ℕ) (es : List (List ℕ)) (i : ℕ) → length e ≡ 220 → Distinct es → place (short_key e) es ≡ some i
+modified : (e : List ℕ) (es : List (List ℕ)) (i : ℕ) → length e ≡ 220 → Distinct es → place (short_key e) es ≡ Some i
     → changed_at i (drop 148 (short_entry e)) es
     ≡ map (λ (old : List ℕ). if has_key (key_of (short_entry e)) old then short_entry e else old) es
 modified e es i l d p =
-    let q : place (key_of (short_entry e)) es ≡ some i = rw (key-of-short e l) p in
+    let q : place (key_of (short_entry e)) es ≡ Some i = rw (key-of-short e l) p in
     ap (set es i) (changed-whole (get_or es i []) e l ((place-stored (short_key e) es).1 i p).2)
     ∙ sym (modify-place (short_entry e) es i d q)
 
 -- a DELETE of the entry found
-deleted : (e : List ℕ) (es : List (List ℕ)) (i : ℕ) → Distinct es → place (short_key e) es ≡ some i
+deleted : (e : List ℕ) (es : List (List ℕ)) (i : ℕ) → Distinct es → place (short_key e) es ≡ Some i
     → without i es ≡ keep (λ (old : List ℕ). not (has_key (short_key e) old)) es
 deleted e es i d p = sym (delete-place (short_key e) es i d p)
 
@@ -63,12 +64,13 @@ module _ (es : List (List ℕ)) (u : List ℕ) (long : length u ≡ 221) (d : Di
   whole : length (drop 1 u) ≡ 220
   whole = omega (arith, length-drop 1 u)
 
-  pub effect-ruled : (v : Verdict) → Justified v (byte 0 u) (drop 1 u) es → effect v (drop 1 u) es ≡ (apply (reason_of v) (update_of u) t).entries
+  pub effect-ruled : (v : Result Change Reason) → Justified v (byte 0 u) (drop 1 u) es
+      → effect v (drop 1 u) es ≡ (apply (reason_of v) (update_of u) t).entries
   unfolding apply perform
-  effect-ruled (Refused r) j = rw (ne_eqb r 0 (λ z. omega arith))
-  effect-ruled Insert j = rw j
-  effect-ruled (Modify i) j = rw (j.0, j.1) (modified (drop 1 u) es i whole d j.2)
-  effect-ruled (Delete i) j = rw (j.0, j.1) (deleted (drop 1 u) es i d j.2)
+  effect-ruled (Err r) j = rw (ne_eqb (number_of r) 0 (λ z. omega arith))
+  effect-ruled (Ok Insert) j = rw j
+  effect-ruled (Ok (Modify i)) j = rw (j.0, j.1) (modified (drop 1 u) es i whole d j.2)
+  effect-ruled (Ok (Delete i)) j = rw (j.0, j.1) (deleted (drop 1 u) es i d j.2)
 
 -- ---- an update keeps keys distinct
 

@@ -3,7 +3,7 @@ use Prim.Native.Nat.{ℕ, suc, ◌+◌, ◌*◌, ◌-◌, ◌≤◌, ◌<◌}
 use native.Mathlib.Omega.{arith}
 use mathlib.Core.Path.{◌≡◌, refl, sym, ap, ◌∙◌}
 use mathlib.Core.List.{List, [], ◌∷◌, ◌++◌}
-use mathlib.Core.Option.{some}
+use Rattle.std.specs.Prelude.{Some, Ok, Err}
 use lib.ListN.{length, take, drop, get_or, set, length-append, length-drop, length-set, take-append-drop}
 use lib.Seq.{take_all, take_at, drop_at, drop-drop, split_at, set-set, set-get_or, get_or-set_same, length-take-le}
 use borrow.Author.Tests.{ne_eqb, eqb-false}
@@ -17,7 +17,7 @@ use Rattle.store.specs.declared.Tables.{Tables}
 use Rattle.store.specs.Store.{entries_in, place, without, inserted_at, changed_at, Holds}
 use Rattle.store.proofs.Writes.{parts_at}
 use Rattle.store.proofs.KeyPlace.{place-stored}
-use Rattle.judging.specs.declared.Verdict.TheVariants.{Refused, Insert, Modify, Delete}
+use Rattle.judging.specs.declared.Change.TheVariants.{Insert, Modify, Delete}
 use Rattle.changes.specs.Effect.{effect}
 use Rattle.changes.specs.Undo.{Added, Changed, Removed, note_of, noted, undone, Undone, Undoing, UndoAfterApply}
 
@@ -67,7 +67,7 @@ pub type-written : (note : List ℕ) (kind : ℕ) → length note ≡ 74 → set
 type-written [] kind l = absurd (omega arith)
 type-written (x ∷ note) kind l = refl
 
--- ---- what is noted of a verdict
+-- ---- what is noted of what was judged
 
 -- the action and parameters of entry i are its last 72 bytes
 pub action-at : (i : ℕ) (tables : Tables) (store : List ℕ) → i < tables.count
@@ -78,11 +78,11 @@ action-at i tables store h =
 -- ---- undo after apply
 
 -- the entry that was found of a key has it
-key-found : (k : List ℕ) (es : List (List ℕ)) (i : ℕ) → place k es ≡ some i → key_of (get_or es i []) ≡ k
+key-found : (k : List ℕ) (es : List (List ℕ)) (i : ℕ) → place k es ≡ Some i → key_of (get_or es i []) ≡ k
 key-found k es i p = same_true (key_of (get_or es i [])) k ((place-stored k es).1 i p).2
 
 -- and so is the key, then its action and parameters
-entry_found : (k : List ℕ) (es : List (List ℕ)) (i : ℕ) → place k es ≡ some i → k ++ drop 148 (get_or es i []) ≡ get_or es i []
+entry_found : (k : List ℕ) (es : List (List ℕ)) (i : ℕ) → place k es ≡ Some i → k ++ drop 148 (get_or es i []) ≡ get_or es i []
 entry_found k es i p =
     ap (λ (x : List ℕ). x ++ drop 148 (get_or es i [])) (sym (key-found k es i p)) ∙ take-append-drop 148 (get_or es i [])
 
@@ -90,13 +90,13 @@ module _ (u : List ℕ) (es : List (List ℕ)) (note : List ℕ) (few : length e
   abbrev key : List ℕ
   key = short_key (drop 1 u)
 
-  insert-undone : Undoing (note_of (noted Insert es note) u) (effect Insert (drop 1 u) es) es
+  insert-undone : Undoing (note_of (noted (Ok Insert) es note) u) (effect (Ok Insert) (drop 1 u) es) es
   insert-undone = rw (note-one (1 ∷ drop 1 note) u refl) (record {
     possible = omega (arith, length-append es (short_entry (drop 1 u) ∷ []));
     back = undo-added es _;
   })
 
-  modify-undone : (i : ℕ) → place key es ≡ some i → Undoing (note_of (noted (Modify i) es note) u) (effect (Modify i) (drop 1 u) es) es
+  modify-undone : (i : ℕ) → place key es ≡ Some i → Undoing (note_of (noted (Ok (Modify i)) es note) u) (effect (Ok (Modify i)) (drop 1 u) es) es
   modify-undone i f =
       let h : i < length es = ((place-stored key es).1 i f).0 in
       let l : length (key_of (get_or es i [])) ≡ 148 = ap length (key-found key es i f) ∙ key-length (drop 1 u) (omega (arith, length-drop 1 u)) in
@@ -105,7 +105,7 @@ module _ (u : List ℕ) (es : List (List ℕ)) (note : List ℕ) (few : length e
         back = undo-changed es i _ h l;
       })
 
-  delete-undone : (i : ℕ) → place key es ≡ some i → Undoing (note_of (noted (Delete i) es note) u) (effect (Delete i) (drop 1 u) es) es
+  delete-undone : (i : ℕ) → place key es ≡ Some i → Undoing (note_of (noted (Ok (Delete i)) es note) u) (effect (Ok (Delete i)) (drop 1 u) es) es
   delete-undone i f =
       let h : i < length es = ((place-stored key es).1 i f).0 in
       let b : List ℕ = 3 ∷ i ∷ drop 148 (get_or es i []) in
@@ -118,10 +118,10 @@ module _ (u : List ℕ) (es : List (List ℕ)) (note : List ℕ) (few : length e
       })
 
 pub undo-after-apply : UndoAfterApply
-undo-after-apply (Refused r) type u es note few long z j = absurd (omega arith)
-undo-after-apply Insert type u es note few long z j = insert-undone u es note few long
-undo-after-apply (Modify i) type u es note few long z j = modify-undone u es note few long i j.2
-undo-after-apply (Delete i) type u es note few long z j = delete-undone u es note few long i j.2
+undo-after-apply (Err r) type u es note few long z j = absurd (omega arith)
+undo-after-apply (Ok Insert) type u es note few long z j = insert-undone u es note few long
+undo-after-apply (Ok (Modify i)) type u es note few long z j = modify-undone u es note few long i j.2
+undo-after-apply (Ok (Delete i)) type u es note few long z j = delete-undone u es note few long i j.2
 
 -- ---- undoing a note, by its type
 

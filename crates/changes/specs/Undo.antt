@@ -1,14 +1,16 @@
 -- What is noted of an update before it is done, so that it can be undone (document 02, request Two), and what undoing it leaves.
 -- Assumes nothing.
-use Rattle.std.specs.Prelude.{◌≡◌, List, [], ◌∷◌, ◌++◌, ℕ, ◌-◌, ◌≤◌, ◌<◌, eqb, length, take, drop, get_or, if◌then◌else◌}
+use Rattle.std.specs.Prelude.{◌≡◌, List, [], ◌∷◌, ◌++◌, ℕ, ◌-◌, ◌≤◌, ◌<◌, eqb, length, take, drop, get_or, if◌then◌else◌, Result, Ok, Err}
 use Rattle.rules.specs.Frame.{key_size, update_size}
 use Rattle.rules.specs.Bytes.{byte}
 use Rattle.rules.specs.Key.{short_key}
 use Rattle.store.specs.declared.Tables.{Tables}
 use Rattle.store.specs.Store.{entries_in, inserted_at, changed_at, Holds}
-use Rattle.judging.specs.Verdict.{reason_of, Justified}
-use Rattle.judging.specs.declared.Verdict.{Verdict}
-use Rattle.judging.specs.declared.Verdict.TheVariants.{Refused, Insert, Modify, Delete}
+use Rattle.rules.specs.declared.Reason.{Reason}
+use Rattle.rules.specs.Named.{reason_of}
+use Rattle.judging.specs.Verdict.{Justified}
+use Rattle.judging.specs.declared.Change.{Change}
+use Rattle.judging.specs.declared.Change.TheVariants.{Insert, Modify, Delete}
 use Rattle.changes.specs.Effect.{effect}
 
 -- ---- a note
@@ -28,12 +30,12 @@ note_of b u =
     if eqb (byte 0 b) 2 then Changed (byte 1 b) (drop 2 b) else
     Removed (byte 1 b) (short_key (drop 1 u) ++ drop 2 b)
 
--- The bytes of a note after doing a verdict was noted over it, where es are stored. Of a refusal nothing is noted; of an INSERT its type.
-abbrev pub noted : Verdict → List (List ℕ) → List ℕ → List ℕ
-noted (Refused r) es note = note
-noted Insert es note = 1 ∷ drop 1 note
-noted (Modify i) es note = 2 ∷ i ∷ drop key_size (get_or es i [])
-noted (Delete i) es note = 3 ∷ i ∷ drop key_size (get_or es i [])
+-- The bytes of a note after what was judged was noted over it, where es are stored. Of a refusal nothing is noted; of an INSERT its type.
+abbrev pub noted : Result Change Reason → List (List ℕ) → List ℕ → List ℕ
+noted (Err r) es note = note
+noted (Ok Insert) es note = 1 ∷ drop 1 note
+noted (Ok (Modify i)) es note = 2 ∷ i ∷ drop key_size (get_or es i [])
+noted (Ok (Delete i)) es note = 3 ∷ i ∷ drop key_size (get_or es i [])
 
 -- ---- undoing it
 
@@ -68,10 +70,10 @@ pub record Undoing (note : Note) (after es : List (List ℕ)) : Type 0 where
   pub possible : Undoable note (length after)
   pub back : undone note after ≡ es
 
--- Undo after apply is the identity on entries: of every right verdict on an update of 221 bytes that takes effect, undoing what was
+-- Undo after apply is the identity on entries: of every right judgement of an update of 221 bytes that takes effect, undoing what was
 -- noted of it brings back the entries before it, each in its place.
 abbrev pub UndoAfterApply : Type 0
 UndoAfterApply =
-    (v : Verdict) (type : ℕ) (u : List ℕ) (es : List (List ℕ)) (note : List ℕ)
+    (v : Result Change Reason) (type : ℕ) (u : List ℕ) (es : List (List ℕ)) (note : List ℕ)
     → length es ≤ 256 → length u ≡ update_size → reason_of v ≡ 0 → Justified v type (drop 1 u) es
     → Undoing (note_of (noted v es note) u) (effect v (drop 1 u) es) es

@@ -1,3 +1,3 @@
--- Laws of the checks: fields, actions and parameters walked in order, and a key as it is lent.
+-- Laws of the checks: parts walked beside what they stand for, actions found, and a key as it is lent.
 pub mod Walk
-pub mod LentKey
+pub mod Lent

@@ -1,108 +1,101 @@
 // Checks of a table, a key and a whole entry against a row: reasons 15 to 19, in their order (document 01, "The maker of an update").
-// A row is lent as the 53 bytes that CONFIGURE sent; `rules/specs/Row` says where its fields and actions are.
 #![tactic(auto)]
 
-ghost use Rattle.std.specs.Prelude.{◌≡◌, true, List, ℕ, ◌+◌, min, ◌≤◌, ◌<◌, length};
-ghost use Rattle.rules.specs.Frame.{row_size, entry_size};
-ghost use Rattle.rules.specs.Bytes.{between, some_of, byte, part, parts};
+ghost use Rattle.std.specs.Prelude.{◌≡◌, true, false, List, ℕ, ◌+◌, ◌*◌, ◌≤◌, ◌<◌, Some, IfOk, MatchResult, IfSome, is_some, length, drop};
+ghost use Rattle.std.specs.Option.{option_copied};
+ghost use Rattle.rules.specs.Bytes.{between, some_of, part, parts};
+ghost use Rattle.rules.specs.Named.{reason_of};
 ghost use Rattle.rules.specs.Reason.{first};
 ghost use Rattle.rules.specs.Row.{table_order};
-ghost use Rattle.rules.specs.Key.{priority_rule, key_order};
+ghost use Rattle.rules.specs.Value.{is_value, fits};
+ghost use Rattle.rules.specs.Key.{slot_formed, slot_fits, slot_rule, pairwise, pairwise_then_zeros, priority_rule, key_order};
 ghost use Rattle.rules.specs.Entry.{has_action, widths_of};
 ghost use Rattle.rules.specs.Update.{entry_order};
-ghost use Rattle.rows.specs.Meaning.{field_of, action_of, row_of};
-ghost use Rattle.checks.specs.Orders.{whole_order};
-ghost use Rattle.checks.specs.Tests.{slot_passes, parameter_passes, unused_passes, slots_pass, parameters_pass, whole_passes, ruled, widths_at};
+ghost use Rattle.rows.specs.Meaning.{action_of, row_of, row_found};
+ghost use Rattle.checks.specs.Orders.{whole_order, ruled};
 
+use buffers::all_zero;
 use numbers::integer;
-use rows::{Field, may_write};
-use slots::{slot_fits, slot_formed, slot_rule};
+use rows::{Action, Field, Row};
+use rules::Reason;
+use slots::{Slot, slot_fits, slot_formed, slot_rule};
+use values::Value;
 
-// 15 and 16 of an update or a READ, by whether its table is known and by the table's row.
-pub fn table_reason(known: bool, row: &[u8], role: u8) -> u8
-    requires { length row.now ≡ row_size }
-    ensures { result ≡ first (table_order known (row_of row.now) role) }
+// A key without its table: priority 4, slots 140.
+pub type Key = [u8; 144];
+
+// The bytes of an entry: a key, an action, and four parameter values.
+pub type Entry = [u8; rules::ENTRY];
+
+// The type of an update that deletes.
+const DELETE: u8 = 3;
+
+// 15 and 16 of an update or a READ, by the row of its table, if the table is known; else the row.
+#[tactic(auto, unfolding(rules::specs::Reason::first))]
+pub fn table_reason(row: Option<&Row>, role: u8) -> Result<&Row, Reason>
+    ensures reason { reason_of result ≡ first (table_order (is_some row.entry) (row_found row.entry) role) }
+    ensures row { IfOk result (λ r. option_copied row.entry ≡ Some r.now) }
 {
-    if !known {
-        return 15;
+    let Some(row) = row else {
+        return Err(Reason::NoSuchTable);
+    };
+    if !row.may_write(role) {
+        return Err(Reason::NotTheRoles);
     }
-    if !may_write(row, role) {
-        return 16;
-    }
-    0
+    Ok(row)
 }
 
-// ---- tests of slots and parameters
-
-// What a slot or a parameter is tested for.
-#[derive(Clone, Copy)]
-enum Test {
-    // 17.
-    Formed,
-    // 18.
-    Fits,
-    // 19.
-    Rule,
-}
-
-// A count of fields, actions or parameters: over 4 it reads as 4.
-fn count(b: &[u8], at: usize) -> usize
-    requires { at < length b.now }
-    ensures { result ≡ min (byte at b.now) 4 }
+// The reason where a test failed.
+fn check(passes: bool, reason: Reason) -> Result<(), Reason>
+    ensures { MatchResult result (λ _. passes ≡ true) (λ r. (passes ≡ false) × (r ≡ reason)) }
 {
-    let n = b[at] as usize;
-    if n < 4 {
-        return n;
-    }
-    4
+    if passes { Ok(()) } else { Err(reason) }
 }
 
-// What is past the fields or parameters: zeros by 17, and not looked at by 18 and 19.
-fn unused_passes(test: Test, rest: &[u8]) -> bool
-    ensures { result ≡ unused_passes test rest.now }
+// ---- the parts of a key and an entry
+
+// Four parts of N bytes each, where they lie.
+fn four<const N: usize>(b: &[u8], at: usize) -> &[[u8; N]; 4]
+    requires { (0 < N) × (at + N * 4 ≤ length b.now) }
+    ensures { result.now ≡ parts 4 N (drop at b.now) }
 {
-    match test {
-        Test::Formed => buffers::all_zero(rest),
-        Test::Fits => true,
-        Test::Rule => true,
-    }
+    let (all, _) = b[at..].as_chunks();
+    all.first_chunk().unwrap()
 }
 
-// ---- a key: its four slots, 140 bytes, and its priority
+// ---- a key: its four slots, and its priority
 
-// The test of one slot.
-fn slot_passes(test: Test, field: Field, slot: &[u8]) -> bool
-    requires { length slot.now ≡ 35 }
-    ensures { result ≡ slot_passes test (field_of field) slot.now }
+// 17 of slots: each is formed by its field, and those past the fields are zeros.
+fn slots_formed(row: &Row, slots: &[Slot; 4]) -> bool
+    ensures { result ≡ pairwise_then_zeros slot_formed (row_of row.now).fields slots.now }
 {
-    match test {
-        Test::Formed => slot_formed(field, slot),
-        Test::Fits => slot_fits(field, slot),
-        Test::Rule => slot_rule(field, slot),
-    }
+    let fields = row.fields();
+    let formed = |(field, slot): (&Field, &Slot)| slot_formed(*field, slot);
+    fields.iter().zip(slots).all(formed) && all_zero(slots[fields.len()..].as_flattened())
 }
 
-// The test of a key's slots: each field's, and those past the fields.
-fn slots_pass(test: Test, row: &[u8], slots: &[u8]) -> bool
-    requires { (length row.now ≡ row_size) × (length slots.now ≡ 140) }
-    ensures { result ≡ slots_pass test (row_of row.now).fields (parts 4 35 slots.now) }
+// 18 of slots: the values of each fit its field. This and the next are the library's walk over pairs; one of our own with a closure
+// would need a clause on the closure, and its callers as many lines.
+fn slots_fit(row: &Row, slots: &[Slot; 4]) -> bool
+    ensures { result ≡ pairwise slot_fits (row_of row.now).fields slots.now }
 {
-    let n = count(row, 7);
-    let mut i: usize = 0;
-    while i < n {
-        let at = 35 * i;
-        let end = at + 35;
-        let field = Field::at(row, 8 + 2 * i);
-        if !slot_passes(test, field, &slots[at..end]) {
-            return false;
-        }
-        i += 1;
-    }
-    let unused = 35 * i;
-    unused_passes(test, &slots[unused..140])
+    row.fields()
+        .iter()
+        .zip(slots)
+        .all(|(field, slot)| slot_fits(*field, slot))
 }
 
-// Whether a field of this kind asks for a priority.
+// 19 of slots: each keeps the rule of its field's kind.
+fn slots_ruled(row: &Row, slots: &[Slot; 4]) -> bool
+    ensures { result ≡ pairwise slot_rule (row_of row.now).fields slots.now }
+{
+    row.fields()
+        .iter()
+        .zip(slots)
+        .all(|(field, slot)| slot_rule(*field, slot))
+}
+
+// Whether a field of this kind asks for a priority. An arm for each kind, as document 01 writes it.
 fn needs_priority(kind: u8) -> bool
     ensures { result ≡ between 3 5 kind }
 {
@@ -125,161 +118,101 @@ fn needs_priority(kind: u8) -> bool
 }
 
 // Whether a field is ternary, range or optional.
-fn has_priority(row: &[u8]) -> bool
-    requires { length row.now ≡ row_size }
+fn has_priority(row: &Row) -> bool
     ensures { result ≡ some_of (λ f. between 3 5 f.kind) (row_of row.now).fields }
 {
-    let n = count(row, 7);
-    let mut i: usize = 0;
-    while i < n {
-        if needs_priority(row[8 + 2 * i]) {
-            return true;
-        }
-        i += 1;
-    }
-    false
+    row.fields().iter().any(|field| needs_priority(field.kind))
 }
 
 // Priority is 1 to 2,147,483,647 where a field is ternary, range or optional, else 0.
-fn priority_rule(row: &[u8], priority: u64) -> bool
-    requires { length row.now ≡ row_size }
+#[tactic(auto, unfolding(rules::specs::Key::priority_rule))]
+fn priority_rule(row: &Row, priority: u64) -> bool
     ensures { result ≡ priority_rule (row_of row.now).fields priority }
 {
     if has_priority(row) {
-        return 1 <= priority && priority <= 2147483647;
+        1 <= priority && priority <= 2147483647
+    } else {
+        priority == 0
     }
-    priority == 0
 }
 
 // 19 of a key, with its priority.
-fn key_rules(row: &[u8], priority: u64, slots: &[u8]) -> bool
-    requires { (length row.now ≡ row_size) × (length slots.now ≡ 140) }
-    ensures { result ≡ ruled (row_of row.now).fields (parts 4 35 slots.now) priority }
+fn key_rules(row: &Row, priority: u64, slots: &[Slot; 4]) -> bool
+    ensures { result ≡ ruled (row_of row.now).fields slots.now priority }
 {
-    slots_pass(Test::Rule, row, slots) && priority_rule(row, priority)
+    slots_ruled(row, slots) && priority_rule(row, priority)
 }
 
-// 17, 18 and 19 of a key. Here it is without its table: priority 4, slots 140.
-pub fn key_reason(row: &[u8], key: &[u8]) -> u8
-    requires { (length row.now ≡ row_size) × (length key.now ≡ 144) }
-    ensures { (k : List ℕ) → part 4 144 k ≡ key.now → result ≡ first (key_order (row_of row.now) k) }
+// 17, 18 and 19 of a key. Here it is without its table.
+pub fn key_reason(row: &Row, key: &Key) -> Result<(), Reason>
+    ensures { (k : List ℕ) → part 4 144 k ≡ key.now → reason_of result ≡ first (key_order (row_of row.now) k) }
 {
-    if !slots_pass(Test::Formed, row, &key[4..144]) {
-        return 17;
-    }
-    if !slots_pass(Test::Fits, row, &key[4..144]) {
-        return 18;
-    }
-    if !key_rules(row, integer(key, 0, 4), &key[4..144]) {
-        return 19;
-    }
-    0
+    let slots = four(key, 4);
+    check(slots_formed(row, slots), Reason::BadForm)?;
+    check(slots_fit(row, slots), Reason::TooWide)?;
+    check(
+        key_rules(row, integer(key, 0, 4), slots),
+        Reason::RuleBroken,
+    )
 }
 
 // ---- the action and parameters of an entry
 
-// Where an action is in a row, if the row has it; else `at` is the place of the first.
-#[derive(Clone, Copy)]
-struct Place {
-    known: bool,
-    at: usize,
+// The row's action of an id.
+fn action_at(row: &Row, id: u64) -> Option<&Action>
+    ensures known { is_some result ≡ has_action id (row_of row.now).actions }
+    ensures widths { IfSome result (λ a. (action_of a.now).widths ≡ widths_of id (row_of row.now).actions) }
+{
+    row.actions().iter().find(|action| action.id() == id)
 }
 
-// The place of the row's action of an id: its nine bytes.
-fn action_at(row: &[u8], id: u64) -> Place
-    requires { length row.now ≡ row_size }
-    ensures known { result.known ≡ has_action id (row_of row.now).actions }
-    ensures inside { result.at + 9 ≤ row_size }
-    ensures widths { result.known ≡ true → widths_at result.at row.now ≡ widths_of id (row_of row.now).actions }
+// 17 of parameters: as many are values as their action has, and those past them are zeros.
+fn parameters_formed(widths: &[u8], parameters: &[Value; 4]) -> bool
+    requires { length widths.now ≤ 4 }
+    ensures { result ≡ pairwise_then_zeros (λ width. is_value) widths.now parameters.now }
 {
-    let n = count(row, 16);
-    let mut i: usize = 0;
-    while i < n {
-        let at = 17 + 9 * i;
-        if integer(row, at, 4) == id {
-            return Place { known: true, at };
-        }
-        i += 1;
-    }
-    Place {
-        known: false,
-        at: 17,
-    }
+    let formed = |(_, value): (&u8, &Value)| values::formed(value);
+    widths.iter().zip(parameters).all(formed) && all_zero(parameters[widths.len()..].as_flattened())
 }
 
-// The test of one parameter.
-fn parameter_passes(test: Test, width: u8, value: &[u8]) -> bool
-    requires { length value.now ≡ 17 }
-    ensures { result ≡ parameter_passes test width value.now }
+// 18 of parameters: each fits its width.
+fn parameters_fit(widths: &[u8], parameters: &[Value; 4]) -> bool
+    requires { length widths.now ≤ 4 }
+    ensures { result ≡ pairwise fits widths.now parameters.now }
 {
-    match test {
-        Test::Formed => values::formed(value),
-        Test::Fits => values::fits(value, width),
-        // 19 asks nothing of it.
-        Test::Rule => true,
-    }
-}
-
-// The test of an entry's parameters, 68 bytes: as many as their action has, and those past them.
-fn parameters_pass(test: Test, action: &[u8], parameters: &[u8]) -> bool
-    requires { (length action.now ≡ 9) × (length parameters.now ≡ 68) }
-    ensures { result ≡ parameters_pass test (action_of action.now).widths (parts 4 17 parameters.now) }
-{
-    let n = count(action, 4);
-    let mut i: usize = 0;
-    while i < n {
-        let at = 17 * i;
-        let end = at + 17;
-        if !parameter_passes(test, action[5 + i], &parameters[at..end]) {
-            return false;
-        }
-        i += 1;
-    }
-    let unused = 17 * i;
-    unused_passes(test, &parameters[unused..68])
+    widths
+        .iter()
+        .zip(parameters)
+        .all(|(width, value)| values::fits(value, *width))
 }
 
 // ---- an entry
 
-// The test of an entry's slots, and of its parameters by the action at a place of the row.
-fn whole_passes(test: Test, row: &[u8], at: usize, entry: &[u8]) -> bool
-    requires { (length row.now ≡ row_size) × (at + 9 ≤ row_size) × (length entry.now ≡ entry_size) }
-    ensures { result ≡ whole_passes test (row_of row.now) (widths_at at row.now) entry.now }
-{
-    let end = at + 9;
-    slots_pass(test, row, &entry[8..rules::KEY])
-        && parameters_pass(test, &row[at..end], &entry[152..rules::ENTRY])
-}
-
 // 17, 18 and 19 of a whole entry.
-fn whole_reason(row: &[u8], entry: &[u8]) -> u8
-    requires { (length row.now ≡ row_size) × (length entry.now ≡ entry_size) }
-    ensures { result ≡ first (whole_order (row_of row.now) entry.now) }
+fn whole_reason(row: &Row, entry: &Entry) -> Result<(), Reason>
+    ensures { reason_of result ≡ first (whole_order (row_of row.now) entry.now) }
 {
-    let action = action_at(row, integer(entry, rules::KEY, 4));
-    if !action.known {
-        return 17;
-    }
-    let at = action.at;
-    if !whole_passes(Test::Formed, row, at, entry) {
-        return 17;
-    }
-    if !whole_passes(Test::Fits, row, at, entry) {
-        return 18;
-    }
-    if !key_rules(row, integer(entry, 4, 4), &entry[8..rules::KEY]) {
-        return 19;
-    }
-    0
+    let slots = four(entry, 8);
+    let parameters = four(entry, 152);
+    let action = action_at(row, integer(entry, rules::KEY, 4)).ok_or(Reason::BadForm)?;
+    let widths = action.widths();
+    check(slots_formed(row, slots), Reason::BadForm)?;
+    check(parameters_formed(widths, parameters), Reason::BadForm)?;
+    check(slots_fit(row, slots), Reason::TooWide)?;
+    check(parameters_fit(widths, parameters), Reason::TooWide)?;
+    check(
+        key_rules(row, integer(entry, 4, 4), slots),
+        Reason::RuleBroken,
+    )
 }
 
-// 17, 18 and 19 of an update's entry, by its type. Of a DELETE's only the key is looked at.
-pub fn entry_reason(row: &[u8], kind: u8, entry: &[u8]) -> u8
-    requires { (length row.now ≡ row_size) × (length entry.now ≡ entry_size) }
-    ensures { result ≡ first (entry_order (row_of row.now) kind entry.now) }
+// 17, 18 and 19 of an update's entry, by its type. Of a DELETE's only the key is looked at. The type is a number, since the clause speaks
+// of any.
+pub fn entry_reason(row: &Row, kind: u8, entry: &Entry) -> Result<(), Reason>
+    ensures { reason_of result ≡ first (entry_order (row_of row.now) kind entry.now) }
 {
-    if kind == 3 {
-        return key_reason(row, &entry[4..rules::KEY]);
+    if kind == DELETE {
+        return key_reason(row, entry[4..].first_chunk().unwrap());
     }
     whole_reason(row, entry)
 }

@@ -1,20 +1,19 @@
 -- A configuration is allowed where each row is so by itself and their tables and sizes are so together; allowed rows have counts
 -- that fit, so that they are held as the rules read them. Assumes nothing.
-use Prim.Native.Nat.{ℕ, ◌+◌, ◌*◌, ◌≤◌, ◌<◌}
-use mathlib.Core.Path.{◌≡◌, refl, sym, ap, ◌∙◌}
+use Prim.Native.Nat.{ℕ, ◌*◌, ◌≤◌}
+use mathlib.Core.Path.{◌≡◌, refl, sym, ◌∙◌}
 use mathlib.Core.Bool.{Bool, true, ◌&&◌, and_assoc, and_comm}
 use mathlib.Core.List.{List, [], ◌∷◌, map, map-map}
-use lib.Dec.{eqb, leb, lit≤}
-use lib.ListN.{length, drop, length-map}
-use Rattle.rules.specs.Bytes.{between, every, sum, distinct, byte, part, parts, int, number}
+use lib.Dec.{eqb, leb}
+use lib.ListN.{length, length-map}
+use Rattle.rules.specs.Bytes.{between, every, sum, distinct, byte, parts}
 use Rattle.rules.specs.Frame.{row_size}
 use Rattle.rules.specs.Row as rules
 use Rattle.rules.proofs.Tests.{and-true, both_true}
 use Rattle.rules.proofs.Formed.{parts-count}
-use Rattle.rules.proofs.Lists.{every_map, part-part}
-use Rattle.rows.specs.Meaning.{row_of, counts_fit}
+use Rattle.rules.proofs.Lists.{every_map}
+use Rattle.rows.specs.Meaning.{row_read, counts_fit}
 use Rattle.configuration.specs.Passing.{ids, rows_pass, table_sizes}
-use Rattle.rows.proofs.Bytes.{int-first, column-next, column-none, pass_once}
 use Rattle.configuration.proofs.OneRow.{every-both}
 use Rattle.rows.proofs.Records.{few_parameters, rows-held}
 
@@ -92,17 +91,10 @@ counts-fit b e =
 
 -- ---- the rows together
 
-abbrev pub table_of : List ℕ → ℕ
-table_of b = (rules.row_of b).table
-
-abbrev size_of : List ℕ → ℕ
+abbrev pub size_of : List ℕ → ℕ
 size_of b = (rules.row_of b).size
 
 -- 14 of them: each by itself, no table id repeated, and the sizes
-pub rows-asked : (t : ℕ) (b : List ℕ) → rows_pass (parts t 53 b) ≡ pass_once alone table_of t 53 b 0
-unfolding rows_pass ids rules.row_of
-rows-asked t b = refl
-
 pub configuration-asked : (rows : List (List ℕ)) → rules.configuration_allowed rows ≡ (rows_pass rows && leb (sum (table_sizes rows)) 256)
 unfolding rules.configuration_allowed rules.rows_allowed rows_pass ids table_sizes rules.row_of
 configuration-asked rows =
@@ -117,29 +109,11 @@ configuration-asked rows =
     last-second : (own once few unused : Bool) → own && once && few && unused ≡ own && unused && once && few
     last-second own once few unused = simp (and_assoc, and_comm)
 
--- the table id and the size of the row at place i, and those past the first i
-module _ (t i : ℕ) (b : List ℕ) where
-  pub table_at : int (53 * i) 4 b ≡ table_of (part (53 * i) 53 b)
-  unfolding rules.row_of
-  table_at = sym (int-first (53 * i) 53 4 b (lit≤ tt))
-
-  size-at : int (53 * i + 5) 2 b ≡ size_of (part (53 * i) 53 b)
-  unfolding rules.row_of
-  size-at = ap number (sym (part-part (53 * i) 53 5 2 b (lit≤ tt)))
-
-  pub sizes-next : i < t → drop i (table_sizes (parts t 53 b)) ≡ int (53 * i + 5) 2 b ∷ drop (i + 1) (table_sizes (parts t 53 b))
-  unfolding table_sizes
-  sizes-next h = rw size-at (column-next size_of t 53 i b h)
-
-  pub sizes-none : t ≤ i → drop i (table_sizes (parts t 53 b)) ≡ []
-  unfolding table_sizes
-  sizes-none h = column-none size_of t 53 i b h
-
 -- ---- holding them
 
 -- allowed rows are held as the rules read them
 pub rows-allowed-held : (t : ℕ) (b : List ℕ) → row_size * t ≤ length b → rules.configuration_allowed (parts t row_size b) ≡ true
-    → map row_of (parts t row_size b) ≡ map rules.row_of (parts t row_size b)
+    → map row_read (parts t row_size b) ≡ map rules.row_of (parts t row_size b)
 unfolding rows_pass
 rows-allowed-held t b h e =
     let rows = parts t row_size b in

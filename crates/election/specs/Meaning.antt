@@ -1,5 +1,5 @@
 -- What the values of this crate mean in the rules' terms. Assumes nothing.
-use Rattle.std.specs.Prelude.{ℕ, eqb, if◌then◌else◌}
+use Rattle.std.specs.Prelude.{ℕ, eqb, Option, Some, None, unwrap_or, if◌then◌else◌}
 use Rattle.rules.specs.Frame as frame
 use Rattle.rules.specs.Streams as rules
 use Rattle.numbers.specs.Whole.{whole_of}
@@ -29,8 +29,12 @@ stream_of s =
     if eqb s.phase 2 then rules.bound s.role (id_of s.id) else
     rules.closed
 
--- the role that a stream is bound to, or another where it is bound to none
+-- the role that a stream is bound to
+abbrev pub role_of : rules.Stream → Option ℕ
+role_of rules.closed = None
+role_of rules.unbound = None
+role_of (rules.bound r i) = Some r
+
+-- the same, or another where it is bound to none
 abbrev pub role_or : ℕ → rules.Stream → ℕ
-role_or other rules.closed = other
-role_or other rules.unbound = other
-role_or other (rules.bound r i) = r
+role_or other x = unwrap_or (role_of x) other

@@ -1,22 +1,63 @@
 // The frame reader: a frame is a command with its operands, or malformed (document 01, "Frames" and reason 1).
 #![tactic(auto)]
 
-ghost use Rattle.std.specs.Prelude.{◌≡◌, ◌+◌, ◌≤◌, length};
+ghost use Rattle.std.specs.Prelude.{◌≡◌, ◌+◌, ◌*◌, ◌≤◌, length, MatchOption, option_map, IfSome, eqb, false, true, ◌&&◌, ◌≢◌, ◌-◌};
 ghost use Rattle.rules.specs.Bytes.{byte};
 ghost use Rattle.rules.specs.Frame as rules;
 ghost use Rattle.election.specs.Meaning.{id_of, head_of};
-ghost use Rattle.frames.specs.Meaning.{frame_read, FrameThere};
+ghost use Rattle.frames.specs.Meaning.{atomicity_of, AtomicityRead, frame_read, FrameThere, RowsThere, OperandsThere};
 
 use election::{ElectionId, Head};
 use numbers::integer;
+use rules::Reason;
 
-// What a READ asks for. Its key is in the frame: the table at 10, the rest from byte 15 on.
+// What becomes of the other updates of a WRITE where one fails, in P4Runtime's words and numbers.
+#[derive(Clone, Copy, PartialEq, Eq)]
+pub enum Atomicity {
+    ContinueOnError = 0,
+    RollbackOnError = 1,
+    DataplaneAtomic = 2,
+}
+
+impl Atomicity {
+    pub fn number(self) -> u8
+        ensures { result ≡ atomicity_of self }
+    {
+        self as u8
+    }
+}
+
+impl TryFrom<u8> for Atomicity {
+    type Error = Reason;
+
+    ghost try_from_gives = { AtomicityRead };
+
+    fn try_from(number: u8) -> Result<Atomicity, Reason> {
+        match number {
+            0 => Ok(Atomicity::ContinueOnError),
+            1 => Ok(Atomicity::RollbackOnError),
+            2 => Ok(Atomicity::DataplaneAtomic),
+            3..=255 => Err(Reason::BadFrame),
+        }
+    }
+}
+
+// What a WRITE asks for: it has `count` updates, which are in the frame from byte 29 on.
+#[derive(Clone, Copy)]
+pub struct Batch {
+    pub head: Head,
+    pub atomicity: Atomicity,
+    pub count: usize,
+}
+
+// What a READ asks for: the entries of a table, of every table the role may write where that is 0, or with `only` the entry of a key.
+// Its key is in the frame: the table at 10, the rest from byte 15 on.
 #[derive(Clone, Copy)]
 pub struct Query {
     pub device: u64,
     pub role: u8,
     pub table: u64,
-    pub only: u8,
+    pub only: bool,
 }
 
 // Commands in three groups, by what they may change, with their operands.
@@ -29,18 +70,17 @@ pub enum StreamEvent {
     Arbitrate(u8, Head),
 }
 
-// Pipeline commands: the rows in force, and the tables. CONFIGURE is the only one. Its rows are in the frame from byte 28 on; here is
-// their number.
+// Pipeline commands: the rows in force, and the tables. CONFIGURE is the only one: it has `count` rows, which are in the frame from byte 28 on.
 #[derive(Clone, Copy)]
 pub struct PipelineCommand {
     pub head: Head,
     pub count: usize,
 }
 
-// Table commands: the tables. Updates are in the frame from byte 29 on; here are their atomicity and their number.
+// Table commands: the tables.
 #[derive(Clone, Copy)]
 pub enum TableCommand {
-    Write(Head, u8, usize),
+    Write(Batch),
     Read(Query),
 }
 
@@ -49,27 +89,6 @@ pub enum Command {
     Stream(StreamEvent),
     Pipeline(PipelineCommand),
     Table(TableCommand),
-}
-
-// What a frame is.
-#[derive(Clone, Copy)]
-pub enum Frame {
-    Asks(Command),
-    Malformed,
-}
-
-// The head at a place of a frame.
-fn head_at(frame: &[u8], at: usize) -> Head
-    requires { at + 26 ≤ length frame.now }
-    ensures { head_of result ≡ rules.head_at at frame.now }
-{
-    let from = at + 10;
-    let end = at + 26;
-    Head {
-        device: integer(frame, at, 8),
-        role: frame[at + 8],
-        id: ElectionId::from_bytes(&frame[from..end]),
-    }
 }
 
 // Of an id flag and an id: neither flag over 1, nor flag 0 with a nonzero id, nor flag 1 with id 0.
@@ -83,158 +102,136 @@ fn flag_fits(flag: u8, id: ElectionId) -> bool
     }
 }
 
-// OPEN: length 2, stream 0 to 31.
-fn read_open(frame: &[u8]) -> Frame
-    ensures means { frame_read result frame.now ≡ rules.formed (rules.stream_formed frame.now)
-        (rules.on_streams (rules.OPEN (byte 1 frame.now))) }
-    ensures there { FrameThere result frame.now }
+// The head at a place of a frame; None where its flag does not fit its id.
+fn head_at(frame: &[u8], at: usize) -> Option<Head>
+    requires { at + 26 ≤ length frame.now }
+    ensures { MatchOption result (rules.head_fits at frame.now ≡ false)
+        (λ h. (rules.head_fits at frame.now ≡ true) × (head_of h ≡ rules.head_at at frame.now)) }
 {
-    if frame.len() != 2 {
-        return Frame::Malformed;
+    let id = ElectionId::from_bytes(&frame[at + 10..at + 26]);
+    if !flag_fits(frame[at + 9], id) {
+        return None;
     }
-    let stream = frame[1];
-    if 31 < stream {
-        return Frame::Malformed;
-    }
-    Frame::Asks(Command::Stream(StreamEvent::Open(stream)))
+    Some(Head {
+        device: integer(frame, at, 8),
+        role: frame[at + 8],
+        id,
+    })
 }
 
-// CLOSE: likewise.
-fn read_close(frame: &[u8]) -> Frame
-    ensures means { frame_read result frame.now ≡ rules.formed (rules.stream_formed frame.now)
-        (rules.on_streams (rules.CLOSE (byte 1 frame.now))) }
-    ensures there { FrameThere result frame.now }
+// The stream of a frame of `size` bytes, 0 to 31.
+fn stream_of(frame: &[u8], size: usize) -> Option<u8>
+    requires { 2 ≤ size }
+    ensures { MatchOption result (eqb (length frame.now) size && rules.stream_fits frame.now ≡ false)
+        (λ s. (length frame.now ≡ size) × (s ≤ 31) × (s ≡ byte 1 frame.now)) }
 {
-    if frame.len() != 2 {
-        return Frame::Malformed;
+    match frame {
+        [_, stream @ 0..=31, ..] if frame.len() == size => Some(*stream),
+        _ => None,
     }
-    let stream = frame[1];
-    if 31 < stream {
-        return Frame::Malformed;
-    }
-    Frame::Asks(Command::Stream(StreamEvent::Close(stream)))
+}
+
+// How many items of `size` bytes are in a frame from the place `at` on: the byte before them says it, and nothing follows them.
+fn items(frame: &[u8], at: usize, size: usize) -> Option<usize>
+    requires { (1 ≤ at) × (at ≤ 256) × (size ≤ 256) }
+    ensures { MatchOption result (length frame.now ≢ at + size * byte (at - 1) frame.now)
+        (λ n. (length frame.now ≡ at + size * n) × (n ≡ byte (at - 1) frame.now)) }
+{
+    let count = usize::from(*frame.get(at - 1)?);
+    (frame.len() == at + size * count).then_some(count)
 }
 
 // ARBITRATE: length 28, stream 0 to 31.
-fn read_arbitrate(frame: &[u8]) -> Frame
-    ensures means { frame_read result frame.now ≡ rules.formed (rules.arbitrate_formed frame.now)
+#[tactic(auto, unfolding(rules::specs::Frame::arbitrate_formed))]
+fn read_arbitrate(frame: &[u8]) -> Option<StreamEvent>
+    ensures { frame_read (option_map Command.Stream result) frame.now ≡ rules.formed (rules.arbitrate_formed frame.now)
         (rules.on_streams (rules.ARBITRATE (byte 1 frame.now) (rules.head_at 2 frame.now))) }
-    ensures there { FrameThere result frame.now }
 {
-    if frame.len() != 28 {
-        return Frame::Malformed;
-    }
-    let stream = frame[1];
-    if 31 < stream {
-        return Frame::Malformed;
-    }
-    let head = head_at(frame, 2);
-    if !flag_fits(frame[11], head.id) {
-        return Frame::Malformed;
-    }
-    Frame::Asks(Command::Stream(StreamEvent::Arbitrate(stream, head)))
+    let stream = stream_of(frame, 28)?;
+    let head = head_at(frame, 2)?;
+    Some(StreamEvent::Arbitrate(stream, head))
 }
 
 // CONFIGURE: t 1 to 8, length 28 + 53t.
-fn read_configure(frame: &[u8]) -> Frame
-    ensures means { frame_read result frame.now ≡ rules.formed
+#[tactic(auto, unfolding(rules::specs::Frame::configure_formed, rules::specs::Frame::configure_of))]
+fn read_configure(frame: &[u8]) -> Option<PipelineCommand>
+    ensures means { frame_read (option_map Command.Pipeline result) frame.now ≡ rules.formed
         (rules.configure_formed (byte 27 frame.now) frame.now)
         (rules.configure_of (byte 27 frame.now) frame.now) }
-    ensures there { FrameThere result frame.now }
+    ensures there { IfSome result (λ c. RowsThere c frame.now) }
 {
-    if frame.len() < 28 {
-        return Frame::Malformed;
+    let count = items(frame, 28, rules::ROW)?;
+    if !(1..=8).contains(&count) {
+        return None;
     }
-    let t = frame[27] as usize;
-    if t == 0 {
-        return Frame::Malformed;
-    }
-    if 8 < t {
-        return Frame::Malformed;
-    }
-    if frame.len() != 28 + rules::ROW * t {
-        return Frame::Malformed;
-    }
-    let head = head_at(frame, 1);
-    if !flag_fits(frame[10], head.id) {
-        return Frame::Malformed;
-    }
-    Frame::Asks(Command::Pipeline(PipelineCommand { head, count: t }))
+    let head = head_at(frame, 1)?;
+    Some(PipelineCommand { head, count })
 }
 
 // WRITE: n 0 to 64, length 29 + 221n, atomicity 0 to 2.
-fn read_write(frame: &[u8]) -> Frame
-    ensures means { frame_read result frame.now ≡ rules.formed
+#[tactic(auto, unfolding(rules::specs::Frame::write_formed, rules::specs::Frame::write_of))]
+fn read_write(frame: &[u8]) -> Option<TableCommand>
+    ensures means { frame_read (option_map Command.Table result) frame.now ≡ rules.formed
         (rules.write_formed (byte 28 frame.now) frame.now)
         (rules.write_of (byte 28 frame.now) frame.now) }
-    ensures there { FrameThere result frame.now }
+    ensures there { IfSome result (λ c. OperandsThere c frame.now) }
 {
-    if frame.len() < 29 {
-        return Frame::Malformed;
+    let count = items(frame, 29, rules::UPDATE)?;
+    if 64 < count {
+        return None;
     }
-    let n = frame[28] as usize;
-    if 64 < n {
-        return Frame::Malformed;
-    }
-    if frame.len() != 29 + rules::UPDATE * n {
-        return Frame::Malformed;
-    }
-    let atomicity = frame[27];
-    if 2 < atomicity {
-        return Frame::Malformed;
-    }
-    let head = head_at(frame, 1);
-    if !flag_fits(frame[10], head.id) {
-        return Frame::Malformed;
-    }
-    Frame::Asks(Command::Table(TableCommand::Write(head, atomicity, n)))
+    let head = head_at(frame, 1)?;
+    let atomicity = Atomicity::try_from(frame[27]).ok()?;
+    Some(TableCommand::Write(Batch {
+        head,
+        atomicity,
+        count,
+    }))
 }
 
 // READ: length 159; only 0 with a key of zeros, or only 1 with a table other than 0.
-fn read_read(frame: &[u8]) -> Frame
-    ensures means { frame_read result frame.now ≡ rules.formed (rules.read_formed frame.now)
+#[tactic(auto, unfolding(rules::specs::Frame::read_formed))]
+fn read_read(frame: &[u8]) -> Option<TableCommand>
+    ensures means { frame_read (option_map Command.Table result) frame.now ≡ rules.formed (rules.read_formed frame.now)
         (rules.on_tables (rules.READ (rules.query_of frame.now))) }
-    ensures there { FrameThere result frame.now }
+    ensures there { IfSome result (λ c. OperandsThere c frame.now) }
 {
     if frame.len() != 159 {
-        return Frame::Malformed;
+        return None;
     }
-    let only = frame[14];
     let table = integer(frame, 10, 4);
-    let formed = match only {
-        0 => buffers::all_zero(&frame[15..159]),
-        1 => table != 0,
-        2..=255 => false,
+    let only = match frame[14] {
+        0 if buffers::all_zero(&frame[15..]) => false,
+        1 if table != 0 => true,
+        _ => return None,
     };
-    if !formed {
-        return Frame::Malformed;
-    }
-    let query = Query {
+    Some(TableCommand::Read(Query {
         device: integer(frame, 1, 8),
         role: frame[9],
         table,
         only,
-    };
-    Frame::Asks(Command::Table(TableCommand::Read(query)))
+    }))
 }
 
-// What a frame asks for.
-pub fn read_frame(frame: &[u8]) -> Frame
+// What a frame asks for; None where it is malformed. The ranges of command bytes are those of document 01.
+#[tactic(auto, unfolding(rules::specs::Frame::stream_formed), using(crate::proofs::Readings::first_byte))]
+pub fn read_frame(frame: &[u8]) -> Option<Command>
     ensures means { frame_read result frame.now ≡ rules.read_frame frame.now }
     ensures there { FrameThere result frame.now }
 {
-    if frame.len() == 0 {
-        return Frame::Malformed;
-    }
-    let command = frame[0];
+    let command = *frame.first()?;
     match command {
-        0 => Frame::Malformed,
-        1 => read_open(frame),
-        2 => read_close(frame),
-        3 => read_arbitrate(frame),
-        4 => read_configure(frame),
-        5 => read_write(frame),
-        6 => read_read(frame),
-        7..=255 => Frame::Malformed,
+        0 => None,
+        1 => stream_of(frame, 2)
+            .map(StreamEvent::Open)
+            .map(Command::Stream),
+        2 => stream_of(frame, 2)
+            .map(StreamEvent::Close)
+            .map(Command::Stream),
+        3 => read_arbitrate(frame).map(Command::Stream),
+        4 => read_configure(frame).map(Command::Pipeline),
+        5 => read_write(frame).map(Command::Table),
+        6 => read_read(frame).map(Command::Table),
+        7..=255 => None,
     }
 }

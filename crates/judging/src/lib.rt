@@ -1,150 +1,102 @@
 // Judging one update: why it is refused, or what is to be done (document 01, "The maker of an update"; document 02, request One).
 #![tactic(auto)]
 
-ghost use Rattle.std.specs.Prelude.{◌≡◌, false, List, ℕ, length, drop};
-ghost use Rattle.rules.specs.Bytes.{byte};
-ghost use Rattle.rules.specs.Reason.{first};
-ghost use Rattle.rules.specs.Frame.{row_size, update_size, update_of};
+ghost use Rattle.std.specs.Prelude.{◌≡◌, false, List, ℕ, Option, IfSome, ◌<◌, length, drop};
+ghost use Rattle.rules.specs.Bytes.{between, byte};
+ghost use Rattle.rules.specs.Frame.{update_of};
+ghost use Rattle.rules.specs.Named.{reason_of};
 ghost use Rattle.rules.specs.Row as rules;
 ghost use Rattle.rules.specs.Update.{is_insert};
-ghost use Rattle.rules.specs.Full.{judge_full_by};
-ghost use Rattle.rows.specs.Meaning.{row_of, rows_size, rows_in};
-ghost use Rattle.store.specs.declared.Tables as stored;
-ghost use Rattle.store.specs.Store.{entries_in, tables_in, InStore, InRange};
-ghost use Rattle.judging.specs.Verdict.{row_order, reason_of, judged, Justified, Possible, PlaceJudged};
+ghost use Rattle.rows.specs.Meaning.{row_of, rows_of};
+ghost use Rattle.judging.specs.Verdict.{judge_in, Justified, Possible, PlaceJudged};
 
 use numbers::integer;
-use store::{Found, Tables};
+use rows::{Row, Rows};
+use rules::Reason;
+use store::Entry;
 
-// What is to become of an update.
+// The bytes of an update: its type, and an entry.
+pub type Update = [u8; rules::UPDATE];
+
+// The types.
+const INSERT: u8 = 1;
+
+const MODIFY: u8 = 2;
+
+const DELETE: u8 = 3;
+
+// What is to become of an update that nothing refuses: it adds an entry, or it changes or deletes the one at a place.
 #[derive(Clone, Copy)]
-pub enum Verdict {
-    Refused(u8),
+pub enum Change {
     Insert,
     Modify(usize),
     Delete(usize),
 }
 
-impl Verdict {
-    // The reason of a verdict, 0 where the update takes effect.
-    pub fn reason(self) -> u8
-        ensures { result ≡ reason_of self }
-    {
-        match self {
-            Verdict::Refused(r) => r,
-            Verdict::Insert => 0,
-            Verdict::Modify(_) => 0,
-            Verdict::Delete(_) => 0,
-        }
-    }
+// The entry of an update.
+pub fn entry_of(update: &Update) -> &Entry
+    ensures { result.now ≡ drop 1 update.now }
+{
+    update[1..].first_chunk().unwrap()
+}
+
+// Whether there is a type of this number.
+fn is_type(kind: u8) -> bool
+    ensures { result ≡ between 1 3 kind }
+{
+    INSERT <= kind && kind <= DELETE
 }
 
 // 20 and 22 of an INSERT, by where its key was found.
-fn judge_insert(found: Found, row: &[u8], store: &[u8], tables: Tables) -> Verdict
-    requires { (length row.now ≡ row_size) × InStore tables store.now }
-    ensures judged { PlaceJudged result found (row_of row.now) 1 (entries_in tables store.now) }
-    ensures possible { Possible result tables }
+fn judge_insert(place: Option<usize>, row: &Row, entries: &[Entry]) -> Result<Change, Reason>
+    ensures judged { PlaceJudged result place (row_of row.now) 1 entries.now }
+    ensures possible { Possible result (length entries.now) }
 {
-    match found {
-        Found::At(_) => Verdict::Refused(20),
-        Found::Absent => {
-            if store::holds(
-                store,
-                tables,
-                integer(row, 0, 4),
-                integer(row, 5, 2) as usize,
-            ) {
-                return Verdict::Refused(22);
-            }
-            if 256 <= tables.count {
-                // no list of calls leaves such a record; the store is too short for it
-                return Verdict::Refused(2);
-            }
-            Verdict::Insert
-        }
+    if place.is_some() {
+        return Err(Reason::Stored);
     }
+    if store::holds(entries, row.table(), row.size() as usize) {
+        return Err(Reason::TableFull);
+    }
+    if 256 <= entries.len() {
+        // no list of calls leaves such a record; the store is too short for it
+        return Err(Reason::TooShort);
+    }
+    Ok(Change::Insert)
 }
 
 // 21 of a MODIFY or a DELETE, by where its key was found.
-fn judge_change(found: Found, kind: u8) -> Verdict
+fn judge_change(place: Option<usize>, kind: u8) -> Result<Change, Reason>
     requires { is_insert kind ≡ false }
-    ensures judged { (row : rules.Row) (es : List (List ℕ)) → PlaceJudged result found row kind es }
-    ensures possible { (tables : stored.Tables) → InRange found tables → Possible result tables }
+    ensures judged { (row : rules.Row) (es : List (List ℕ)) → PlaceJudged result place row kind es }
+    ensures possible { (n : ℕ) → IfSome place (λ i. i < n) → Possible result n }
 {
-    match found {
-        Found::At(i) => {
-            if kind == 2 {
-                return Verdict::Modify(i);
-            }
-            Verdict::Delete(i)
-        }
-        Found::Absent => Verdict::Refused(21),
+    let Some(i) = place else {
+        return Err(Reason::NotStored);
+    };
+    if kind == MODIFY {
+        return Ok(Change::Modify(i));
     }
+    Ok(Change::Delete(i))
 }
 
-// 15 to 19 of an update of 221 bytes: what is asked of it by its table's row, before the entries stored.
-fn row_reason(known: bool, row: &[u8], role: u8, update: &[u8]) -> u8
-    requires { (length row.now ≡ row_size) × (length update.now ≡ update_size) }
-    ensures { result ≡ first (row_order known (row_of row.now) role (update_of update.now)) }
+// Judges an update by the rows in force, the role and the entries stored: 17 of its type, 15 to 19 by the row of its table, and then by where
+// its key is. The row is looked up once, and the key is searched for as it is in the frame.
+pub fn judge(rows: &Rows, role: u8, entries: &[Entry], update: &Update) -> Result<Change, Reason>
+    ensures reason { reason_of result ≡ judge_in (rows_of rows.now) role (record { entries = entries.now }) (update_of update.now) }
+    ensures justified { Justified result (byte 0 update.now) (drop 1 update.now) entries.now }
+    ensures possible { Possible result (length entries.now) }
 {
     let kind = update[0];
-    if kind == 0 {
-        return 17;
+    if !is_type(kind) {
+        return Err(Reason::BadForm);
     }
-    if 3 < kind {
-        return 17;
+    let entry = entry_of(update);
+    let row = checks::table_reason(rows.find(integer(entry, 0, 4)), role)?;
+    checks::entry_reason(row, kind, entry)?;
+    let place = store::find(entries, &entry[..4], &entry[4..rules::KEY]);
+    if kind == INSERT {
+        return judge_insert(place, row, entries);
     }
-    let barred = checks::table_reason(known, row, role);
-    if barred != 0 {
-        return barred;
-    }
-    checks::entry_reason(row, kind, &update[1..])
-}
-
-// Judges an update of 221 bytes by whether its table is known, the table's row, the role and the entries stored. Its key is searched for
-// as it is in the frame.
-fn judge_by(
-    known: bool,
-    row: &[u8],
-    role: u8,
-    store: &[u8],
-    tables: Tables,
-    update: &[u8],
-) -> Verdict
-    requires { (length row.now ≡ row_size) × InStore tables store.now × (length update.now ≡ update_size) }
-    ensures reason { reason_of result ≡ judge_full_by 2 known (row_of row.now) role (tables_in tables store.now)
-        (update_of update.now) }
-    ensures justified { Justified result (byte 0 update.now) (drop 1 update.now) (entries_in tables store.now) }
-    ensures possible { Possible result tables }
-{
-    let wrong = row_reason(known, row, role, update);
-    if wrong != 0 {
-        return Verdict::Refused(wrong);
-    }
-    let found = store::find(store, tables, &update[1..5], &update[5..149]);
-    let kind = update[0];
-    if kind == 1 {
-        return judge_insert(found, row, store, tables);
-    }
-    judge_change(found, kind)
-}
-
-// Judges an update of 221 bytes by the rows in force, the role and the entries stored. The row of its table is looked up once, and lent.
-pub fn judge(
-    rows: &[u8],
-    count: u8,
-    role: u8,
-    store: &[u8],
-    tables: Tables,
-    update: &[u8],
-) -> Verdict
-    requires { (length rows.now ≡ rows_size) × InStore tables store.now × (length update.now ≡ update_size) }
-    ensures reason { reason_of result ≡ judged (rows_in count rows.now) role tables store.now update.now }
-    ensures justified { Justified result (byte 0 update.now) (drop 1 update.now) (entries_in tables store.now) }
-    ensures possible { Possible result tables }
-{
-    let found = rows::find(rows, count, integer(update, 1, 4));
-    let at = found.at;
-    let end = at + rules::ROW;
-    judge_by(found.known, &rows[at..end], role, store, tables, update)
+    judge_change(place, kind)
 }

@@ -1,17 +1,16 @@
 -- The first stream that passes a test: whether it is stream s, and what becomes of it where another stream is stored at s. Assumes nothing.
 use Rattle.std.specs.Prelude.{if◌then◌else◌}
-use Prim.Native.Nat.{ℕ, zero, suc, ◌+◌, ◌<◌, ◌≤◌}
+use Prim.Native.Nat.{ℕ, zero, suc, ◌+◌, ◌<◌}
 use native.Mathlib.Omega.{arith}
 use mathlib.Core.Path.{◌≡◌, refl}
 use mathlib.Core.Bool.{Bool, true, false, not}
 use mathlib.Core.List.{List, [], ◌∷◌}
 use mathlib.Core.Option.{Option, none, some}
-use lib.Dec.{eqb, ltb}
+use lib.Dec.{eqb}
 use lib.ListN.{length, get_or, set}
-use borrow.Author.Tests.{eq-eqb, ne_eqb, ltb-false}
+use borrow.Author.Tests.{eq-eqb, ne_eqb}
 use Rattle.rules.specs.Bytes.{some_of}
 use Rattle.rules.specs.Streams.{Stream, closed, numbers, head, is, same_option}
-use Rattle.leadership.specs.Meaning.{numbered}
 
 -- a stream other than s
 abbrev pub other : ℕ → ℕ → Bool
@@ -98,11 +97,3 @@ module _ (p : Stream → Bool) where
             let u : true ≡ false = rw (t) at g in
             absurd (let z : ◌≡◌ {A = ℕ} 0 1 = cc in omega arith)
         go false g i = i g
-
--- a stream's number is that of a scan's first, or not
-pub is-numbered : (s k : ℕ) → s < 32 → eqb k s ≡ is s (numbered k)
-is-numbered s k h = go (ltb k 32) (ltb-false k 32)
-  where
-    go : (b : Bool) → (b ≡ false → 32 ≤ k) → eqb k s ≡ is s (if b then some k else none)
-    go true f = refl
-    go false f = let g = f refl in ne_eqb k s (λ e. omega arith)

@@ -3,7 +3,7 @@ use Rattle.std.specs.Prelude.{if◌then◌else◌}
 use Prim.Native.Nat.{ℕ, ◌<◌, ◌≤◌, max}
 use native.Mathlib.Omega.{arith}
 use mathlib.Core.Path.{◌≡◌, refl, sym, ap, ◌∙◌}
-use mathlib.Core.Bool.{Bool, true, false, ◌&&◌, not, and-true as and-unit, and-false as and_none}
+use mathlib.Core.Bool.{Bool, true, false, ◌&&◌, not, beq, and-true as and-unit, and-false as and_none}
 use mathlib.Core.List.{List}
 use mathlib.Core.Option.{Option, none}
 use lib.Dec.{eqb, ltb}
@@ -15,6 +15,12 @@ use Rattle.rules.specs.Frame.{Head}
 use Rattle.rules.specs.Streams.{bound, Streams, stream_at, holds, numbers, head, is, mark_of, primary, held_elsewhere}
 use Rattle.rules.specs.Streams.{binds, same_option, same_pair}
 use Rattle.rules.proofs.Tests.{contradiction, and-true, and-false, both_true}
+use Rattle.election.specs.declared.Head.{Head as Asked}
+use Rattle.election.specs.Meaning.{id_of, head_of}
+use Rattle.leadership.specs.declared.Scan.{Scan}
+use Rattle.leadership.specs.Meaning.{primary_of}
+use Rattle.leadership.specs.Scanning.{KeepsOf}
+use Rattle.leadership.proofs.ArbitrateReason.{accepted-role, accepted-within, accepted-alone}
 use Rattle.leadership.proofs.FirstPassing.{other, not-passing, passes-no-more, passes-alone}
 
 -- ---- the primary, by the mark
@@ -103,7 +109,7 @@ module _ (e : Streams) (s : ℕ) (h : Head) (size : length e.marks ≡ 8) where
       marks-differ e after role (ne_eqb _ _ d)
 
   -- without a mark there is no primary
-  pub pair-unset : mark ≡ 0 → not (ltb role 8 && not (eqb h.id 0)) ≡ same_pair e after role
+  pair-unset : mark ≡ 0 → not (ltb role 8 && not (eqb h.id 0)) ≡ same_pair e after role
   pair-unset z = go (ltb role 8) (ltb-true _ _) (ltb-false _ _) (eqb h.id 0) (eqb-true _ _) (eqb-false _ _)
     where
       stays : mark_of after role ≡ 0 → true ≡ same_pair e after role
@@ -116,7 +122,7 @@ module _ (e : Streams) (s : ℕ) (h : Head) (size : length e.marks ≡ 8) where
       go true l g false p q = let i = q refl in rises (l refl) (omega (arith, i))
 
   module _ (t : eqb mark 0 ≡ false) where
-    pub pair-raised : mark < h.id → false ≡ same_pair e after role
+    pair-raised : mark < h.id → false ≡ same_pair e after role
     pair-raised m = go (ltb role 8) (ltb-true _ _) (ltb-false _ _)
       where
         go : (a : Bool) → (a ≡ true → role < 8) → (a ≡ false → 8 ≤ role) → false ≡ same_pair e after role
@@ -132,7 +138,7 @@ module _ (e : Streams) (s : ℕ) (h : Head) (size : length e.marks ≡ 8) where
           marks-agree e after role (set-primary e role refl t) (set-primary after role (mark-kept l) t) (eq-eqb _ _ (sym (mark-kept l)))
 
       -- the stream becomes the mark's only holder
-      pub pair-holder : h.id ≡ mark → s < length e.streams → held_elsewhere e s role h.id ≡ false → is s holder ≡ same_pair e after role
+      pair-holder : h.id ≡ mark → s < length e.streams → held_elsewhere e s role h.id ≡ false → is s holder ≡ same_pair e after role
       unfolding held_elsewhere
       pair-holder q n f =
           let i : eqb h.id 0 ≡ false = rw q t in
@@ -142,7 +148,56 @@ module _ (e : Streams) (s : ℕ) (h : Head) (size : length e.marks ≡ 8) where
           sym (passes-alone (holds role mark) (bound role h.id) x e.streams 0 s s (omega arith) n g') ∙ primaries
 
       -- the stream does not hold the mark
-      pub pair-other : eqb h.id mark ≡ false → not (is s holder) ≡ same_pair e after role
+      pair-other : eqb h.id mark ≡ false → not (is s holder) ≡ same_pair e after role
       pair-other q =
           let x : holds role mark (bound role h.id) ≡ false = rw (eq-eqb role role refl, q) in
           sym (passes-no-more (holds role mark) (bound role h.id) x e.streams 0 s s (omega arith)) ∙ primaries
+
+-- ---- an accepted ARBITRATE, by what the scan shows
+
+-- whether the pair stays, where m is the mark, i the id, and t says whether the stream is the primary
+abbrev pub pair_stays : (r m i : ℕ) (t : Bool) → Bool
+pair_stays r m i t =
+    if eqb m 0 then not (ltb r 8 && not (eqb i 0)) else
+    if ltb m i then false else
+    beq t (eqb i m)
+
+beq-true : (b : Bool) → beq b true ≡ b
+beq-true true = refl
+beq-true false = refl
+
+beq-false : (b : Bool) → beq b false ≡ not b
+beq-false true = refl
+beq-false false = refl
+
+stays : (e : Streams) (s : ℕ) (h : Head) → length e.marks ≡ 8 → s < length e.streams → held_elsewhere e s h.role h.id ≡ false
+    → pair_stays h.role (mark_of e h.role) h.id (is s (primary e h.role)) ≡ same_pair e (binds e s h) h.role
+stays e s h size n f = go (eqb m 0) (eqb-true m 0) refl (ltb m h.id) (ltb-true m h.id) (ltb-false m h.id)
+  where
+    m : ℕ
+    m = mark_of e h.role
+
+    led : Bool
+    led = is s (primary e h.role)
+
+    same : Bool
+    same = same_pair e (binds e s h) h.role
+
+    tested : eqb m 0 ≡ false → h.id ≤ m → (b : Bool) → eqb h.id m ≡ b → (b ≡ true → h.id ≡ m) → beq led b ≡ same
+    tested t l true q g = beq-true led ∙ sym (ap (is s) (set-primary e h.role refl t)) ∙ pair-holder e s h size t l (g refl) n f
+    tested t l false q g = beq-false led ∙ sym (ap (λ (o : Option ℕ). not (is s o)) (set-primary e h.role refl t)) ∙ pair-other e s h size t l q
+
+    go : (z : Bool) → (z ≡ true → m ≡ 0) → eqb m 0 ≡ z → (b : Bool) → (b ≡ true → m < h.id) → (b ≡ false → h.id ≤ m)
+        → (if z then not (ltb h.role 8 && not (eqb h.id 0)) else if b then false else beq led (eqb h.id m)) ≡ same
+    go true p q b l g = pair-unset e s h size (p refl)
+    go false p q true l g = pair-raised e s h size q (l refl)
+    go false p q false l g = tested q (g refl) (eqb h.id m) refl (eqb-true h.id m)
+
+pub kept-shown : (scan : Scan) (h : Asked) (s : ℕ) {t : Bool}
+    → t ≡ pair_stays h.role (id_of scan.leadership.mark) (id_of h.id) (is s (primary_of scan.leadership.primary)) → KeepsOf t s h scan
+kept-shown scan h s q device e w z =
+    let r : scan.leadership.role ≡ h.role = w.role ∙ accepted-role e s device (head_of h) z w.own in
+    let n = accepted-within e s device (head_of h) z in
+    q
+    ∙ rw (w.leadership.mark, w.leadership.primary, r)
+    (stays e s (head_of h) w.marks n (accepted-alone e s device (head_of h) z))

@@ -5,33 +5,27 @@ use Rattle.election.specs.declared.Head.{Head}
 use Rattle.election.specs.Meaning.{id_of, head_of, binding_of, role_or}
 use Rattle.leadership.specs.declared.Leadership.{Leadership}
 use Rattle.leadership.specs.declared.Scan.{Scan}
-use Rattle.leadership.specs.Meaning.{primary_of, numbered}
-
--- the scan shows the record e to stream s, which asks for role r with id i
-pub record ScanOf (scan : Scan) (e : rules.Streams) (s r i : ℕ) : Type 0 where
-  pub streams : length e.streams ≡ 32
-  pub marks : length e.marks ≡ 8
-  pub own : binding_of scan.own ≡ rules.stream_at e s
-  pub role : scan.role ≡ role_or r (binding_of scan.own)
-  pub members : scan.members ≡ length (rules.members e scan.role)
-  pub used : scan.used ≡ rules.held_elsewhere e s scan.role i
-  pub mark : id_of scan.mark ≡ rules.mark_of e scan.role
-  pub holder : numbered scan.holder ≡ rules.head (rules.numbers (rules.holds scan.role (rules.mark_of e scan.role)) 0 e.streams)
-
--- n is the reason of an ARBITRATE in every record that the scan shows
-abbrev pub ReasonOf : ℕ → ℕ → Head → Scan → Type 0
-ReasonOf n device h scan =
-    (e : rules.Streams) (s : ℕ) → ScanOf scan e s h.role (id_of h.id) → n ≡ rules.arbitrate_reason device e s (head_of h)
+use Rattle.leadership.specs.Meaning.{primary_of}
 
 -- l is the leadership of its role in e
 pub record LeadershipIn (l : Leadership) (e : rules.Streams) : Type 0 where
   pub primary : primary_of l.primary ≡ rules.primary e l.role
   pub mark : id_of l.mark ≡ rules.mark_of e l.role
 
--- l is the leadership of the scan's role in every record that the scan shows
-pub record LeadershipOf (l : Leadership) (scan : Scan) : Type 0 where
-  pub role : l.role ≡ scan.role
-  pub shown : (e : rules.Streams) (s r i : ℕ) → ScanOf scan e s r i → LeadershipIn l e
+-- the scan shows the record e to stream s, which asks for role r with id i
+pub record ScanOf (scan : Scan) (e : rules.Streams) (s r i : ℕ) : Type 0 where
+  pub streams : length e.streams ≡ 32
+  pub marks : length e.marks ≡ 8
+  pub own : binding_of scan.own ≡ rules.stream_at e s
+  pub role : scan.leadership.role ≡ role_or r (binding_of scan.own)
+  pub members : scan.members ≡ length (rules.members e scan.leadership.role)
+  pub used : scan.used ≡ rules.held_elsewhere e s scan.leadership.role i
+  pub leadership : LeadershipIn scan.leadership e
+
+-- n is the reason of an ARBITRATE in every record that the scan shows
+abbrev pub ReasonOf : ℕ → ℕ → Head → Scan → Type 0
+ReasonOf n device h scan =
+    (e : rules.Streams) (s : ℕ) → ScanOf scan e s h.role (id_of h.id) → n ≡ rules.arbitrate_reason device e s (head_of h)
 
 -- whether stream s, which is x, is the primary of its role
 abbrev pub leads : rules.Streams → ℕ → rules.Stream → Bool

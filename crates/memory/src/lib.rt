@@ -22,7 +22,8 @@ pub struct Configuration {
     pub rows: Rows,
 }
 
-// The agent's record: the device, the streams, the configuration, and what it knows of the tables in the store.
+// The agent's record: the device, the streams, the configuration, and what it knows of the tables in the store. Hosts in C hold it, so its
+// fields and their order are those of the C header.
 #[repr(C)]
 #[derive(Clone, Copy)]
 pub struct Agent {
@@ -34,6 +35,7 @@ pub struct Agent {
 
 impl Agent {
     // A fresh agent: all streams closed, and no marks, rows or entries.
+    #[tactic(auto, unfolding(rules::specs::Call::fresh))]
     pub fn new(device: u64) -> Agent
         ensures { Fresh Flat device result }
     {

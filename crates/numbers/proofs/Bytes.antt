@@ -1,15 +1,15 @@
 -- One more byte multiplies what comes before it by 256, so bytes read or written in parts are those of the whole. Assumes nothing.
-use Prim.Native.Nat.{ℕ, zero, suc, ◌+◌, ◌*◌, ◌/◌, ◌%◌, ◌^◌, ◌<◌, ◌≤◌}
-use native.Mathlib.Nat.{add-zero, add-suc, pow-suc, pow-succ', mul-add-div_right, mul-add-mod_self_right}
-use native.Mathlib.Nat.{div-lt_iff_lt-mul, div-one, div-div-eq-div-mul}
+use Prim.Native.Nat.{ℕ, zero, suc, ◌+◌, ◌*◌, ◌-◌, ◌/◌, ◌%◌, ◌^◌, ◌<◌, ◌≤◌}
+use native.Mathlib.Nat.{add-zero, zero-add, pow-suc, pow-succ'}
+use native.Mathlib.Nat.{div-one, div-div-eq-div-mul}
 use native.Mathlib.Numerals.{add-one}
 use native.Mathlib.Omega.{arith}
-use mathlib.Core.Path.{◌≡◌, refl, sym, ap, subst, ◌∙◌}
-use mathlib.Core.List.{List, [], ◌∷◌, ◌++◌, append-nil, append_assoc}
-use lib.Arith.{lt-one, digits_div}
-use lib.Dec.{lit<}
-use lib.ListN.{length, get_or, take, drop, length-drop, take-append-drop}
+use mathlib.Core.Path.{◌≡◌, refl, sym, ap, ◌∙◌}
+use mathlib.Core.List.{List, [], ◌∷◌, ◌++◌}
+use lib.Arith.{digits_div}
+use lib.ListN.{length, get_or, take, drop, length-drop}
 use lib.Seq.{take-suc, take_all, get_or-drop}
+use Rattle.std.specs.Int.{w128, from_be_bytes, byte_worth, byte_at, bytes_high_first, sum_through}
 use Rattle.rules.specs.Bytes.{number_from, number, int, bytes_of}
 
 -- ---- reading
@@ -18,21 +18,6 @@ from-append : (x : ℕ) (l m : List ℕ) → number_from x (l ++ m) ≡ number_f
 unfolding number_from
 from-append x [] m = refl
 from-append x (b ∷ l) m = from-append (x * 256 + b) l m
-
--- what comes before the bytes is multiplied by 256 for each of them; p is the place value of the first of them
-first_byte : (x b p v w z : ℕ) → v ≡ (x * 256 + b) * p + z → w ≡ (0 * 256 + b) * p + z → v ≡ x * (p * 256) + w
-first_byte x b p v w z e f = omega arith
-
-from_zero : (x : ℕ) (l : List ℕ) → number_from x l ≡ x * 256 ^ length l + number l
-unfolding number_from
-from_zero x [] = omega arith
-from_zero x (b ∷ l) =
-    rw (pow-suc 256 (length l))
-    (first_byte x b (256 ^ length l) (number_from (x * 256 + b) l) (number_from (0 * 256 + b) l) (number l)
-    (from_zero (x * 256 + b) l) (from_zero (0 * 256 + b) l))
-
-pub number_append : (l m : List ℕ) → number (l ++ m) ≡ number l * 256 ^ length m + number m
-number_append l m = from-append 0 l m ∙ from_zero (number l) m
 
 pub int-none : (a : ℕ) (l : List ℕ) → int a 0 l ≡ 0
 unfolding number_from
@@ -69,29 +54,43 @@ int-front a n (suc k) l b h =
 pub below_next : (n x k : ℕ) → n < 256 ^ k → x < 256 → n * 256 + x < 256 ^ (k + 1)
 below_next n x k h b = let p : 256 ^ (k + 1) ≡ 256 ^ k * 256 = rw add-one (pow-suc 256 k) in omega arith
 
--- the two halves of 16 bytes
-pub number-halves : (l : List ℕ) → length l ≡ 16 → int 0 8 l * 2 ^ 64 + int 8 8 l ≡ number l
-number-halves l h =
-    let n : length (drop 8 l) ≡ 8 = length-drop 8 l ∙ omega arith in
-    rw (take_all 8 (drop 8 l) (omega arith))
-    (sym (ap number (sym (take-append-drop 8 l)) ∙ number_append (take 8 l) (drop 8 l)
-    ∙ ap (λ (m : ℕ). number (take 8 l) * 256 ^ m + number (drop 8 l)) n))
+worth-more : (i b : ℕ) → byte_worth (suc i) b ≡ 256 * byte_worth i b
+worth-more zero b = omega arith
+worth-more (suc i) b = rw (pow-suc 256 (suc i)) (omega arith)
+
+sum-more : (f g : ℕ → ℕ) (k : ℕ) → ((i : ℕ) → i ≤ k → f i ≡ 256 * g i) → sum_through f k ≡ 256 * sum_through g k
+sum-more f g zero e = e 0 (omega arith)
+sum-more f g (suc k) e = omega (arith, sum-more f g k (λ i h. e i (omega arith)), e (suc k) (omega arith))
+
+-- bytes by their place values, the highest first
+placed : (n : ℕ) (b : List ℕ) → n < length b → sum_through (λ i. byte_worth (n - i) (get_or b i 0)) n ≡ int 0 (n + 1) b
+placed zero b h = omega (arith, int-next 0 0 b h, int-none 0 b)
+placed (suc n) b h =
+    let s : suc n - suc n ≡ 0 = omega arith in
+    let z : ℕ → ℕ = λ i. get_or b i 0 in
+    let one : (i : ℕ) → i ≤ n → byte_worth (suc n - i) (z i) ≡ 256 * byte_worth (n - i) (z i) =
+    λ i g. let e : suc n - i ≡ suc (n - i) = omega arith in ap (λ (k : ℕ). byte_worth k (z i)) e ∙ worth-more (n - i) (z i) in
+    let more = sum-more (λ i. byte_worth (suc n - i) (z i)) (λ i. byte_worth (n - i) (z i)) n one in
+    let next = rw zero-add at (int-next 0 (suc n) b (omega arith)) in
+    let last : byte_worth 0 (z (suc n)) ≡ z (suc n) = refl in
+    rw (s, more, placed n b (omega arith), add-one n) (omega (arith, next, last))
+
+pub from_be : (b : List ℕ) → length b ≡ 16 → from_be_bytes w128 b ≡ number b
+from_be b l = placed 15 b (omega arith) ∙ ap number (take_all 16 b (omega arith))
 
 -- ---- writing
 
-move_up : (h p l : ℕ) → h * (p * 256) + l ≡ (h * p) * 256 + l
-move_up h p l = omega arith
+byte-lower : (k n : ℕ) → byte_at k (n / 256) ≡ byte_at (suc k) n
+byte-lower zero n = refl
+byte-lower (suc k) n = ap (λ (m : ℕ). m % 256) (div-div-eq-div-mul n 256 (256 ^ suc k) ∙ ap (λ (m : ℕ). n / m) (sym (pow-succ' 256 (suc k))))
 
--- the bytes of a number are those of its high part and of its low part
-pub bytes_of-append : (m n h l : ℕ) → l < 256 ^ n → bytes_of (m + n) (h * 256 ^ n + l) ≡ bytes_of m h ++ bytes_of n l
+bytes-first : (k n : ℕ) → bytes_of (suc k) n ≡ byte_at k n ∷ bytes_of k n
 unfolding bytes_of
-bytes_of-append m zero h l b =
-    let z : l ≡ 0 = lt-one b in
-    let e : h * 256 ^ 0 + l ≡ h = omega arith in
-    rw (add-zero, e) (sym (append-nil (bytes_of m h)))
-bytes_of-append m (suc n) h l b =
-    let p : ℕ = h * 256 ^ n in
-    let s : h * 256 ^ suc n + l ≡ p * 256 + l = rw (pow-suc 256 n) (move_up h (256 ^ n) l) in
-    let q : l / 256 < 256 ^ n = (div-lt_iff_lt-mul {k = 256} (lit< tt)).1 (subst (λ (k : ℕ). l < k) (pow-suc 256 n) b) in
-    rw (add-suc, s, mul-add-div_right {m = 256} (lit< tt) p l, mul-add-mod_self_right p 256 l, bytes_of-append m n h (l / 256) q)
-    (append_assoc (bytes_of m h) (bytes_of n (l / 256)) (l % 256 ∷ []))
+bytes-first zero n = refl
+bytes-first (suc k) n = rw (bytes-first k (n / 256)) (ap (λ (m : ℕ). m ∷ (bytes_of k (n / 256) ++ (n % 256 ∷ []))) (byte-lower k n))
+
+-- the library's bytes of a number are those of the rules
+pub high-first : (k n : ℕ) → bytes_high_first k n ≡ bytes_of k n
+unfolding bytes_of
+high-first zero n = refl
+high-first (suc k) n = rw (high-first k n) (sym (bytes-first k n))

@@ -1,5 +1,5 @@
 -- Laws of numbers of up to 128 bits.
-pub mod EquivalentTests
 pub mod Bytes
 pub mod Halves
+pub mod Order
 pub mod Bits

@@ -2,22 +2,19 @@
 // (document 01, "Configuration and entries", and 5, 6, 11, 10, 14).
 #![tactic(auto)]
 
-ghost use Rattle.std.specs.Prelude.{◌≡◌, not, [], ◌∷◌, ◌++◌, ◌*◌, ◌≤◌, ltb, length};
+ghost use Rattle.std.specs.Prelude.{◌≡◌, ◌≤◌, length, drop};
 ghost use Rattle.rules.specs.Frame.{row_size};
 ghost use Rattle.rules.specs.Bytes.{parts};
-ghost use Rattle.rules.specs.Reason.{first};
-ghost use Rattle.rules.specs.Streams.{address_order};
-ghost use Rattle.rules.specs.Call.{configure_reason};
-ghost use Rattle.election.specs.Meaning.{head_of};
+ghost use Rattle.rules.specs.Named.{reason_of};
 ghost use Rattle.frames.specs.Meaning.{pipeline_read, RowsThere};
 ghost use Rattle.memory.specs.Layout.{control_in};
 ghost use Rattle.pipeline.specs.Pipeline.{Refuses, CarriesOut};
 
 use arbitration::Streams;
-use election::Head;
 use frames::PipelineCommand;
 use memory::{Configuration, Device};
 use rows::Rows;
+use rules::Reason;
 use store::Tables;
 
 // What a pipeline command leaves.
@@ -27,65 +24,39 @@ pub struct Configured {
     pub tables: Tables,
 }
 
-// 5, 6, 11 and 10 of a CONFIGURE.
-fn head_reason(here: bool, role: u8, primary: bool) -> u8
-    ensures { result ≡ first (address_order (not here) role ++ (ltb 0 role, 11) ∷ (not primary, 10) ∷ []) }
+// The rows of a CONFIGURE, where they lie in its frame.
+fn rows_in(command: PipelineCommand, frame: &[u8]) -> &[[u8; rules::ROW]]
+    requires { RowsThere command frame.now }
+    ensures rows { result.now ≡ parts command.count row_size (drop 28 frame.now) }
+    ensures few { length result.now ≤ 8 }
 {
-    let elsewhere = election::address_reason(here, role);
-    if elsewhere != 0 {
-        return elsewhere;
-    }
-    if 0 < role {
-        return 11;
-    }
-    if !primary {
-        return 10;
-    }
-    0
+    frame[28..].as_chunks().0
 }
 
-// The reason of a CONFIGURE: 5, 6, 11 and 10; then 14, which is found from the bytes of the rows.
-fn configure_reason(
-    device: Device,
-    streams: Streams,
-    configuration: Configuration,
-    head: Head,
-    t: usize,
-    rows: &[u8],
-) -> u8
-    requires { (t ≤ 8) × (length rows.now ≡ row_size * t) }
-    ensures { result ≡ configure_reason (control_in device streams configuration) (head_of head) (parts t row_size rows.now) }
-{
-    let primary = streams.by_primary(head.role, head.id);
-    let reason = head_reason(head.device == device.id, head.role, primary);
-    if reason != 0 {
-        return reason;
-    }
-    if configuration::allowed(rows, t) {
-        return 0;
-    }
-    14
-}
-
-// Why a pipeline command is refused, 0 where it is accepted. No row is read.
+// Why a pipeline command is refused, if it is: 5, 6, 11 and 10; then 14, which is found from the bytes of the rows.
+#[tactic(auto, unfolding(rules::specs::Reason::first, rules::specs::Call::configure_reason))]
 pub fn refusal(
     device: Device,
-    streams: Streams,
-    configuration: Configuration,
+    streams: &Streams,
+    configuration: &Configuration,
     command: PipelineCommand,
     frame: &[u8],
-) -> u8
+) -> Result<(), Reason>
     requires { RowsThere command frame.now }
-    ensures { Refuses (control_in device streams configuration) (pipeline_read command frame.now) result }
+    ensures { Refuses (control_in device streams.now configuration.now) (pipeline_read command frame.now) (reason_of result) }
 {
-    configure_reason(
-        device,
-        streams,
-        configuration,
-        command.head,
-        command.count,
-        &frame[28..],
-    )
+    let head = command.head;
+    election::address_reason(head.device == device.id, head.role)?;
+    if 0 < head.role {
+        return Err(Reason::NotRoleZero);
+    }
+    if !streams.by_primary(head.role, head.id) {
+        return Err(Reason::NotPrimary);
+    }
+    if !configuration::allowed(rows_in(command, frame)) {
+        return Err(Reason::RowsNotAllowed);
+    }
+    Ok(())
 }
 
 // What an accepted pipeline command leaves: the rows of a CONFIGURE, and no entries.
@@ -95,7 +66,7 @@ pub fn carry_out(command: PipelineCommand, frame: &[u8]) -> Configured
 {
     Configured {
         configuration: Configuration {
-            rows: Rows::read(&frame[28..], command.count),
+            rows: Rows::read(rows_in(command, frame)),
         },
         tables: Tables::none(),
     }

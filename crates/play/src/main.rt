@@ -2,22 +2,15 @@
 // What is done with the bytes is in `session`: this program moves them between the standard streams and the slices that it lends.
 #![tactic(auto)]
 
-ghost use Rattle.std.specs.Prelude.{◌≡◌, ◌+◌, ◌-◌, ◌≤◌, ◌<◌, length, take, drop};
-ghost use Rattle.std.proofs.Math.Option.{none};
+ghost use Rattle.std.specs.Prelude.{◌≡◌, ◌+◌, ◌-◌, ◌≤◌, ◌<◌, length, take, drop, None};
 ghost use Rattle.rules.specs.Bytes.{part};
 ghost use Rattle.transcript.specs.Input.{first_frame, CutAt};
 ghost use Rattle.transcript.specs.Line.{longest_line};
 ghost use Rattle.session.specs.Session.{Session};
 
 use memory::Agent;
+use session::{Player, Stop};
 use std::io::Read;
-
-// What a run ends with: the agent, and the ordinal that the next call would have.
-#[derive(Clone, Copy)]
-struct Ended {
-    agent: Agent,
-    ordinal: u64,
-}
 
 // One read; how many bytes it gave, 0 where the input ends or the read fails.
 fn read(rt: &HostRuntime, part: &mut [u8]) -> usize
@@ -30,7 +23,7 @@ fn read(rt: &HostRuntime, part: &mut [u8]) -> usize
 // What comes before `at` must be whole frames, and what is kept must hold none.
 fn refill(rt: &HostRuntime, input: &mut [u8], at: usize, filled: usize) -> usize
     requires room { (at ≤ filled) × (filled ≤ length input.old) × (filled < length input.old + at) }
-    requires cut { CutAt (take filled input.old) at × (first_frame (drop at (take filled input.old)) ≡ none) }
+    requires cut { CutAt (take filled input.old) at × (first_frame (drop at (take filled input.old)) ≡ None) }
     ensures count { (filled - at ≤ result) × (result ≤ length input.old) }
     ensures kept { take (filled - at) input.new ≡ part at (filled - at) input.old }
 {
@@ -42,46 +35,39 @@ fn refill(rt: &HostRuntime, input: &mut [u8], at: usize, filled: usize) -> usize
 // who drives the program gets each answer.
 fn run(
     rt: &HostRuntime,
-    agent: Agent,
+    start: Player,
     input: &mut [u8],
     store: &mut [u8],
     answer: &mut [u8],
     out: &mut [u8],
-) -> Ended
+) -> Player
     requires { (65_537 ≤ length input.old) × (longest_line ≤ length out.old) }
-    ensures { Session agent 1 store.old answer.old result.agent result.ordinal store.new answer.new }
+    ensures { Session start.agent start.ordinal store.old answer.old result.agent result.ordinal store.new answer.new }
 {
-    let mut state = agent;
-    let mut ordinal: u64 = 1;
-    let mut at: usize = 0;
-    let mut filled: usize = 0;
+    let mut player = start;
+    let mut at = 0;
+    let mut filled = 0;
     // each turn makes a call or reads a byte: the limit, which says that the loop ends, is past any input
-    let mut turns: u64 = 0;
-    while turns < u64::MAX {
-        let s = session::advance(state, ordinal, &input[at..filled], store, answer, out);
-        let end = s.end;
+    for _ in 0..u64::MAX {
+        let s = session::advance(player, &input[at..filled], store, answer, out);
         // lines that cannot be written are lost, and the calls go on
-        let _ = rt.write_all(&out[..end]);
-        state = s.agent;
-        ordinal = s.ordinal;
+        let _ = rt.write_all(&out[..s.end]);
+        player = s.player;
         at += s.at;
-        if ordinal == u64::MAX {
-            break;
-        }
-        if s.waiting {
-            let rest = filled - at;
-            filled = refill(rt, input, at, filled);
-            at = 0;
-            if filled == rest {
-                break;
+        match s.stop {
+            Stop::NoOrdinal => break,
+            Stop::NoRoom => {}
+            Stop::NoFrame => {
+                let rest = filled - at;
+                filled = refill(rt, input, at, filled);
+                at = 0;
+                if filled == rest {
+                    break;
+                }
             }
         }
-        turns += 1;
     }
-    Ended {
-        agent: state,
-        ordinal,
-    }
+    player
 }
 
 fn main(rt: HostRuntime) {
@@ -89,12 +75,9 @@ fn main(rt: HostRuntime) {
     let mut store = [0u8; 56320];
     let mut answer = [0u8; 57344];
     let mut out = [0u8; 262144];
-    run(
-        &rt,
-        Agent::new(1),
-        &mut input,
-        &mut store,
-        &mut answer,
-        &mut out,
-    );
+    let start = Player {
+        agent: Agent::new(1),
+        ordinal: 1,
+    };
+    run(&rt, start, &mut input, &mut store, &mut answer, &mut out);
 }

@@ -5,11 +5,13 @@ use native.Mathlib.Nat.{eq-or-lt_of_le}
 use native.Mathlib.Omega.{arith}
 use mathlib.Core.Path.{◌≡◌, refl, sym, ap, ◌∙◌}
 use mathlib.Core.Bool.{true, false}
-use mathlib.Core.List.{List, [], ◌∷◌, ◌++◌, append-nil}
+use mathlib.Core.List.{List, [], ◌∷◌, ◌++◌, append-nil, map}
 use mathlib.Core.Logic.{◌⊎◌, inl, inr, ⊎_elim}
-use mathlib.Core.Option.{none, some}
-use lib.ListN.{length, take, drop, length-append, length-drop}
-use lib.Seq.{take-add, take-append-le, drop-drop, drop_at}
+use Rattle.std.specs.Prelude.{Some, None}
+use lib.ListN.{length, take, drop, get_or, length-append, length-drop}
+use lib.Seq.{take-add, take-append-le, drop-drop, drop_at, drop-cons}
+use Rattle.std.proofs.lemmas.List.{drop_all}
+use native.Mathlib.Numerals.{add-one}
 use borrow.Rule.Slice.PartMut.{put_mid}
 use Rattle.rules.specs.Bytes.{keep, concat, part, int}
 use Rattle.rules.specs.Key.{has_key}
@@ -20,32 +22,29 @@ use Rattle.rules.proofs.Formed.{EveryLength, parts-lengths}
 use Rattle.rules.proofs.Sizes.{keep-lengths}
 use Rattle.buffers.specs.Splice.{splice}
 use Rattle.buffers.proofs.Splice.{splice-none, splice-next, length-splice, length-window, part-copied}
-use Rattle.rows.specs.Meaning.{row_of, rows_in}
-use Rattle.rows.proofs.RowsWalk.{rows_next, rows_none, table_at}
+use Rattle.rows.specs.declared.Row.{Row as Held}
+use Rattle.rows.specs.Meaning.{row_of}
 use Rattle.rules.specs.Sound.{Distinct}
-use Rattle.store.specs.declared.Tables.{Tables as Held}
-use Rattle.store.specs.Store.{entries_in, tables_in, place}
-use Rattle.store.proofs.Writes.{parts_at}
+use Rattle.store.specs.Store.{place}
 use Rattle.store.proofs.KeyPlace.{keep-place, keep-absent}
 use Rattle.reads.specs.Read.{Reads}
 
 -- ---- the entry of a key
 
-module _ (tables : Held) (s k before : List ℕ) where
-  abbrev es : List (List ℕ)
-  es = entries_in tables s
-
-  pub none_read : none ≡ place k es → Reads (keep (has_key k) es) before before 0
+module _ (es : List (List ℕ)) (k before : List ℕ) where
+  pub none_read : None ≡ place k es → Reads (keep (has_key k) es) before before 0
   none_read p = rw (keep-absent k es (sym p)) (omega arith, splice-none before 0)
 
-  pub one-read : (i : ℕ) (after : List ℕ) → some i ≡ place k es → i < tables.count → 220 ≤ length before
-      → after ≡ splice before 0 (part (220 * i) 220 s) → Distinct es → Reads (keep (has_key k) es) before after 1
-  one-read i after p h l a d =
-      let e : keep (has_key k) es ≡ part (220 * i) 220 s ∷ [] =
-      keep-place k es i d (sym p) ∙ ap (λ (x : List ℕ). x ∷ []) (parts_at i tables.count 220 s h) in
-      rw e (omega arith, rw append-nil a)
+  pub one-read : (i : ℕ) (after : List ℕ) → Some i ≡ place k es → 220 ≤ length before
+      → after ≡ splice before 0 (get_or es i []) → Distinct es → Reads (keep (has_key k) es) before after 1
+  one-read i after p l a d = rw (keep-place k es i d (sym p)) (omega arith, rw append-nil a)
 
 -- ---- the entries of the rows asked for
+
+-- what is so long at each place is so long throughout
+pub every_long : (n : ℕ) (xs : List (List ℕ)) → ((i : ℕ) → i < length xs → length (get_or xs i []) ≡ n) → EveryLength n xs
+every_long n [] h = tt
+every_long n (x ∷ xs) h = (h 0 (omega arith), every_long n xs (λ i l. h (suc i) (omega arith)))
 
 -- the first r of records of 220 bytes
 first-length : (r : ℕ) (xs : List (List ℕ)) → EveryLength 220 xs → r ≤ length xs → length (concat (take r xs)) ≡ 220 * r
@@ -114,37 +113,37 @@ module _ {all left : List (List ℕ)} {before after : List ℕ} {n : ℕ} (g : R
       }
 
   -- the entries of a table, gathered into what is left of `after`, which comes back as p
-  pub reading-gather : (table : ℕ) (tables : Held) (s : List ℕ) (more : List (List ℕ)) (p : List ℕ) (r : ℕ) →
+  pub reading-gather : (table : ℕ) (es : List (List ℕ)) (more : List (List ℕ)) (p : List ℕ) (r : ℕ) →
       let lent : List ℕ = take (length after - 220 * n) (drop (220 * n) after) in
-      let xs : List (List ℕ) = keep (in_table table) (entries_in tables s) in
-      left ≡ xs ++ more → 220 * tables.count ≤ length s
-      → r ≡ min (held table (tables_in tables s)) (length lent / 220) → p ≡ splice lent 0 (concat (take r xs))
+      let xs : List (List ℕ) = keep (in_table table) es in
+      left ≡ xs ++ more → EveryLength 220 es
+      → r ≡ min (held table (record { entries = es })) (length lent / 220) → p ≡ splice lent 0 (concat (take r xs))
       → ReadSoFar all more before (put_mid (220 * n) (length after - 220 * n) after p) (n + r)
   unfolding held
-  reading-gather table tables s more p r e h number bytes =
+  reading-gather table es more p r e h number bytes =
       let at : ℕ = 220 * n in
       let k : ℕ = length after - at in
-      let xs : List (List ℕ) = keep (in_table table) (entries_in tables s) in
+      let xs : List (List ℕ) = keep (in_table table) es in
       let l : length after ≡ length before = g.long in
       let o : at ≤ length before = g.room in
       let lent : length (take k (drop at after)) ≡ k = length-window at k after (omega arith) in
-      let w : EveryLength 220 xs = keep-lengths 220 (in_table table) (entries_in tables s) (parts-lengths tables.count 220 s (omega arith)) in
+      let w : EveryLength 220 xs = keep-lengths 220 (in_table table) es h in
       let y : length (concat (take r xs)) ≡ 220 * r = first-length r xs w (omega arith) in
       rw (part-copied after p (concat (take r xs)) at k bytes (omega arith) (omega arith))
       (reading-next xs more r e w (rw (lent, l) at number))
 
--- what is left of a READ before the row at i, of the first t of the rows b
-module _ (role table t : ℕ) (b : List ℕ) (tables : Held) (s : List ℕ) where
+-- what is left of a READ before the row at i of the rows in force
+module _ (role table : ℕ) (rows : List Held) (es : List (List ℕ)) where
   abbrev pub unread : ℕ → List (List ℕ)
-  unread i = gathered role table (drop i (rows_in t b)) (tables_in tables s)
+  unread i = gathered role table (map row_of (drop i rows)) (record { entries = es })
 
-  module _ (i : ℕ) (h : i < t) (g : i < 8) where
-    pub unread-hit : asked role table (row_of (part (53 * i) 53 b)) ≡ true
-        → unread i ≡ keep (in_table (int (53 * i) 4 b)) (entries_in tables s) ++ unread (i + 1)
-    unread-hit a = rw (rows_next t b i h g, a, table_at t b i)
+  module _ (i : ℕ) (d : Held) (h : i < length rows) where
+    pub unread-hit : asked role table (row_of (get_or rows i d)) ≡ true
+        → unread i ≡ keep (in_table (row_of (get_or rows i d)).table) es ++ unread (i + 1)
+    unread-hit a = rw (add-one, drop-cons rows i d h, a)
 
-    pub unread-miss : asked role table (row_of (part (53 * i) 53 b)) ≡ false → unread i ≡ unread (i + 1)
-    unread-miss a = rw (rows_next t b i h g, a)
+    pub unread-miss : asked role table (row_of (get_or rows i d)) ≡ false → unread i ≡ unread (i + 1)
+    unread-miss a = rw (add-one, drop-cons rows i d h, a)
 
-  pub unread-none : (i : ℕ) → min t 8 ≤ i → unread i ≡ []
-  unread-none i h = rw (rows_none t b i h)
+  pub unread-none : (i : ℕ) → length rows ≤ i → unread i ≡ []
+  unread-none i h = rw (drop_all i rows h)

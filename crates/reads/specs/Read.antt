@@ -9,8 +9,6 @@ use Rattle.rules.specs.Update as rules
 use Rattle.rules.specs.Call.{gathered}
 use Rattle.rules.specs.Sound.{Distinct}
 use Rattle.buffers.specs.Splice.{splice}
-use Rattle.store.specs.declared.Tables.{Tables}
-use Rattle.store.specs.Store.{entries_in, tables_in}
 
 -- the key of a READ in its 149 bytes from the table on: table 4, only 1, key 144
 abbrev pub key_in : List ℕ → List ℕ
@@ -30,11 +28,10 @@ read_in rows role table only k t =
 abbrev pub Reads : List (List ℕ) → List ℕ → List ℕ → ℕ → Type 0
 Reads es before after n = (n ≡ min (length es) (length before / entry_size)) × (after ≡ splice before 0 (concat (take n es)))
 
--- Where keys are distinct, a READ writes the entry of a key in shortest form, or what it asks for.
-abbrev pub ReadsKey : List ℕ → Tables → List ℕ → List ℕ → List ℕ → ℕ → Type 0
-ReadsKey k tables store before after n =
-    Distinct (entries_in tables store) → Reads (keep (has_key k) (entries_in tables store)) before after n
+-- Where keys are distinct, a READ writes the entry of a key in shortest form, or what it asks for, of the entries es.
+abbrev pub ReadsKey : List ℕ → List (List ℕ) → List ℕ → List ℕ → ℕ → Type 0
+ReadsKey k es before after n = Distinct es → Reads (keep (has_key k) es) before after n
 
-abbrev pub ReadsQuery : List Row → ℕ → ℕ → ℕ → List ℕ → Tables → List ℕ → List ℕ → List ℕ → ℕ → Type 0
-ReadsQuery rows role table only k tables store before after n =
-    Distinct (entries_in tables store) → Reads (read_in rows role table only k (tables_in tables store)) before after n
+abbrev pub ReadsQuery : List Row → ℕ → ℕ → ℕ → List ℕ → List (List ℕ) → List ℕ → List ℕ → ℕ → Type 0
+ReadsQuery rows role table only k es before after n =
+    Distinct es → Reads (read_in rows role table only k (record { entries = es })) before after n

@@ -1,4 +1,6 @@
 -- Laws of configuration rows.
 pub mod Bytes
 pub mod Records
-pub mod RowsWalk
+pub mod Held
+pub mod Found
+pub mod Chunks

@@ -1,20 +1,17 @@
 -- A row whose counts fit is held as the rules read it: taking the first n of four parts is reading n parts. Assumes nothing.
 use Prim.Native.Nat.{ℕ, zero, suc, ◌+◌, ◌*◌, ◌≤◌}
 use native.Mathlib.Omega.{arith}
-use mathlib.Core.Path.{◌≡◌, refl, sym, ap, ap₂, ◌∙◌}
-use mathlib.Core.List.{List, [], ◌∷◌, ◌++◌, map}
+use mathlib.Core.Path.{◌≡◌, refl, ap, ap₂, ◌∙◌}
+use mathlib.Core.List.{List, [], ◌∷◌, map}
 use mathlib.Core.Bool.{Bool, true, ◌&&◌}
 use lib.ListN.{length, take, drop, length-take, length-drop}
-use lib.Seq.{take_all, take-append-le}
 use lib.Dec.{leb}
 use borrow.Author.Tests.{leb-true}
 use Rattle.rules.specs.Bytes.{every, byte, parts}
 use Rattle.rules.specs.Frame.{row_size}
 use Rattle.rules.specs.Row as rules
-use Rattle.rules.proofs.Lists.{parts-lent}
 use Rattle.rules.proofs.Tests.{and-true}
-use Rattle.buffers.specs.Splice.{splice}
-use Rattle.rows.specs.Meaning.{action_of, row_of, rows_in, counts_fit}
+use Rattle.rows.specs.Meaning.{action_read, row_read, counts_fit}
 
 -- ---- parts
 
@@ -49,16 +46,16 @@ ones (suc n) (x ∷ l) h = ap (λ (k : List ℕ). x ∷ k) (ones n l (omega arit
 abbrev pub few_parameters : List ℕ → Bool
 few_parameters a = leb (rules.parameter_count a) 4
 
-action-held : (a : List ℕ) → length a ≡ 9 → few_parameters a ≡ true → action_of a ≡ rules.action_of a
-unfolding action_of rules.action_of
+action-held : (a : List ℕ) → length a ≡ 9 → few_parameters a ≡ true → action_read a ≡ rules.action_of a
+unfolding action_read rules.action_of
 action-held a s e =
     let few : rules.parameter_count a ≤ 4 = leb-true (rules.parameter_count a) 4 e in
     let long : rules.parameter_count a ≤ length (rules.width_bytes a) = rw (length-take, length-drop) (omega arith) in
     let widths = ones (rules.parameter_count a) (rules.width_bytes a) long in
     λ i. record { id = (rules.action_of a).id; widths = widths i }
 
-row-held : (b : List ℕ) → length b ≡ row_size → counts_fit b ≡ true → row_of b ≡ rules.row_of b
-unfolding row_of rules.row_of counts_fit
+row-held : (b : List ℕ) → length b ≡ row_size → counts_fit b ≡ true → row_read b ≡ rules.row_of b
+unfolding row_read rules.row_of counts_fit
 row-held b s e =
     let m : ℕ = rules.field_count b in
     let n : ℕ = rules.action_count b in
@@ -69,21 +66,10 @@ row-held b s e =
     let long : 9 * n ≤ length (rules.action_bytes b) = rw (length-take, length-drop) (omega arith) in
     let fields = ap (map rules.field_of) (take-parts m 4 2 (rules.field_bytes b) (leb-true m 4 each.0)) in
     let actions =
-    ap (map action_of) (take-parts n 4 9 (rules.action_bytes b) few)
-    ∙ read_alike action_of rules.action_of few_parameters 9 action-held n (rules.action_bytes b) long both.1 in
+    ap (map action_read) (take-parts n 4 9 (rules.action_bytes b) few)
+    ∙ read_alike action_read rules.action_of few_parameters 9 action-held n (rules.action_bytes b) long both.1 in
     λ i. record { table = (rules.row_of b).table; owner = byte 4 b; size = (rules.row_of b).size; fields = fields i; actions = actions i }
 
 pub rows-held : (t : ℕ) (b : List ℕ) → row_size * t ≤ length b → every counts_fit (parts t row_size b) ≡ true
-    → map row_of (parts t row_size b) ≡ map rules.row_of (parts t row_size b)
-rows-held t b h e = read_alike row_of rules.row_of counts_fit row_size row-held t b h e
-
--- t rows copied to the front of others are the first t
-pub rows-copied : (t : ℕ) (b d : List ℕ) → t ≤ 8 → length b ≡ row_size * t → rows_in t (splice d 0 b) ≡ map row_of (parts t row_size b)
-unfolding rows_in splice
-rows-copied t b d h e =
-    ap (map row_of) (take-parts t 8 row_size (b ++ drop (0 + length b) d) h
-    ∙ sym (parts-lent t row_size (b ++ drop (0 + length b) d)) ∙ ap (parts t row_size) front)
-  where
-    front : take (t * row_size) (b ++ drop (0 + length b) d) ≡ b
-    front =
-        take-append-le (t * row_size) b (drop (0 + length b) d) (omega arith) ∙ take_all (t * row_size) b (omega arith)
+    → map row_read (parts t row_size b) ≡ map rules.row_of (parts t row_size b)
+rows-held t b h e = read_alike row_read rules.row_of counts_fit row_size row-held t b h e

@@ -1,12 +1,11 @@
-// Configuration rows, held as CONFIGURE sent them: 53 bytes each (document 01, "Frames").
+// Configuration rows: tables with their owners, sizes, fields and actions, as CONFIGURE sets them (document 01, "Frames").
 #![tactic(auto)]
 
-ghost use Rattle.std.specs.Prelude.{◌≡◌, true, [], map, ◌+◌, ◌*◌, ◌≤◌, length};
-ghost use Rattle.rules.specs.Frame.{row_size};
-ghost use Rattle.rules.specs.Bytes.{part, parts};
+ghost use Rattle.std.specs.Prelude.{◌≡◌, ◌≤◌, [], map, eqb, find, is_some, length, take};
+ghost use Rattle.std.specs.Option.{option_copied};
 ghost use Rattle.rules.specs.Call.{unconfigured};
 ghost use Rattle.rules.specs.Row as rules;
-ghost use Rattle.rows.specs.Meaning.{field_of, row_of, rows_size, rows_in, rows_of, place_from};
+ghost use Rattle.rows.specs.Meaning.{field_of, action_of, row_of, rows_of, row_found, action_read, row_read};
 
 use numbers::integer;
 
@@ -18,48 +17,63 @@ pub struct Field {
     pub width: u8,
 }
 
-// The rows in force, in the order of the configuration, from the first byte on; a count over 8 reads as 8. They are lent as bytes, and so
-// are never copied to be looked at.
+// An action: its id, how many parameters it has, and their widths in bits. A count over 4 reads as 4.
+#[repr(C)]
+#[derive(Clone, Copy)]
+pub struct Action {
+    pub id: [u8; 4],
+    pub count: u8,
+    pub widths: [u8; 4],
+}
+
+// A row: a table, the role that owns it, how many entries it may hold, its fields and its actions. Its 53 bytes are those that CONFIGURE
+// sent: the ids and the size are big-endian. A count over 4 reads as 4.
+#[repr(C)]
+#[derive(Clone, Copy)]
+pub struct Row {
+    pub table: [u8; 4],
+    pub owner: u8,
+    pub size: [u8; 2],
+    pub field_count: u8,
+    pub fields: [Field; 4],
+    pub action_count: u8,
+    pub actions: [Action; 4],
+}
+
+// The rows in force, in the order of the configuration, from the first on; a count over 8 reads as 8.
 #[repr(C)]
 #[derive(Clone, Copy)]
 pub struct Rows {
-    pub bytes: [u8; 424],
+    pub rows: [Row; 8],
     pub count: u8,
 }
 
-// Whether a table is known, and where its row begins among the rows; 0 where it is not.
-#[derive(Clone, Copy)]
-pub struct Lookup {
-    pub known: bool,
-    pub at: usize,
-}
-
-impl Lookup {
-    // Of an unknown table.
-    const NONE: Lookup = Lookup {
-        known: false,
-        at: 0,
-    };
+// 14: width not 1 to 128.
+pub fn width_allowed(width: u8) -> bool
+    ensures { result ≡ rules.width_allowed width }
+{
+    1 <= width && width <= 128
 }
 
 impl Field {
-    pub fn at(b: &[u8], at: usize) -> Field
-        requires { at + 2 ≤ length b.now }
-        ensures { field_of result ≡ rules.field_of (part at 2 b.now) }
+    const NONE: Field = Field { kind: 0, width: 0 };
+
+    // Of its two bytes.
+    pub fn read(b: &[u8; 2]) -> Field
+        ensures { field_of result ≡ rules.field_of b.now }
     {
         Field {
-            kind: b[at],
-            width: b[at + 1],
+            kind: b[0],
+            width: b[1],
         }
     }
 
-    // 14: kind not 1 to 5, width not 1 to 128.
+    // 14: kind not 1 to 5, width not 1 to 128. An arm for each kind, as document 01 writes it.
     pub fn allowed(self) -> bool
         ensures { result ≡ rules.field_allowed (field_of self) }
     {
-        let kind = self.kind;
         let wide = width_allowed(self.width);
-        match kind {
+        match self.kind {
             // Omitted: a slot may be, no field is.
             0 => false,
             // Exact.
@@ -78,42 +92,110 @@ impl Field {
     }
 }
 
-// 14: width not 1 to 128.
-pub fn width_allowed(width: u8) -> bool
-    ensures { result ≡ rules.width_allowed width }
-{
-    1 <= width && width <= 128
-}
+impl Action {
+    const NONE: Action = Action {
+        id: [0; 4],
+        count: 0,
+        widths: [0; 4],
+    };
 
-// The primary of role 0 may write every table, that of role r only tables owned by r. By the row of the table.
-pub fn may_write(row: &[u8], role: u8) -> bool
-    requires { length row.now ≡ row_size }
-    ensures { result ≡ rules.may_write role (row_of row.now) }
-{
-    role == 0 || row[4] == role
-}
-
-// Where the row of a table is, among the first `count` rows.
-pub fn find(rows: &[u8], count: u8, table: u64) -> Lookup
-    requires { length rows.now ≡ rows_size }
-    ensures known { result.known ≡ rules.known table (rows_in count rows.now) }
-    ensures row { result.known ≡ true → row_of (part result.at row_size rows.now) ≡ rules.row_for table (rows_in count rows.now) }
-    ensures range { result.at + row_size ≤ rows_size }
-    ensures at { result.at ≡ place_from 0 table (rows_in count rows.now) }
-{
-    let n = count as usize;
-    let mut i: usize = 0;
-    while i < 8 {
-        if n <= i {
-            return Lookup::NONE;
+    // Of its nine bytes.
+    pub fn read(b: &[u8; 9]) -> Action
+        ensures { action_of result ≡ action_read b.now }
+    {
+        Action {
+            id: [b[0], b[1], b[2], b[3]],
+            count: b[4],
+            widths: [b[5], b[6], b[7], b[8]],
         }
-        let at = rules::ROW * i;
-        if integer(rows, at, 4) == table {
-            return Lookup { known: true, at };
-        }
-        i += 1;
     }
-    Lookup::NONE
+
+    pub fn id(&self) -> u64
+        ensures { result ≡ (action_of self.now).id }
+    {
+        integer(&self.id, 0, 4)
+    }
+
+    // The widths of its parameters.
+    pub fn widths(&self) -> &[u8]
+        ensures widths { result.now ≡ (action_of self.now).widths }
+        ensures few { length result.now ≤ 4 }
+    {
+        &self.widths[..usize::from(self.count).min(4)]
+    }
+}
+
+impl Row {
+    const NONE: Row = Row {
+        table: [0; 4],
+        owner: 0,
+        size: [0; 2],
+        field_count: 0,
+        fields: [Field::NONE; 4],
+        action_count: 0,
+        actions: [Action::NONE; 4],
+    };
+
+    // Of its 53 bytes. Place by place: what `array::from_fn` says of an index does not say in which state its closure was called.
+    pub fn read(b: &[u8; rules::ROW]) -> Row
+        ensures { row_of result ≡ row_read b.now }
+    {
+        let (fields, _) = b[8..16].as_chunks::<2>();
+        let (actions, _) = b[17..].as_chunks::<9>();
+        Row {
+            table: [b[0], b[1], b[2], b[3]],
+            owner: b[4],
+            size: [b[5], b[6]],
+            field_count: b[7],
+            fields: [
+                Field::read(&fields[0]),
+                Field::read(&fields[1]),
+                Field::read(&fields[2]),
+                Field::read(&fields[3]),
+            ],
+            action_count: b[16],
+            actions: [
+                Action::read(&actions[0]),
+                Action::read(&actions[1]),
+                Action::read(&actions[2]),
+                Action::read(&actions[3]),
+            ],
+        }
+    }
+
+    pub fn table(&self) -> u64
+        ensures { result ≡ (row_of self.now).table }
+    {
+        integer(&self.table, 0, 4)
+    }
+
+    // How many entries it may hold.
+    pub fn size(&self) -> u64
+        ensures { result ≡ (row_of self.now).size }
+    {
+        integer(&self.size, 0, 2)
+    }
+
+    pub fn fields(&self) -> &[Field]
+        ensures fields { map field_of result.now ≡ (row_of self.now).fields }
+        ensures few { length result.now ≤ 4 }
+    {
+        &self.fields[..usize::from(self.field_count).min(4)]
+    }
+
+    pub fn actions(&self) -> &[Action]
+        ensures actions { map action_of result.now ≡ (row_of self.now).actions }
+        ensures few { length result.now ≤ 4 }
+    {
+        &self.actions[..usize::from(self.action_count).min(4)]
+    }
+
+    // The primary of role 0 may write every table, that of role r only tables owned by r.
+    pub fn may_write(&self, role: u8) -> bool
+        ensures { result ≡ rules.may_write role (row_of self.now) }
+    {
+        role == 0 || self.owner == role
+    }
 }
 
 impl Rows {
@@ -122,28 +204,45 @@ impl Rows {
         ensures { rows_of result ≡ [] }
     {
         Rows {
-            bytes: [0; 424],
+            rows: [Row::NONE; 8],
             count: 0,
         }
     }
 
     // Whether there is no configuration.
-    pub fn is_empty(self) -> bool
-        ensures { result ≡ unconfigured (rows_of self) }
+    pub fn is_empty(&self) -> bool
+        ensures { result ≡ unconfigured (rows_of self.now) }
     {
         self.count == 0
     }
 
-    // The t rows of 53 bytes each.
-    pub fn read(b: &[u8], t: usize) -> Rows
-        requires { (t ≤ 8) × (length b.now ≡ row_size * t) }
-        ensures { rows_of result ≡ map row_of (parts t row_size b.now) }
+    // Of 53 bytes each.
+    pub fn read(rows: &[[u8; rules::ROW]]) -> Rows
+        requires { length rows.now ≤ 8 }
+        ensures { rows_of result ≡ map row_read rows.now }
     {
-        let mut bytes = [0; 424];
-        buffers::copy(b, &mut bytes);
-        Rows {
-            bytes,
-            count: t as u8,
+        let mut read = Rows::fresh();
+        for (i, b) in rows.iter().enumerate() {
+            read.rows[i] = Row::read(b);
         }
+        read.count = rows.len() as u8;
+        read
+    }
+
+    // Each of them.
+    pub fn in_force(&self) -> &[Row]
+        ensures rows { result.now ≡ take self.now.count self.now.rows }
+        ensures few { length result.now ≤ 8 }
+    {
+        &self.rows[..usize::from(self.count).min(8)]
+    }
+
+    // The row of a table: the first in force that is the table's.
+    pub fn find(&self, table: u64) -> Option<&Row>
+        ensures first { option_copied result ≡ find (λ row. eqb (row_of row).table table) (take self.now.count self.now.rows) }
+        ensures known { is_some result ≡ rules.known table (rows_of self.now) }
+        ensures row { row_found result ≡ rules.row_for table (rows_of self.now) }
+    {
+        self.in_force().iter().find(|row| row.table() == table)
     }
 }

@@ -37,3 +37,4 @@ pub mod Members
 pub mod Presence
 pub mod OfBytes
 pub mod Keys
+pub mod Named

@@ -1,6 +1,7 @@
 -- Document 01, as document 02 amends it, as definitions in its order; then what is claimed of them.
 pub mod Bytes
 pub mod Reason
+pub mod Named
 pub mod Frame
 pub mod Streams
 pub mod Row

@@ -3,7 +3,7 @@
 use Prim.Native.Nat.{ℕ, ◌≤◌}
 use mathlib.Core.Path.{◌≡◌, sym, ap, ap₂, subst, ◌∙◌}
 use mathlib.Core.List.{List, ◌++◌, map-append}
-use mathlib.Core.Option.{none}
+use Rattle.std.specs.Prelude.{None}
 use lib.ListN.{length}
 use Rattle.rules.specs.Call.{fresh}
 use Rattle.calls.specs.Contract.{Fresh}
@@ -35,8 +35,8 @@ module _ {agent agent₁ agent₂ : Agent} {first ordinal₁ ordinal₂ : ℕ} {
 
 module _ {agent agent' : Agent} {first ordinal : ℕ} {input store answer store' answer' rest text : List ℕ} where
   played-whole : (device : ℕ) → Fresh Flat device agent → 56_320 ≤ length store → 57_344 ≤ length answer
-      → Played agent first input store answer agent' ordinal rest store' answer' text → first_frame rest ≡ none
-      → (fs : List (List ℕ)) (last : List ℕ) → Begins input fs last → first_frame last ≡ none
+      → Played agent first input store answer agent' ordinal rest store' answer' text → first_frame rest ≡ None
+      → (fs : List (List ℕ)) (last : List ℕ) → Begins input fs last → first_frame last ≡ None
       → text ≡ lines_from first (fresh device) fs
   played-whole device f long wide p n fs last b m =
       p.printed

@@ -1,27 +1,22 @@
 -- Calls that are made one after the other are one list of calls: what is claimed of it holds of the calls so far and of each
 -- that is added. Assumes nothing.
-use Prim.Native.Nat.{ℕ, suc, ◌+◌, ◌-◌, ◌≤◌}
+use Prim.Native.Nat.{ℕ, suc, ◌+◌, ◌≤◌}
 use native.Mathlib.Nat.{add-zero}
 use native.Mathlib.Omega.{arith}
 use mathlib.Core.Path.{◌≡◌, refl, sym, ap, subst, ◌∙◌}
 use mathlib.Core.List.{List, [], ◌∷◌, ◌++◌, map-append, append-nil, append_assoc}
-use mathlib.Core.Option.{some}
-use lib.ListN.{length, take, drop, length-append}
+use Rattle.std.specs.Prelude.{Some}
+use lib.ListN.{length, take, drop, length-append, length-drop}
 use lib.Seq.{take_at, drop-drop}
-use borrow.Author.Rules.{part_to_end}
-use Rattle.rules.specs.Bytes.{part}
 use Rattle.buffers.specs.Splice.{splice}
-use Rattle.buffers.proofs.Splice.{splice-none, splice-next, splice_front, length-window}
+use Rattle.buffers.proofs.Splice.{splice-none, splice-next, splice_front}
 use Rattle.calls.specs.Contract.{Memory, Layout, Contract}
 use Rattle.calls.specs.Claim.{Step, Trace}
-use Rattle.transcript.specs.Input.{first_frame, frame_in, WithinInput, Begins}
+use Rattle.transcript.specs.Input.{first_frame, Begins}
 use Rattle.transcript.specs.Line.{record_size}
-use Rattle.transcript.specs.declared.Next.{Next}
-use Rattle.transcript.specs.declared.Next.TheVariants.{Frame}
-use Rattle.transcript.proofs.Begins.{begins-append}
+use Rattle.transcript.proofs.Begins.{begins-append, found-length}
 use Rattle.transcript.proofs.Fitting.{line_in-length}
 use Rattle.memory.specs.declared.Agent.{Agent}
-use Rattle.agent.specs.declared.Called.{Called}
 use Rattle.memory.specs.Layout as meaning
 use Rattle.memory.specs.Layout.{Flat, memory, outcome}
 use Rattle.session.specs.Session.{frames_of, OneBuffer, memory_after, buffer_after, lines, line_of_call, line_of_step, Session, CallsMade}
@@ -58,35 +53,6 @@ module _ {A : Type 0} where
       ap (λ (l : List ℕ). line_of_step n w ++ l) (lines-append (suc n) ws vs ∙ ap (λ (k : ℕ). lines (suc n) ws ++ lines k vs) e)
       ∙ sym (append_assoc (line_of_step n w) (lines (suc n) ws) (lines (n + suc (length ws)) vs))
 
--- ---- the next frame
-
--- what the reader found in the input from place `at` on
-pub record FrameAt (input : List ℕ) (at n : ℕ) : Type 0 where
-  pub two : 2 ≤ n
-  pub within : at + n ≤ length input
-  pub first : first_frame (drop at input) ≡ some (take (at + n - (at + 2)) (drop (at + 2) input))
-  pub size : length (take (at + n - (at + 2)) (drop (at + 2) input)) ≡ n - 2
-
-module _ (input : List ℕ) (at : ℕ) (h : at ≤ length input) (r : Next) where
-  abbrev unread : List ℕ
-  unread = take (length input - at) (drop at input)
-
-  pub frame_at : (n : ℕ) → r ≡ Frame n → frame_in r unread ≡ first_frame unread → WithinInput r unread → FrameAt input at n
-  frame_at n e found inside =
-      let s : (2 ≤ n) × (n ≤ length unread) = subst (λ (x : Next). WithinInput x unread) e inside in
-      let l : length unread ≡ length input - at = length-window at (length input - at) input (omega arith) in
-      let two : 2 ≤ n = s.0 in
-      let w : at + n ≤ length input = omega (arith, s.1) in
-      let m : n - 2 ≡ at + n - (at + 2) = omega arith in
-      let f : first_frame unread ≡ some (part 2 (n - 2) unread) = sym found ∙ ap (λ (x : Next). frame_in x unread) e in
-      record {
-        two = two;
-        within = w;
-        first = subst (λ (d : List ℕ). first_frame d ≡ some (part 2 (n - 2) d)) (part_to_end input at) f
-            ∙ ap (λ (d : List ℕ). some (take (n - 2) d)) (drop-drop 2 at input) ∙ ap (λ (k : ℕ). some (take k (drop (at + 2) input))) m;
-        size = length-window (at + 2) (at + n - (at + 2)) input (omega arith) ∙ sym m;
-      }
-
 -- ---- no call, and calls after calls
 
 pub session-none : (agent : Agent) (first : ℕ) (store answer : List ℕ) → Session agent first store answer agent first store answer
@@ -100,12 +66,12 @@ session-none agent first store answer = record {
   buffer-after = refl;
 }
 
-pub session-one : (agent : Agent) (ordinal : ℕ) (store answer f : List ℕ) (r : Called) (store' answer' : List ℕ)
-    → Contract Flat (memory agent store) (meaning.input f answer) (outcome r.agent r.reason store' answer')
-    → Session agent ordinal store answer r.agent (ordinal + 1) store' answer'
+pub session-one : (agent : Agent) (ordinal : ℕ) (store answer f : List ℕ) (agent' : Agent) (reason : ℕ) (store' answer' : List ℕ)
+    → Contract Flat (memory agent store) (meaning.input f answer) (outcome agent' reason store' answer')
+    → Session agent ordinal store answer agent' (ordinal + 1) store' answer'
 unfolding Trace OneBuffer memory_after buffer_after
-session-one agent ordinal store answer f r store' answer' k = record {
-  steps = record { input = meaning.input f answer; result = outcome r.agent r.reason store' answer' } ∷ [];
+session-one agent ordinal store answer f agent' reason store' answer' k = record {
+  steps = record { input = meaning.input f answer; result = outcome agent' reason store' answer' } ∷ [];
   trace = (k, tt);
   buffers = (refl, tt);
   ordinals = refl;
@@ -144,31 +110,29 @@ made_none agent first input store answer out = record {
 
 module _ {agent : Agent} {first : ℕ} {input store answer out : List ℕ} {agent₁ : Agent} {ordinal at end : ℕ} {store₁ answer₁ out₁ : List ℕ}
     (m : CallsMade agent first input store answer out agent₁ ordinal at end store₁ answer₁ out₁) where
-  pub made-next : {n end' : ℕ} {r : Called} {store' answer' out' : List ℕ} → FrameAt input at n →
-      let f = take (at + n - (at + 2)) (drop (at + 2) input) in
+  -- one more call, of the next frame of the input
+  pub made-next : {f : List ℕ} {agent' : Agent} {reason end' : ℕ} {store' answer' out' : List ℕ} → first_frame (drop at input) ≡ Some f →
       let line = line_of_call ordinal f answer' in
-      Contract Flat (memory agent₁ store₁) (meaning.input f answer₁) (outcome r.agent r.reason store' answer')
+      Contract Flat (memory agent₁ store₁) (meaning.input f answer₁) (outcome agent' reason store' answer')
       → (end' ≡ end + length line) × (out' ≡ splice out₁ end line) → end + 112_980 ≤ length out
-      → CallsMade agent first input store answer out r.agent (ordinal + 1) (at + n) end' store' answer' out'
+      → CallsMade agent first input store answer out agent' (ordinal + 1) (at + (2 + length f)) end' store' answer' out'
   unfolding Begins lines session-one session-append
-  made-next {n} {end'} {r} {store'} {answer'} {out'} a k p room =
-      let f : List ℕ = take (at + n - (at + 2)) (drop (at + 2) input) in
+  made-next {f} {agent'} {reason} {end'} {store'} {answer'} {out'} next k p room =
       let line : List ℕ = line_of_call ordinal f answer' in
-      let one = session-one agent₁ ordinal store₁ answer₁ f r store' answer' k in
+      let one = session-one agent₁ ordinal store₁ answer₁ f agent' reason store' answer' k in
       let w : List (Step Agent) = one.steps in
       let ws : List (Step Agent) = m.session.steps in
-      let two : 2 ≤ n = a.two in
-      let past : 2 + length f ≡ n = omega (arith, a.size) in
+      let there : 2 + length f ≤ length (drop at input) = found-length (drop at input) f next in
       let all : lines first (ws ++ w) ≡ lines first ws ++ line =
       lines-append first ws w
       ∙ ap (λ (i : ℕ). lines first ws ++ (line_of_call i f answer' ++ [])) (sym m.session.ordinals)
       ∙ ap (λ (l : List ℕ). lines first ws ++ l) (append-nil line) in
       record {
         session = session-append m.session one;
-        frames = subst (λ (fs : List (List ℕ)). Begins input fs (drop (at + n) input)) (sym (map-append _ ws w))
-            (begins-append input (frames_of ws) (f ∷ []) (drop at input) (drop (at + n) input) m.frames
-            (a.first, ap (λ (i : ℕ). drop i (drop at input)) past ∙ drop-drop n at input));
-        within = a.within;
+        frames = subst (λ (fs : List (List ℕ)). Begins input fs (drop (at + (2 + length f)) input)) (sym (map-append _ ws w))
+            (begins-append input (frames_of ws) (f ∷ []) (drop at input) (drop (at + (2 + length f)) input) m.frames
+            (next, drop-drop (2 + length f) at input));
+        within = omega (arith, there, length-drop at input, m.within);
         printed = p.1 ∙ ap (λ (l : List ℕ). splice l end line) m.printed
             ∙ splice-next out 0 end (lines first ws) line (omega (arith, m.ends)) m.space ∙ ap (splice out 0) (sym all);
         ends = p.0 ∙ ap (λ (i : ℕ). i + length line) m.ends ∙ sym (ap length all ∙ length-append (lines first ws) line);

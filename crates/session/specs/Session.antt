@@ -1,7 +1,6 @@
 -- What `play` does with the bytes of its input: the calls that it makes of them, and the lines that it prints (document 01,
 -- "Bench cases"). Assumes nothing.
-use Rattle.std.specs.Prelude.{◌≡◌, Bool, true, false, ◌⊎◌, List, [], ◌∷◌, ◌++◌, map, ℕ, suc, ◌+◌, ◌≤◌, ◌<◌, length, take, drop}
-use Rattle.std.proofs.Math.Option.{none}
+use Rattle.std.specs.Prelude.{◌≡◌, List, [], ◌∷◌, ◌++◌, map, ℕ, suc, ◌+◌, ◌≤◌, ◌<◌, length, take, drop, None}
 use Rattle.buffers.specs.Splice.{splice}
 use Rattle.rules.specs.Frame.{read_frame}
 use Rattle.rules.specs.Call.{State, fresh, answer, next}
@@ -12,6 +11,8 @@ use Rattle.transcript.specs.Line.{line_of, record_size, longest_line, line_in}
 use Rattle.memory.specs.declared.Agent.{Agent}
 use Rattle.memory.specs.Layout.{Flat, memory}
 use Rattle.session.specs.declared.Advanced.{Advanced}
+use Rattle.session.specs.declared.Stop.{Stop}
+use Rattle.session.specs.declared.Stop.TheVariants.{NoFrame, NoOrdinal, NoRoom}
 
 -- ---- calls that are made one after the other
 
@@ -87,17 +88,18 @@ pub record CallsMade (agent : Agent) (first : ℕ) (input store answer out : Lis
   pub ends : end ≡ length (lines first session.steps)
   pub space : end ≤ length out
 
--- Either the rest of an input holds no whole frame, so that it is shorter than the longest frame with its length; or the ordinal is
--- the last of 64 bits, or the longest line has no room.
-abbrev pub Stops : Bool → List ℕ → ℕ → ℕ → ℕ → Type 0
-Stops true rest ordinal end room = (first_frame rest ≡ none) × (length rest ≤ 65_536)
-Stops false rest ordinal end room = (ordinal ≡ 18446744073709551615) ⊎ (room < end + longest_line)
+-- Why calls stopped: the rest of an input holds no whole frame, so that it is shorter than the longest frame with its length; the
+-- ordinal is the last of 64 bits; or the longest line has no room.
+abbrev pub Stops : Stop → List ℕ → ℕ → ℕ → ℕ → Type 0
+Stops NoFrame rest ordinal end room = (first_frame rest ≡ None) × (length rest ≤ 65_536)
+Stops NoOrdinal rest ordinal end room = ordinal ≡ 18446744073709551615
+Stops NoRoom rest ordinal end room = room < end + longest_line
 
 -- The contract of `advance`: it made the calls of its input, and stopped only where it had to.
 pub record AdvanceContract (agent : Agent) (first : ℕ) (input store answer out : List ℕ)
     (r : Advanced) (store' answer' out' : List ℕ) : Type 0 where
-  pub made : CallsMade agent first input store answer out r.agent r.ordinal r.at r.end store' answer' out'
-  pub stops : Stops r.waiting (drop r.at input) r.ordinal r.end (length out)
+  pub made : CallsMade agent first input store answer out r.player.agent r.player.ordinal r.at r.end store' answer' out'
+  pub stops : Stops r.stop (drop r.at input) r.player.ordinal r.end (length out)
 
 -- ---- an input that is read in pieces
 
@@ -124,6 +126,6 @@ pub record InAnyPieces : Type 0 where
   -- to the frames into which the input is cut
   pub whole : {agent agent' : Agent} {first ordinal : ℕ} {input store answer store' answer' rest text : List ℕ} (device : ℕ)
       → Fresh Flat device agent → 56_320 ≤ length store → 57_344 ≤ length answer
-      → Played agent first input store answer agent' ordinal rest store' answer' text → first_frame rest ≡ none
-      → (fs : List (List ℕ)) (last : List ℕ) → Begins input fs last → first_frame last ≡ none
+      → Played agent first input store answer agent' ordinal rest store' answer' text → first_frame rest ≡ None
+      → (fs : List (List ℕ)) (last : List ℕ) → Begins input fs last → first_frame last ≡ None
       → text ≡ lines_from first (fresh device) fs

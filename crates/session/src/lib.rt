@@ -8,17 +8,30 @@ ghost use Rattle.transcript.specs.Line.{longest_line};
 ghost use Rattle.session.specs.Session.{line_of_call, AdvanceContract};
 
 use memory::Agent;
-use transcript::Next;
 
-// After some calls: the agent, the next ordinal, how many bytes of the input the calls took, where their lines end, and whether
-// what is left of the input holds no whole frame.
+// Who makes calls: an agent, and the ordinal of its next call.
 #[derive(Clone, Copy)]
-pub struct Advanced {
+pub struct Player {
     pub agent: Agent,
     pub ordinal: u64,
+}
+
+// Why no more calls were made: what is left of the input holds no whole frame; the ordinals of 64 bits are at their end, which is
+// never reached; or the longest line has no room.
+#[derive(Clone, Copy)]
+pub enum Stop {
+    NoFrame,
+    NoOrdinal,
+    NoRoom,
+}
+
+// After some calls: the player, how many bytes of the input the calls took, where their lines end, and why there were no more.
+#[derive(Clone, Copy)]
+pub struct Advanced {
+    pub player: Player,
     pub at: usize,
     pub end: usize,
-    pub waiting: bool,
+    pub stop: Stop,
 }
 
 // Adds the line of a call at `end`, where the longest has room; where it ends.
@@ -32,48 +45,43 @@ fn print(ordinal: u64, frame: &[u8], answer: &[u8], out: &mut [u8], end: usize) 
     end + transcript::write_line(ordinal, answer, size, &mut out[end..limit])
 }
 
-// Makes the calls whose frames are whole in the input, as long as another line has room; the first has this ordinal.
+// Makes the calls whose frames are whole in the input, as long as another line has room.
 pub fn advance(
-    agent: Agent,
-    first: u64,
+    start: Player,
     input: &[u8],
     store: &mut [u8],
     answer: &mut [u8],
     out: &mut [u8],
 ) -> Advanced
-    ensures { AdvanceContract agent first input.now store.old answer.old out.old
+    ensures { AdvanceContract start.agent start.ordinal input.now store.old answer.old out.old
         result store.new answer.new out.new }
 {
-    let mut state = agent;
-    let mut ordinal = first;
-    let mut at: usize = 0;
-    let mut end: usize = 0;
-    // the last ordinal of 64 bits is never reached
-    while ordinal < u64::MAX && transcript::LONGEST_LINE <= out.len() - end {
-        let next = transcript::next_frame(&input[at..]);
-        let Next::Frame(n) = next else {
-            return Advanced {
-                agent: state,
-                ordinal,
-                at,
-                end,
-                waiting: true,
-            };
+    let mut player = start;
+    let mut at = 0;
+    let mut end = 0;
+    let stop = loop {
+        let Some(frame) = transcript::next_frame(&input[at..]) else {
+            break Stop::NoFrame;
         };
-        let from = at + 2;
-        let to = at + n;
-        let called = agent::call(state, &input[from..to], store, answer);
-        state = called.agent;
-        end = print(ordinal, &input[from..to], answer, out, end);
-        at = to;
-        ordinal += 1;
-    }
+        if player.ordinal == u64::MAX {
+            break Stop::NoOrdinal;
+        }
+        if out.len() - end < transcript::LONGEST_LINE {
+            break Stop::NoRoom;
+        }
+        let called = agent::call(player.agent, frame, store, answer);
+        end = print(player.ordinal, frame, answer, out, end);
+        at += 2 + frame.len();
+        player = Player {
+            agent: called.agent,
+            ordinal: player.ordinal + 1,
+        };
+    };
     Advanced {
-        agent: state,
-        ordinal,
+        player,
         at,
         end,
-        waiting: false,
+        stop,
     }
 }
 
@@ -83,7 +91,6 @@ pub fn compact(input: &mut [u8], at: usize, filled: usize) -> usize
     ensures count { result ≡ filled - at }
     ensures bytes { input.new ≡ splice input.old 0 (part at (filled - at) input.old) }
 {
-    let rest = filled - at;
-    buffers::move_down(input, 0, at, rest);
-    rest
+    input.copy_within(at..filled, 0);
+    filled - at
 }

@@ -1,23 +1,20 @@
 -- Where the first entry of a key is, and what changing, removing or keeping the entries of that key comes to: right because
 -- keys are distinct, so that no entry after it has the key. Assumes nothing.
-use Rattle.std.specs.Prelude.{if◌then◌else◌}
 use Prim.Native.Nat.{ℕ, zero, suc, ◌+◌, ◌<◌}
 use native.Mathlib.Nat.{zero-add}
 use native.Mathlib.Omega.{arith}
 use mathlib.Core.Path.{◌≡◌, refl}
 use mathlib.Core.Bool.{Bool, true, false, not, ◌||◌}
 use mathlib.Core.List.{List, [], ◌∷◌, map}
-use mathlib.Core.Option.{none, some}
+use Rattle.std.specs.Prelude.{if◌then◌else◌, Some, None}
 use lib.ListN.{length, get_or, set}
 use Rattle.rules.specs.Bytes.{keep, some_of}
 use Rattle.rules.specs.Key.{key_of, has_key}
 use Rattle.rules.specs.Update.{stored}
 use Rattle.rules.specs.Sound.{Distinct}
 use Rattle.rules.proofs.Tests.{or-false, same_true}
-use Rattle.rules.proofs.Formed.{parts-count}
 use Rattle.rules.proofs.Tables.{Free}
-use Rattle.store.specs.declared.Tables.{Tables}
-use Rattle.store.specs.Store.{entries_in, place_from, place, without}
+use Rattle.store.specs.Store.{place_from, place, without}
 
 -- entry i is the first that has the key
 data At (k : List ℕ) : List (List ℕ) → ℕ → Type 0 where
@@ -26,25 +23,25 @@ data At (k : List ℕ) : List (List ℕ) → ℕ → Type 0 where
 
 -- ---- the search finds it
 
-found : (k : List ℕ) (a : ℕ) (es : List (List ℕ)) (i : ℕ) → place_from a k es ≡ some i → (j : ℕ) × (i ≡ a + j) × At k es j
+found : (k : List ℕ) (a : ℕ) (es : List (List ℕ)) (i : ℕ) → place_from a k es ≡ Some i → (j : ℕ) × (i ≡ a + j) × At k es j
 unfolding place_from
 found k a [] i p = let z : ◌≡◌ {A = ℕ} 0 1 = cc in absurd (omega arith)
 found k a (e ∷ es) i p = go (has_key k e) refl p (λ q. found k (suc a) es i q)
   where
-    go : (b : Bool) → has_key k e ≡ b → (if b then some a else place_from (suc a) k es) ≡ some i
-        → (place_from (suc a) k es ≡ some i → (j : ℕ) × (i ≡ suc a + j) × At k es j) → (j : ℕ) × (i ≡ a + j) × At k (e ∷ es) j
+    go : (b : Bool) → has_key k e ≡ b → (if b then Some a else place_from (suc a) k es) ≡ Some i
+        → (place_from (suc a) k es ≡ Some i → (j : ℕ) × (i ≡ suc a + j) × At k es j) → (j : ℕ) × (i ≡ a + j) × At k (e ∷ es) j
     go true h p ih = let q : a ≡ i = cc in (0, omega arith, here h)
     go false h p ih = let r = ih p in (suc r.0, omega (arith, r.1), there h r.2)
 
-at : (k : List ℕ) (es : List (List ℕ)) (i : ℕ) → place k es ≡ some i → At k es i
+at : (k : List ℕ) (es : List (List ℕ)) (i : ℕ) → place k es ≡ Some i → At k es i
 at k es i p = let r = found k 0 es i p in rw (r.1, zero-add r.0) r.2
 
-free : (k : List ℕ) (a : ℕ) (es : List (List ℕ)) → place_from a k es ≡ none → Free k es
+free : (k : List ℕ) (a : ℕ) (es : List (List ℕ)) → place_from a k es ≡ None → Free k es
 unfolding place_from
 free k a [] p = refl
 free k a (e ∷ es) p = go (has_key k e) p (λ q. free k (suc a) es q)
   where
-    go : (b : Bool) → (if b then some a else place_from (suc a) k es) ≡ none → (place_from (suc a) k es ≡ none → Free k es)
+    go : (b : Bool) → (if b then Some a else place_from (suc a) k es) ≡ None → (place_from (suc a) k es ≡ None → Free k es)
         → b || some_of (has_key k) es ≡ false
     go true p ih = let z : ◌≡◌ {A = ℕ} 0 1 = cc in absurd (omega arith)
     go false p ih = ih p
@@ -62,15 +59,11 @@ has-key (here h) = h
 has-key (there h r) = has-key r
 
 pub place-stored : (k : List ℕ) (es : List (List ℕ))
-    → (place k es ≡ none → stored k (record { entries = es }) ≡ false)
-    × ((i : ℕ) → place k es ≡ some i
+    → (place k es ≡ None → stored k (record { entries = es }) ≡ false)
+    × ((i : ℕ) → place k es ≡ Some i
     → (i < length es) × (stored k (record { entries = es }) ≡ true) × (has_key k (get_or es i []) ≡ true))
 unfolding stored
 place-stored k es = (free k 0 es, λ i p. let a = at k es i p in (inside a, is-stored a, has-key a))
-
--- the place found in a store is that of one of its entries
-pub place-below : (k : List ℕ) (tables : Tables) (store : List ℕ) (i : ℕ) → place k (entries_in tables store) ≡ some i → i < tables.count
-place-below k tables store i p = omega (arith, ((place-stored k (entries_in tables store)).1 i p).0, parts-count tables.count 220 store)
 
 -- ---- entries without the key
 
@@ -109,17 +102,17 @@ kept : (k : List ℕ) {es : List (List ℕ)} {i : ℕ} → At k es i → Distinc
 kept k (here {e = x} {es} h) d = rw (h, keep-none (has_key k) es (free-after k x es h d))
 kept k (there {e = x} {es} h r) d = rw h (kept k r d.1)
 
-pub modify-place : (e : List ℕ) (es : List (List ℕ)) (i : ℕ) → Distinct es → place (key_of e) es ≡ some i
+pub modify-place : (e : List ℕ) (es : List (List ℕ)) (i : ℕ) → Distinct es → place (key_of e) es ≡ Some i
     → map (λ (old : List ℕ). if has_key (key_of e) old then e else old) es ≡ set es i e
 modify-place e es i d p = replaced (key_of e) e (at (key_of e) es i p) d
 
-pub delete-place : (k : List ℕ) (es : List (List ℕ)) (i : ℕ) → Distinct es → place k es ≡ some i
+pub delete-place : (k : List ℕ) (es : List (List ℕ)) (i : ℕ) → Distinct es → place k es ≡ Some i
     → keep (λ (old : List ℕ). not (has_key k old)) es ≡ without i es
 delete-place k es i d p = removed k (at k es i p) d
 
-pub keep-place : (k : List ℕ) (es : List (List ℕ)) (i : ℕ) → Distinct es → place k es ≡ some i
+pub keep-place : (k : List ℕ) (es : List (List ℕ)) (i : ℕ) → Distinct es → place k es ≡ Some i
     → keep (has_key k) es ≡ get_or es i [] ∷ []
 keep-place k es i d p = kept k (at k es i p) d
 
-pub keep-absent : (k : List ℕ) (es : List (List ℕ)) → place k es ≡ none → keep (has_key k) es ≡ []
+pub keep-absent : (k : List ℕ) (es : List (List ℕ)) → place k es ≡ None → keep (has_key k) es ≡ []
 keep-absent k es p = keep-none (has_key k) es (free k 0 es p)

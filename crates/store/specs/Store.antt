@@ -1,15 +1,12 @@
 -- The entries that a store holds, by what the record knows of it, and what a change leaves of it. Entries are from the first byte
 -- in order of insertion (document 01, "Frames"). Assumes nothing.
-use Rattle.std.specs.Prelude.{◌≡◌, List, [], ◌∷◌, ◌++◌, ℕ, suc, ◌+◌, ◌*◌, ◌≤◌, ◌<◌, length, take, drop, get_or, set, if◌then◌else◌}
-use Rattle.std.proofs.Math.Option.{Option, none, some}
+use Rattle.std.specs.Prelude.{◌≡◌, false, List, [], ◌∷◌, ◌++◌, Option, Some, None, ℕ, suc, ◌+◌, ◌*◌, ◌≤◌, ◌<◌, eqb, length, take, drop, get_or, set, if◌then◌else◌}
 use Rattle.rules.specs.Frame.{entry_size, key_size}
 use Rattle.rules.specs.Bytes.{keep, part, parts}
 use Rattle.buffers.specs.Word.{little_endian}
 use Rattle.rules.specs.Key.{has_key}
 use Rattle.rules.specs.Update as rules
 use Rattle.store.specs.declared.Tables.{Tables}
-use Rattle.store.specs.declared.Found.{Found}
-use Rattle.store.specs.declared.Found.TheVariants.{At, Absent}
 
 -- the entries of a store
 abbrev pub entries_in : Tables → List ℕ → List (List ℕ)
@@ -29,31 +26,17 @@ InStore tables store = entry_size * tables.count ≤ length store
 
 -- the place of the first entry that has the key, counted from i
 unfoldable pub place_from : ℕ → List ℕ → List (List ℕ) → Option ℕ
-place_from i k [] = none
-place_from i k (e ∷ es) = if has_key k e then some i else place_from (suc i) k es
+place_from i k [] = None
+place_from i k (e ∷ es) = if has_key k e then Some i else place_from (suc i) k es
 
 abbrev pub place : List ℕ → List (List ℕ) → Option ℕ
 place k es = place_from 0 k es
 
--- the answer of a search
-abbrev pub place_of : Found → Option ℕ
-place_of (At i) = some i
-place_of Absent = none
-
--- and the place that it gives is that of an entry
-abbrev pub InRange : Found → Tables → Type 0
-InRange (At i) tables = i < tables.count
-InRange Absent tables = Unit {0}
-
--- none of n words, the first at a place and each an entry after the one before, is this word
-abbrev pub NoneFrom : ℕ → ℕ → ℕ → List ℕ → Type 0
-NoneFrom n at word store = (k : ℕ) → k < n → little_endian (part (at + entry_size * k) 8 store) ≡ word → ⊥
-
 -- Entries from `from` up to `next` were passed over: none has the word at the place in the bytes after its table.
-pub record PassedOver (from next count place word : ℕ) (store : List ℕ) : Type 0 where
+pub record PassedOver (from next at word : ℕ) (entries : List (List ℕ)) : Type 0 where
   pub later : from ≤ next
-  pub inside : next < count
-  pub apart : (j : ℕ) → from ≤ j → j < next → little_endian (part (entry_size * j + 4 + place) 8 store) ≡ word → ⊥
+  pub inside : next < length entries
+  pub apart : (j : ℕ) → from ≤ j → j < next → eqb (little_endian (part (4 + at) 8 (get_or entries j []))) word ≡ false
 
 -- a list without its element i
 abbrev pub without : ℕ → List (List ℕ) → List (List ℕ)

@@ -1,4 +1,4 @@
--- A READ: its order, its query in the frame, and the entries shown. Assumes nothing.
+-- A READ: its query in the frame, and the entries shown. Assumes nothing.
 use Rattle.std.specs.Prelude.{if◌then◌else◌}
 use Prim.Native.Nat.{ℕ, ◌*◌, ◌-◌, ◌≤◌}
 use native.Mathlib.Omega.{arith}
@@ -20,7 +20,7 @@ use Rattle.rules.specs.Call.{query_order, unconfigured, read_reason, refusal, ne
 use Rattle.rules.specs.Sound.{Sound}
 use Rattle.rules.proofs.Formed.{Formed}
 use Rattle.rules.proofs.Lists.{part-part}
-use Rattle.rules.proofs.Orders.{first_more}
+use Rattle.reads.proofs.QueryOrder.{only_set}
 use Rattle.rules.proofs.OneKey.{one_key}
 use Rattle.rules.proofs.Sizes.{shown-sized}
 use Rattle.buffers.specs.Splice.{splice}
@@ -29,7 +29,7 @@ use Rattle.answers.proofs.AnswerBytes.{records-then-head}
 use Rattle.frames.specs.declared.Query.{Query}
 use Rattle.frames.specs.declared.TableCommand.TheVariants.{Read}
 use Rattle.frames.specs.Meaning.{query_read, OperandsThere}
-use Rattle.store.specs.Store.{tables_in}
+use Rattle.store.specs.Store.{entries_in, tables_in}
 use Rattle.reads.specs.Read.{key_in, read_in, Reads, ReadsQuery}
 use Rattle.calls.specs.Contract.{Correct}
 use Rattle.memory.specs.declared.Agent.{Agent}
@@ -57,29 +57,9 @@ query-formed : (q : Query) (f : List ℕ) → OperandsThere (Read q) f → Forme
 query-formed q f h =
     let n : length f ≡ 159 = h.0 in
     let l : length (part 10 4 f) ≡ 4 = simp (length-take, length-drop) (omega arith) in
-    (simp (length-append, length-take, length-drop) (omega arith), ap number (take_at (part 10 4 f) (part 15 144 f) 4 l) ∙ h.1, h.2)
-
--- ---- the order
+    (simp (length-append, length-take, length-drop) (omega arith), ap number (take_at (part 10 4 f) (part 15 144 f) 4 l) ∙ h.1, λ o. h.2 (only_set q.only o))
 
 module _ (a : Agent) (q : rules.Query) where
-  pub read-order : {here empty : Bool} {r : ℕ} → here ≡ eqb q.device a.device.id → empty ≡ unconfigured (control_of a).rows
-      → r ≡ first (address_order (not here) q.role ++ (empty, 12) ∷ [])
-      → read_reason (control_of a) q
-      ≡ (if eqb r 0 then first (query_order (control_of a).rows q.role q.table q.only q.key) else r)
-  unfolding read_reason
-  read-order e u p =
-      rw (p, e, u) (first_more
-      ((not (eqb q.device a.device.id), 5) ∷ (ltb 7 q.role, 6) ∷ (unconfigured (control_of a).rows, 12) ∷ [])
-      (query_order (control_of a).rows q.role q.table q.only q.key) refl)
-
-  -- where its first part refuses nothing, the rest, over the key's own bytes, decides
-  pub rest-order : {first_part r : ℕ} {k : List ℕ}
-      → read_reason (control_of a) q
-      ≡ (if eqb first_part 0 then first (query_order (control_of a).rows q.role q.table q.only q.key) else first_part)
-      → first_part ≡ 0 → k ≡ q.key → r ≡ first (query_order (control_of a).rows q.role q.table q.only k)
-      → read_reason (control_of a) q ≡ r
-  rest-order e z k r = e ∙ rw (z, r, k)
-
   -- ---- the entries
 
   was_read : (store d out : List ℕ) → read_reason (control_of a) q ≡ 0
@@ -114,7 +94,7 @@ module _ (a : Agent) (query : Query) (f store d p out : List ℕ) (n : ℕ) (h :
   asked = query_read query f
 
   pub entries-read : 57_344 ≤ length d → read_reason (control_of a) asked ≡ 0
-      → ReadsQuery (control_of a).rows asked.role asked.table asked.only (key_in (take (length f - 10) (drop 10 f))) a.tables store
+      → ReadsQuery (control_of a).rows asked.role asked.table asked.only (key_in (take (length f - 10) (drop 10 f))) (entries_in a.tables store)
       (take (length d - 4) (drop 4 d)) p n
       → length p ≡ length (take (length d - 4) (drop 4 d)) → out ≡ splice (put_mid 4 (length d - 4) d p) 0 (0 ∷ code_of 0 ∷ bytes_of 2 n)
       → Handles (memory a store) (on_tables (READ asked)) d (outcome a 0 store out)

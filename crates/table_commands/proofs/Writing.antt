@@ -1,4 +1,4 @@
--- A WRITE: its order, what its batch leaves, and its answer. Assumes nothing.
+-- A WRITE: what its batch leaves, and its answer. Assumes nothing.
 use Rattle.std.specs.Prelude.{if◌then◌else◌}
 use Prim.Native.Nat.{ℕ, ◌+◌, ◌-◌, ◌*◌, ◌≤◌}
 use native.Mathlib.Omega.{arith}
@@ -17,9 +17,8 @@ use Rattle.rules.specs.Answer.{Answer, answer_bytes}
 use Rattle.rules.specs.Call.{unconfigured, write_reason, refusal, next_control, next_tables, next, batch_of, pair_of, head_reason, answer}
 use Rattle.rules.specs.Update.{Batch}
 use Rattle.rules.specs.Sound.{Sound}
-use Rattle.rules.proofs.Formed.{parts-count, parts-lengths, whole-updates}
+use Rattle.rules.proofs.Formed.{EveryLength, whole-updates}
 use Rattle.rules.proofs.Full.{batch-full}
-use Rattle.rules.proofs.Lists.{rest_all}
 use Rattle.rules.proofs.Sizes.{reasons-count}
 use Rattle.buffers.specs.Splice.{splice}
 use Rattle.batches.specs.declared.Written.{Written}
@@ -33,13 +32,6 @@ use Rattle.memory.specs.Handles.{Handles, with_tables}
 use Rattle.memory.proofs.Handled.{flat, flat-handles}
 
 module _ (a : Agent) (h : Head) (atomicity : ℕ) where
-  pub write-order : {here primary empty : Bool} {r : ℕ} → here ≡ eqb h.device a.device.id
-      → primary ≡ streams.by_primary (control_of a).streams h.role h.id → empty ≡ unconfigured (control_of a).rows
-      → r ≡ first (streams.address_order (not here) h.role ++ (not primary, 10) ∷ (empty, 12) ∷ (ltb 1 atomicity, 13) ∷ [])
-      → write_reason (control_of a) h atomicity ≡ r
-  unfolding write_reason
-  write-order e p u q = rw (q, e, p, u)
-
   module _ (us : List Update) (store : List ℕ) where
     abbrev batched : Batch
     batched = batch_of (flat a store) h atomicity us
@@ -72,38 +64,33 @@ module _ (a : Agent) (h : Head) (atomicity : ℕ) where
         }
 
   -- one pair for each update
-  pairs-count : (n : ℕ) (l store : List ℕ) → n ≡ length (map pair_of (batched (updates_in n l) store).reasons)
-  pairs-count n l store =
-      sym (length-map (batched (updates_in n l) store).reasons pair_of
-      ∙ reasons-count atomicity (control_of a).rows h.role (tables_in a.tables store) (updates_in n l)
-      ∙ length-map (parts n update_size l) update_of ∙ parts-count n update_size l)
+  pairs-count : (us : List (List ℕ)) (store : List ℕ) → length us ≡ length (map pair_of (batched (updates_in us) store).reasons)
+  pairs-count us store =
+      sym (length-map (batched (updates_in us) store).reasons pair_of
+      ∙ reasons-count atomicity (control_of a).rows h.role (tables_in a.tables store) (updates_in us)
+      ∙ length-map us update_of)
 
   -- where the tables are sound, an INSERT that passes 22 finds room: what the code makes of the updates is what the rules do
-  by-rules : (n : ℕ) (l store : List ℕ) → update_size * n ≤ length l → Sound (flat a store)
-      → batch_in atomicity (control_of a).rows h.role n l (tables_in a.tables store) ≡ batched (updates_in n l) store
-  by-rules n l store room k =
-      batch-full 2 (control_of a).rows h.role k.rows atomicity (tables_in a.tables store) (updates_in n l)
-      (whole-updates (parts n update_size l) (parts-lengths n update_size l (omega arith))) k.tables
+  by-rules : (us : List (List ℕ)) (store : List ℕ) → EveryLength update_size us → Sound (flat a store)
+      → batch_in atomicity (control_of a).rows h.role us (tables_in a.tables store) ≡ batched (updates_in us) store
+  by-rules us store long k =
+      batch-full 2 (control_of a).rows h.role k.rows atomicity (tables_in a.tables store) (updates_in us) (whole-updates us long) k.tables
 
   -- a batch was taken, its pairs from byte 4 on, and then the head was written
-  pub batch-written : (n : ℕ) (f store store' d p out : List ℕ) (reason : ℕ) (w : Written) → 4 ≤ length d → length f ≡ 29 + update_size * n
-      → write_reason (control_of a) h atomicity ≡ 0
-      → StoreLeft (batch_in atomicity (control_of a).rows h.role n (take (length f - 29) (drop 29 f))) a.tables store store' w
-      → Pairs (batch_in atomicity (control_of a).rows h.role n (take (length f - 29) (drop 29 f))) a.tables store
-      (take (length d - 4) (drop 4 d)) p
+  pub batch-written : (us : List (List ℕ)) (store store' d p out : List ℕ) (n reason : ℕ) (w : Written) → 4 ≤ length d
+      → EveryLength update_size us → n ≡ length us → write_reason (control_of a) h atomicity ≡ 0
+      → StoreLeft (batch_in atomicity (control_of a).rows h.role us) a.tables store store' w
+      → Pairs (batch_in atomicity (control_of a).rows h.role us) a.tables store (take (length d - 4) (drop 4 d)) p
       → length p ≡ length (take (length d - 4) (drop 4 d)) → reason ≡ (if w.failed then 23 else 0)
       → out ≡ splice (put_mid 4 (length d - 4) d p) 0 (reason ∷ code_of reason ∷ bytes_of 2 n)
-      → Handles (memory a store) (on_tables (WRITE h atomicity (updates_in n (drop 29 f)))) d (outcome (with_tables a w.tables) reason store' out)
-  batch-written n f store store' d p out reason w room whole e left pairs same told o =
-      flat-handles a (on_tables (WRITE h atomicity (updates_in n (drop 29 f)))) store d (λ k.
-      let done : batch_in atomicity (control_of a).rows h.role n (take (length f - 29) (drop 29 f)) (tables_in a.tables store)
-      ≡ batched (updates_in n (drop 29 f)) store =
-      ap (λ (l : List ℕ). batch_in atomicity (control_of a).rows h.role n l (tables_in a.tables store)) (rest_all 29 f)
-      ∙ by-rules n (drop 29 f) store (omega (arith, whole, length-drop 29 f)) k in
-      was-written (updates_in n (drop 29 f)) store store' d out reason w e
+      → Handles (memory a store) (on_tables (WRITE h atomicity (updates_in us))) d (outcome (with_tables a w.tables) reason store' out)
+  batch-written us store store' d p out n reason w room long m e left pairs same told o =
+      flat-handles a (on_tables (WRITE h atomicity (updates_in us))) store d (λ k.
+      let done = by-rules us store long k in
+      was-written (updates_in us) store store' d out reason w e
       (subst (λ (b : Batch). BatchApplied b store store' w) done (left k.tables.distinct))
       told
-      (records-then-head reason n (map pair_of (batched (updates_in n (drop 29 f)) store).reasons) d p out room
-      (pairs-count n (drop 29 f) store) same
+      (records-then-head reason n (map pair_of (batched (updates_in us) store).reasons) d p out room
+      (m ∙ pairs-count us store) same
       (pairs k.tables.distinct ∙ ap (λ (b : Batch). splice (take (length d - 4) (drop 4 d)) 0 (concat (map pair_of b.reasons))) done)
       o))

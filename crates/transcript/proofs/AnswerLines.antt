@@ -1,7 +1,7 @@
 -- The line printed of an answer's bytes is the line of the rules' answer: the records have the size that the command says, so
 -- the bytes are cut into the records that were written. Assumes nothing.
 use Rattle.std.specs.Prelude.{if◌then◌else◌}
-use Prim.Native.Nat.{ℕ, ◌+◌, ◌*◌, ◌/◌, ◌%◌, ◌≤◌}
+use Prim.Native.Nat.{ℕ, ◌+◌, ◌-◌, ◌*◌, ◌/◌, ◌%◌, ◌≤◌}
 use native.Mathlib.Nat.{mul-le-mul}
 use native.Mathlib.Omega.{arith}
 use mathlib.Core.Path.{◌≡◌, refl, sym, ap, ◌∙◌}
@@ -22,7 +22,7 @@ use Rattle.rules.specs.Sound.{Sound}
 use Rattle.rules.proofs.Formed.{EveryLength, Formed, frame-formed}
 use Rattle.rules.proofs.Sizes.{concat-length, count-read, Sized, size_of, answer-sized}
 use Rattle.transcript.specs.Line.{printed, line_of, record_size, fits, line_in}
-use Rattle.transcript.proofs.Fitting.{by-room, line_in-whole}
+use Rattle.transcript.proofs.Fitting.{tests-fit, line_in-whole}
 
 -- ---- from the bytes of an answer to its line
 
@@ -56,7 +56,8 @@ line-of-answer room ordinal size a rest narrow h few space =
     let k : length (concat a.records) ≡ size * n = concat-length size a.records h in
     let m : (1 + 2 * size) * n ≤ 112_896 = mul-le-mul {n₁ = 1 + 2 * size} {m₁ = n} {n₂ = 441} {m₂ = 256} (omega arith) few in
     let t : fits room size bytes ≡ true =
-    sym (by-room room size bytes n (sym e) narrow (omega arith) (omega arith)) ∙ le-leb (84 + (1 + 2 * size) * n) room (omega arith) in
+    sym (tests-fit room size bytes n (sym e) (omega arith))
+    ∙ rw (le-leb size 220 narrow, le-leb (size * n) (length bytes - 4) (omega arith)) (le-leb (84 + (1 + 2 * size) * n) room (omega arith)) in
     line_in-whole room ordinal size bytes t
     ∙ ap (λ (i : ℕ). printed ordinal (byte 0 bytes) (byte 1 bytes) (parts i size (drop 4 bytes))) e
     ∙ ap (λ (b : List ℕ). printed ordinal (byte 0 b) (byte 1 b) (parts n size (drop 4 b))) (head a rest)

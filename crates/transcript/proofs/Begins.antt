@@ -1,12 +1,12 @@
 -- An input is cut into the same frames whether it comes whole or in pieces: a frame that is whole stays the first whatever comes
 -- after it. Assumes nothing.
 use Rattle.std.specs.Prelude.{if◌then◌else◌}
-use Prim.Native.Nat.{ℕ, ◌+◌, ◌-◌, ◌≤◌}
+use Prim.Native.Nat.{ℕ, ◌+◌, ◌≤◌}
 use native.Mathlib.Omega.{arith}
 use mathlib.Core.Path.{◌≡◌, refl, sym, ap, ap₂, subst, ◌∙◌}
 use mathlib.Core.Bool.{Bool, true, false, ◌&&◌}
 use mathlib.Core.List.{List, [], ◌∷◌, ◌++◌}
-use mathlib.Core.Option.{none, some}
+use Rattle.std.specs.Prelude.{Some, None}
 use lib.Dec.{leb}
 use lib.ListN.{length, take, drop, length-append, length-drop}
 use lib.Seq.{take-append-le, drop-append-le, length-take-le, drop-drop}
@@ -24,19 +24,19 @@ pub record Found (input f : List ℕ) : Type 0 where
   pub within : 2 + int 0 2 input ≤ length input
   pub bytes : f ≡ part 2 (int 0 2 input) input
 
-pub found : (input f : List ℕ) → first_frame input ≡ some f → Found input f
+pub found : (input f : List ℕ) → first_frame input ≡ Some f → Found input f
 unfolding first_frame
 found input f e = go (leb 2 (length input) && leb (2 + int 0 2 input) (length input)) refl e
   where
     go : (t : Bool) → (leb 2 (length input) && leb (2 + int 0 2 input) (length input)) ≡ t
-        → (if t then some (part 2 (int 0 2 input) input) else none) ≡ some f → Found input f
+        → (if t then Some (part 2 (int 0 2 input) input) else None) ≡ Some f → Found input f
     go true q e =
         let a = and-true (leb 2 (length input)) (leb (2 + int 0 2 input) (length input)) q in
         record { head = leb-true _ _ a.0; within = leb-true _ _ a.1; bytes = cc }
     go false q e = let z : ◌≡◌ {A = ℕ} 0 1 = cc in absurd (omega arith)
 
 -- a frame with its length is in the input
-pub found-length : (input f : List ℕ) → first_frame input ≡ some f → 2 + length f ≤ length input
+pub found-length : (input f : List ℕ) → first_frame input ≡ Some f → 2 + length f ≤ length input
 found-length input f e =
     let w = found input f e in
     let l : length f ≡ int 0 2 input =
@@ -44,7 +44,7 @@ found-length input f e =
     omega (arith, w.within)
 
 -- and it stays the first, whatever comes after it
-pub found-more : (input more f : List ℕ) → first_frame input ≡ some f → first_frame (input ++ more) ≡ some f
+pub found-more : (input more f : List ℕ) → first_frame input ≡ Some f → first_frame (input ++ more) ≡ Some f
 found-more input more f e =
     let w = found input f e in
     let n : ℕ = int 0 2 input in
@@ -53,9 +53,7 @@ found-more input more f e =
     let d : drop 2 (input ++ more) ≡ drop 2 input ++ more = drop-append-le 2 input more w.head in
     let t : part 2 n (input ++ more) ≡ f =
     ap (take n) d ∙ take-append-le n (drop 2 input) more (omega (arith, w.within, length-drop 2 input)) ∙ sym w.bytes in
-    let m : 2 + n - 2 ≡ n = omega arith in
-    sym (whole (input ++ more) n i (omega (arith, w.head)) (omega (arith, w.within)))
-    ∙ ap (λ (k : ℕ). some (part 2 k (input ++ more))) m ∙ ap (λ (x : List ℕ). some x) t
+    sym (whole (input ++ more) n i (omega (arith, w.head)) (omega (arith, w.within))) ∙ ap (λ (x : List ℕ). Some x) t
 
 -- ---- all frames
 
@@ -74,17 +72,17 @@ begins-more input (f ∷ fs) rest more b = (
   rw (drop-append-le (2 + length f) input more (found-length input f b.0)) (begins-more (drop (2 + length f) input) fs rest more b.1),
 )
 
-begins-only : (input : List ℕ) (fs gs : List (List ℕ)) (rest last : List ℕ) → Begins input fs rest → first_frame rest ≡ none
-    → Begins input gs last → first_frame last ≡ none → (fs ≡ gs) × (rest ≡ last)
+begins-only : (input : List ℕ) (fs gs : List (List ℕ)) (rest last : List ℕ) → Begins input fs rest → first_frame rest ≡ None
+    → Begins input gs last → first_frame last ≡ None → (fs ≡ gs) × (rest ≡ last)
 unfolding Begins
 begins-only input [] [] rest last b n c m = (refl, sym b ∙ c)
 begins-only input [] (g ∷ gs) rest last b n c m =
-    let e : first_frame input ≡ none = ap first_frame b ∙ n in
+    let e : first_frame input ≡ None = ap first_frame b ∙ n in
     let g' = c.0 in
     let z : ◌≡◌ {A = ℕ} 0 1 = cc in
     absurd (omega arith)
 begins-only input (f ∷ fs) [] rest last b n c m =
-    let e : first_frame input ≡ none = ap first_frame c ∙ m in
+    let e : first_frame input ≡ None = ap first_frame c ∙ m in
     let f' = b.0 in
     let z : ◌≡◌ {A = ℕ} 0 1 = cc in
     absurd (omega arith)

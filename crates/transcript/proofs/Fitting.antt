@@ -1,13 +1,14 @@
 -- An answer fits where four tests pass; then its line has room. Assumes nothing.
-use Prim.Native.Nat.{ℕ, ◌+◌, ◌*◌, ◌≤◌, ◌<◌}
-use native.Mathlib.Nat.{mul-le-mul, mul_comm}
+use Prim.Native.Nat.{ℕ, ◌+◌, ◌*◌, ◌-◌, ◌≤◌, ◌<◌}
+use native.Mathlib.Nat.{mul_comm}
 use native.Mathlib.Omega.{arith}
 use mathlib.Core.Path.{◌≡◌, refl, sym, ap, ◌∙◌}
-use mathlib.Core.Bool.{Bool, true, false}
+use mathlib.Core.Bool.{Bool, true, false, ◌&&◌}
 use mathlib.Core.List.{List, [], ◌∷◌, ◌++◌, append_assoc}
 use lib.Dec.{leb}
 use lib.ListN.{length, drop, length-append, length-drop}
-use borrow.Author.Tests.{le-leb, lt-leb, leb-true}
+use borrow.Author.Tests.{le-leb, leb-true}
+use Rattle.std.proofs.lemmas.Bool.Decides.{nat_tests}
 use Rattle.rules.specs.Bytes.{byte, int, parts}
 use Rattle.rules.proofs.Tests.{and-true}
 use Rattle.rules.proofs.Formed.{parts-count, parts-lengths}
@@ -15,29 +16,15 @@ use Rattle.transcript.specs.Line.{decimal, field, newline, records_hex, printed,
 use Rattle.transcript.proofs.Lines.{digits-few, field-few, records-length}
 
 module _ (room size : ℕ) (answer : List ℕ) where
-  pub too_wide : 220 < size → false ≡ fits room size answer
+  pub no_head : length answer < 4 → fits room size answer ≡ false
   unfolding fits
-  too_wide h = rw (lt-leb size 220 h)
+  no_head h = grind (arith, nat_tests)
 
-  pub no-head : size ≤ 220 → length answer < 4 → false ≡ fits room size answer
+  -- the tests of the code, of the records and of their number
+  pub tests-fit : (n : ℕ) → n ≡ int 2 2 answer → 4 ≤ length answer
+      → (leb size 220 && leb (size * n) (length answer - 4) && leb (84 + (1 + 2 * size) * n) room) ≡ fits room size answer
   unfolding fits
-  no-head h k = rw (le-leb size 220 h, lt-leb 4 (length answer) k)
-
-  module _ (n : ℕ) (e : n ≡ int 2 2 answer) (h : size ≤ 220) (k : 4 ≤ length answer) where
-    pub cut_off : length answer < 4 + size * n → false ≡ fits room size answer
-    unfolding fits
-    cut_off l = rw (← e, le-leb size 220 h, le-leb 4 (length answer) k, lt-leb (4 + size * n) (length answer) l)
-
-    pub by-room : 4 + size * n ≤ length answer → leb (84 + (1 + 2 * size) * n) room ≡ fits room size answer
-    unfolding fits
-    by-room l = rw (← e, le-leb size 220 h, le-leb 4 (length answer) k, le-leb (4 + size * n) (length answer) l)
-
--- no product of the tests passes the largest word
-pub few_bytes : (size n : ℕ) → size ≤ 220 → n < 65_536 → size * n ≤ 14_417_700
-few_bytes size n h k = mul-le-mul {n₁ = size} {m₁ = n} {n₂ = 220} {m₂ = 65_535} h (omega arith)
-
-pub few-characters : (size n : ℕ) → size ≤ 220 → n < 65_536 → (1 + 2 * size) * n ≤ 28_900_935
-few-characters size n h k = mul-le-mul {n₁ = 1 + 2 * size} {m₁ = n} {n₂ = 441} {m₂ = 65_535} (omega arith) (omega arith)
+  tests-fit n e h = rw (← e, le-leb 4 (length answer) h) (grind (arith, nat_tests))
 
 -- what the tests say
 pub record Fitting (room size : ℕ) (answer : List ℕ) : Type 0 where

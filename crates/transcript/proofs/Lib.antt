@@ -4,4 +4,4 @@ pub mod Begins
 pub mod Fitting
 pub mod Input
 pub mod Lines
-pub mod PrefixWritten
+pub mod Written

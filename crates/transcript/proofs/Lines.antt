@@ -1,37 +1,31 @@
 -- What a line is made of, piece by piece: digits, bytes in hex, records, and the lengths of all of them. Assumes nothing.
 use Rattle.std.specs.Prelude.{if◌then◌else◌}
-use Prim.Native.Nat.{ℕ, zero, suc, ◌+◌, ◌*◌, ◌-◌, ◌/◌, ◌%◌, ◌≤◌, ◌<◌}
+use Rattle.std.specs.Fmt as library
+use Rattle.std.proofs.Common.{◌≡◌, ℕ, zero, suc, ◌+◌, ◌*◌, ◌-◌, ◌/◌, ◌%◌, ◌^◌, ◌≤◌, ◌<◌, Bool, true, false, ltb, List, [], ◌∷◌, ◌++◌}
+use Rattle.std.proofs.Common.{length, take, drop, get_or, refl, sym, ap, ◌∙◌, arith, append_assoc, length-append}
+use Rattle.std.proofs.lemmas.Fmt.{AppendsLastDigit, decimal_from_appends, length-decimal-le}
+use Rattle.std.proofs.lemmas.List.{take_more}
 use native.Mathlib.Nat.{mul-suc}
-use native.Mathlib.Numerals.{add-one}
-use native.Mathlib.Omega.{arith}
-use mathlib.Core.Path.{◌≡◌, refl, ap}
-use mathlib.Core.Bool.{Bool, true, false}
-use mathlib.Core.List.{List, [], ◌∷◌, ◌++◌}
-use lib.Dec.{ltb}
-use lib.ListN.{length, drop, get_or, length-append, drop_of_length-le}
-use lib.Seq.{drop-cons}
+use mathlib.Core.List.{append-nil}
+use lib.ListN.{take-append-drop}
+use lib.Seq.{drop-drop, take_all}
 use borrow.Author.Tests.{lt-ltb, le-ltb}
 use Rattle.rules.specs.Bytes.{part, parts}
-use Rattle.rules.proofs.Formed.{EveryLength, parts-count}
-use Rattle.rules.proofs.Lists.{parts_from}
-use Rattle.transcript.specs.Line.{digit, digits, hex, blank, field, records_hex}
+use Rattle.rules.proofs.Formed.{EveryLength}
+use Rattle.transcript.specs.Line.{digit, digits, decimal, hex, blank, field, records_hex}
 
 -- ---- digits
 
-pub digits-none : (n x : ℕ) → n ≡ 0 → digits n x ≡ []
+-- a number of 64 bits is written as the library writes it
+digits-appended : AppendsLastDigit digits
 unfolding digits
-digits-none zero x e = refl
-digits-none (suc n) x e = absurd (omega arith)
+digits-appended = record {
+  one = λ n x l. rw (lt-ltb x 10 l);
+  more = λ n x l. let m : x % 10 < 10 = omega arith in rw (le-ltb x 10 l, lt-ltb (x % 10) 10 m);
+}
 
-pub digits-one : (n x : ℕ) → (n ≡ 0 → ⊥) → x < 10 → digits n x ≡ digit x ∷ []
-unfolding digits
-digits-one zero x h l = absurd (h refl)
-digits-one (suc n) x h l = rw (lt-ltb x 10 l)
-
-pub digits_more : (n x : ℕ) → (n ≡ 0 → ⊥) → 10 ≤ x → digits n x ≡ digits (n - 1) (x / 10) ++ (digit (x % 10) ∷ [])
-unfolding digits
-digits_more zero x h l = absurd (h refl)
-digits_more (suc n) x h l = let e : suc n - 1 ≡ n = omega arith in rw (e, le-ltb x 10 l)
+pub decimal_is : (x : ℕ) → x < 2 ^ 64 → decimal x ≡ library.decimal x
+decimal_is x h = decimal_from_appends digits digits-appended 20 x h (length-decimal-le 20 x (omega arith) (omega arith) h)
 
 pub digits-few : (n x : ℕ) → length (digits n x) ≤ n
 unfolding digits
@@ -48,14 +42,22 @@ field-few x = simp length-append (omega (arith, digits-few 20 x))
 
 -- ---- bytes in hex
 
-pub hex-from : (bs : List ℕ) (i : ℕ) → i < length bs
-    → hex (drop i bs) ≡ (digit (get_or bs i 0 / 16) ∷ digit (get_or bs i 0 % 16) ∷ []) ++ hex (drop (i + 1) bs)
+hex-append : (bs cs : List ℕ) → hex (bs ++ cs) ≡ hex bs ++ hex cs
 unfolding hex
-hex-from bs i h = rw (add-one, drop-cons bs i 0 h)
+hex-append [] cs = refl
+hex-append (b ∷ bs) cs = rw (hex-append bs cs)
 
-pub hex-end : (bs : List ℕ) (i : ℕ) → length bs ≤ i → hex (drop i bs) ≡ []
+-- the bytes so far, the next one, and those after it
+pub hex-more : (bs : List ℕ) (i : ℕ) → i < length bs
+    → hex (take (i + 1) bs) ≡ hex (take i bs) ++ (digit (get_or bs i 0 / 16) ∷ digit (get_or bs i 0 % 16) ∷ [])
 unfolding hex
-hex-end bs i h = ap hex (drop_of_length-le bs {i = i} h)
+hex-more bs i h = ap hex (take_more bs i 0 h) ∙ hex-append (take i bs) (get_or bs i 0 ∷ [])
+
+pub hex_split : (bs : List ℕ) (i : ℕ) → hex bs ≡ hex (take i bs) ++ hex (drop i bs)
+hex_split bs i = ap hex (sym (take-append-drop i bs)) ∙ hex-append (take i bs) (drop i bs)
+
+pub hex_all : (bs : List ℕ) (i : ℕ) → length bs ≤ i → hex (take i bs) ≡ hex bs
+hex_all bs i h = ap hex (take_all i bs h)
 
 pub hex-length : (bs : List ℕ) → length (hex bs) ≡ 2 * length bs
 unfolding hex
@@ -64,16 +66,34 @@ hex-length (b ∷ bs) = omega (arith, hex-length bs)
 
 -- ---- records
 
-pub records-from : (i n w : ℕ) (l : List ℕ) → i < n
-    → records_hex (drop i (parts n w l)) ≡ (blank ∷ []) ++ (hex (part (w * i) w l) ++ records_hex (drop (i + 1) (parts n w l)))
+records-append : (rs qs : List (List ℕ)) → records_hex (rs ++ qs) ≡ records_hex rs ++ records_hex qs
 unfolding records_hex
-records-from i n w l h = ap records_hex (parts_from i n w l h)
+records-append [] qs = refl
+records-append (r ∷ rs) qs =
+    ap (λ (l : List ℕ). (blank ∷ hex r) ++ l) (records-append rs qs) ∙ sym (append_assoc (blank ∷ hex r) (records_hex rs) (records_hex qs))
 
-pub records-end : (i n w : ℕ) (l : List ℕ) → n ≤ i → records_hex (drop i (parts n w l)) ≡ []
-unfolding records_hex
-records-end i n w l h =
-    let c : length (parts n w l) ≤ i = omega (arith, parts-count n w l) in
-    ap records_hex (drop_of_length-le (parts n w l) {i = i} c)
+parts-split : (i n w : ℕ) (l : List ℕ) → i ≤ n → parts n w l ≡ parts i w l ++ parts (n - i) w (drop (w * i) l)
+unfolding parts
+parts-split zero n w l h = let e : w * 0 ≡ 0 = omega arith in let k : n - 0 ≡ n = omega arith in rw (e, k)
+parts-split (suc i) zero w l h = absurd (omega arith)
+parts-split (suc i) (suc n) w l h =
+    let e : w + w * i ≡ w * suc i = omega arith in
+    let k : suc n - suc i ≡ n - i = omega arith in
+    rw (k, ← e, ← drop-drop (w * i) w l) (ap (λ (x : List (List ℕ)). take w l ∷ x) (parts-split i n w (drop w l) (omega arith)))
+
+-- the records so far and those after them
+pub records-split : (i n w : ℕ) (l : List ℕ) → i ≤ n
+    → records_hex (parts n w l) ≡ records_hex (parts i w l) ++ records_hex (parts (n - i) w (drop (w * i) l))
+records-split i n w l h = ap records_hex (parts-split i n w l h) ∙ records-append (parts i w l) (parts (n - i) w (drop (w * i) l))
+
+pub records-more : (i w : ℕ) (l : List ℕ)
+    → records_hex (parts (i + 1) w l) ≡ records_hex (parts i w l) ++ (blank ∷ hex (part (w * i) w l))
+unfolding records_hex parts
+records-more i w l =
+    let one : i + 1 - i ≡ 1 = omega arith in
+    records-split i (i + 1) w l (omega arith)
+    ∙ ap (λ (k : ℕ). records_hex (parts i w l) ++ records_hex (parts k w (drop (w * i) l))) one
+    ∙ ap (λ (x : List ℕ). records_hex (parts i w l) ++ (blank ∷ x)) (append-nil (hex (part (w * i) w l)))
 
 pub records-length : (w : ℕ) (rs : List (List ℕ)) → EveryLength w rs → length (records_hex rs) ≡ (1 + 2 * w) * length rs
 unfolding records_hex

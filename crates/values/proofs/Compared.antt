@@ -130,19 +130,6 @@ module _ (d : List ℕ) (i : ℕ) (some : 1 ≤ i) where
   pub digit_at : i ≤ length d → byte i (padded d) ≡ byte (i - 1) d
   digit_at h = after-count ∙ get_or-append d (replicate (16 - length d) 0) 0 (i - 1) (omega arith)
 
-  pub zero-after : length d < i → byte i (padded d) ≡ 0
-  zero-after h =
-      let j : ℕ = i - 1 - length d in
-      let e : i - 1 ≡ length d + j = omega arith in
-      after-count ∙ ap (λ (k : ℕ). get_or (d ++ replicate (16 - length d) 0) k 0) e
-      ∙ get_or-append-add d (replicate (16 - length d) 0) j 0 ∙ zeros (16 - length d) j
-    where
-      zeros : (n j : ℕ) → byte j (replicate n 0) ≡ 0
-      zeros zero zero = refl
-      zeros zero (suc j) = refl
-      zeros (suc n) zero = refl
-      zeros (suc n) (suc j) = zeros n j
-
 -- ---- in shortest form already
 
 module _ (v : List ℕ) (size : length v ≡ 17) (used : byte 0 v ≡ 0 → ⊥) where

@@ -13,67 +13,73 @@ ghost use Rattle.buffers.specs.Word.{little_endian};
 
 use numbers::Number;
 
-// 256 to the k.
+// The bytes of a value: a length, then digits, then zeros.
+pub type Value = [u8; 17];
+
+// The N bytes at a place, where they lie.
+pub fn array_at<const N: usize>(b: &[u8], at: usize) -> &[u8; N]
+    requires { at + N ≤ length b.now }
+    ensures { result.now ≡ part at N b.now }
+{
+    b[at..at + N].first_chunk().unwrap()
+}
+
+// The value at a place.
+pub fn value_at(b: &[u8], at: usize) -> &Value
+    requires { at + 17 ≤ length b.now }
+    ensures { result.now ≡ part at 17 b.now }
+{
+    array_at(b, at)
+}
+
+// 256 to the k, by one shift.
 fn power(k: usize) -> u64
     requires { k < 8 }
     ensures { result ≡ 256 ^ k }
 {
-    let bits = 8 * k;
-    1 << bits
+    1 << (8 * k)
 }
 
 // Whether the bytes after the n digits of a value are 0: a word is below 256 to the k where its bytes from k on are.
-fn zero_after(v: &[u8], n: usize) -> bool
-    requires { (length v.now ≡ 17) × (n ≤ 16) }
+fn zero_after(v: &Value, n: usize) -> bool
+    requires { n ≤ 16 }
     ensures { result ≡ all_zero (drop (1 + n) v.now) }
 {
     if n == 16 {
         return true;
     }
     // read once, before it is known what for: in each branch the compiler would take it apart
-    let word = buffers::word(v, 9);
+    let last = buffers::word(v, 9);
     if 8 <= n {
-        return word < power(n - 8);
+        last < power(n - 8)
+    } else {
+        last == 0 && buffers::word(v, 1) < power(n)
     }
-    if word != 0 {
-        return false;
-    }
-    buffers::word(v, 1) < power(n)
 }
 
 // Whether the first k digits of a value are 0: they are what is left of a word by 256 to the k.
-fn zero_before(v: &[u8], k: usize) -> bool
-    requires { (length v.now ≡ 17) × (k < 16) }
+fn zero_before(v: &Value, k: usize) -> bool
+    requires { k < 16 }
     ensures { result ≡ all_zero (part 1 k v.now) }
 {
-    let word = buffers::word(v, 1);
+    let first = buffers::word(v, 1);
     if k < 8 {
-        return word % power(k) == 0;
+        first % power(k) == 0
+    } else {
+        first == 0 && buffers::word(v, 9) % power(k - 8) == 0
     }
-    if word != 0 {
-        return false;
-    }
-    buffers::word(v, 9) % power(k - 8) == 0
 }
 
 // Whether these 17 bytes are a value: length 1 to 16, padding 0.
-pub fn formed(v: &[u8]) -> bool
-    requires { length v.now ≡ 17 }
+pub fn formed(v: &Value) -> bool
     ensures { result ≡ is_value v.now }
 {
-    let length = v[0] as usize;
-    if length == 0 {
-        return false;
-    }
-    if 16 < length {
-        return false;
-    }
-    zero_after(v, length)
+    let length = usize::from(v[0]);
+    (1..=16).contains(&length) && zero_after(v, length)
 }
 
 // Whether the value is below 2 to the width.
-pub fn fits(v: &[u8], width: u8) -> bool
-    requires { length v.now ≡ 17 }
+pub fn fits(v: &Value, width: u8) -> bool
     ensures { result ≡ below width v.now }
 {
     Number::of_value(v).fits(width)
@@ -85,121 +91,79 @@ fn significant(v: &[u8], at: usize, n: usize) -> usize
     ensures bounds { (1 ≤ result) × (result ≤ n) }
     ensures digits { stripped (part (at + 1) n v.now) ≡ part (at + result) (n + 1 - result) v.now }
 {
-    let mut i: usize = 1;
-    while i < n {
+    for i in 1..n {
         if v[at + i] != 0 {
             return i;
         }
-        i += 1;
     }
-    i
+    n
 }
 
 // ---- told from shortest form, and compared with it
 
 // Whether these 17 bytes are in shortest form: no value, or a value without a leading zero.
-pub fn is_short(v: &[u8]) -> bool
-    requires { length v.now ≡ 17 }
+pub fn is_short(v: &Value) -> bool
     ensures { result ≡ is_short v.now }
 {
     let n = v[0];
-    if n == 0 {
-        return true;
-    }
-    if 1 < n {
-        if v[1] == 0 {
-            return false;
-        }
-    }
-    formed(v)
+    n == 0 || ((n <= 1 || v[1] != 0) && formed(v))
 }
 
 // The number of digits of a value of 17 bytes; a length over 16 reads as 16.
-fn digit_count(v: &[u8]) -> usize
-    requires { length v.now ≡ 17 }
+fn digit_count(v: &Value) -> usize
     ensures { result ≡ min 16 (byte 0 v.now) }
 {
-    let n = v[0] as usize;
-    if 16 < n {
-        return 16;
-    }
-    n
+    usize::from(v[0]).min(16)
 }
 
 // Whether e has these digits of v after its count, so many from place `first` on. Eight or more are two words, which may overlap.
-fn same_digits(e: &[u8], v: &[u8], first: usize, count: usize) -> bool
-    requires { (length e.now ≡ 17) × (length v.now ≡ 17) × (1 ≤ first) × (first + count ≤ 17) }
+fn same_digits(e: &Value, v: &Value, first: usize, count: usize) -> bool
+    requires { (1 ≤ first) × (first + count ≤ 17) }
     ensures { result ≡ same (part 1 count e.now) (part first count v.now) }
 {
     if count < 8 {
-        let past = count + 1;
-        let end = first + count;
-        return buffers::equal(&e[1..past], &v[first..end]);
+        return buffers::equal(&e[1..count + 1], &v[first..first + count]);
     }
-    if !buffers::equal_eight(e, 1, v, first) {
-        return false;
-    }
-    buffers::equal_eight(e, count - 7, v, first + count - 8)
+    buffers::equal_eight(e, 1, v, first) && buffers::equal_eight(e, count - 7, v, first + count - 8)
 }
 
 // Whether e is the shortest form of v, which is a value; each has 17 bytes. Then v has zeros, as many as e lacks digits, and after them the
 // digits of e.
-fn has_digits_of(e: &[u8], v: &[u8]) -> bool
-    requires { (length e.now ≡ 17) × (length v.now ≡ 17) × (byte 0 v.now ≡ 0 → ⊥) }
+fn has_digits_of(e: &Value, v: &Value) -> bool
+    requires { byte 0 v.now ≡ 0 → ⊥ }
     ensures { result ≡ same_value e.now v.now }
 {
     let n = digit_count(v);
-    let count = e[0] as usize;
-    if count == 0 {
-        return false;
-    }
-    if n < count {
-        return false;
-    }
-    if 1 < count {
-        if e[1] == 0 {
-            return false;
-        }
-    }
-    let zeros = n - count;
-    if !zero_before(v, zeros) {
-        return false;
-    }
-    if !same_digits(e, v, zeros + 1, count) {
-        return false;
-    }
-    zero_after(e, count)
+    let count = usize::from(e[0]);
+    (1..=n).contains(&count)
+        && (count <= 1 || e[1] != 0)
+        && zero_before(v, n - count)
+        && same_digits(e, v, n - count + 1, count)
+        && zero_after(e, count)
 }
 
 // Whether e is the shortest form of v, each of 17 bytes. Where v is no value, its bytes are compared as they are.
-pub fn is_shortest_of(e: &[u8], v: &[u8]) -> bool
-    requires { (length e.now ≡ 17) × (length v.now ≡ 17) }
+pub fn is_shortest_of(e: &Value, v: &Value) -> bool
     ensures { result ≡ same_value e.now v.now }
 {
     if v[0] != 0 {
         return has_digits_of(e, v);
     }
-    if e[0] != 0 {
-        return false;
-    }
-    buffers::equal_eight(e, 1, v, 1) && buffers::equal_eight(e, 9, v, 9)
+    e[0] == 0 && buffers::equal_eight(e, 1, v, 1) && buffers::equal_eight(e, 9, v, 9)
 }
 
 // Byte i, 1 to 16, of the shortest form of a value of n digits whose number begins at `first`.
-fn short_digit(v: &[u8], first: usize, n: usize, i: usize) -> u8
-    requires { (1 ≤ first) × (first ≤ n) × (n ≤ 16) × (1 ≤ i) × (i ≤ 16) × (length v.now ≡ 17) }
+fn short_digit(v: &Value, first: usize, n: usize, i: usize) -> u8
+    requires { (1 ≤ first) × (first ≤ n) × (n ≤ 16) × (1 ≤ i) × (i ≤ 16) }
     ensures { result ≡ byte i (padded (part first (n + 1 - first) v.now)) }
 {
     let at = first + i - 1;
-    if n < at {
-        return 0;
-    }
-    v[at]
+    if n < at { 0 } else { v[at] }
 }
 
 // The word of the eight bytes from place `at` of the shortest form of a value of 17 bytes; it is not made.
-pub fn short_word(v: &[u8], at: usize) -> u64
-    requires { (length v.now ≡ 17) × (1 ≤ at) × (at ≤ 9) }
+pub fn short_word(v: &Value, at: usize) -> u64
+    requires { (1 ≤ at) × (at ≤ 9) }
     ensures { result ≡ little_endian (part at 8 (short v.now)) }
 {
     let n = digit_count(v);
@@ -208,15 +172,14 @@ pub fn short_word(v: &[u8], at: usize) -> u64
     }
     let first = significant(v, 0, n);
     let mut x: u64 = 0;
-    let mut k: usize = 8;
-    while 0 < k {
-        k -= 1;
-        x = x * 256 + buffers::wide(short_digit(v, first, n, at + k));
+    for k in (0..8).rev() {
+        x = x * 256 + u64::from(short_digit(v, first, n, at + k));
     }
     x
 }
 
-// ---- brought into shortest form
+// ---- brought into shortest form, at a place of a larger slice: of what a slice ends as after its parts were lent as arrays
+// (`as_chunks_mut`, `chunks_exact_mut`), the library says nothing
 
 // Moves the digits of the shortest form, of the n digits after `at`, down to the first place; how many they are.
 fn strip_at(dst: &mut [u8], at: usize, n: usize) -> usize
@@ -230,7 +193,7 @@ fn strip_at(dst: &mut [u8], at: usize, n: usize) -> usize
         return n;
     }
     let digits = n + 1 - first;
-    buffers::move_down(dst, at + 1, at + first, digits);
+    buffers::shift(dst, at + first, at + 1, digits);
     digits
 }
 
@@ -240,9 +203,7 @@ fn pad_at(dst: &mut [u8], at: usize, digits: usize)
     ensures { dst.new ≡ splice dst.old at (padded (part (at + 1) digits dst.old)) }
 {
     dst[at] = digits as u8;
-    let past = at + digits + 1;
-    let end = at + 17;
-    buffers::clear(&mut dst[past..end]);
+    buffers::clear(&mut dst[at + digits + 1..at + 17]);
 }
 
 // Brings the value at a place into shortest form, in place. The zeros of an unused part stay.
@@ -250,11 +211,11 @@ fn shorten_at(dst: &mut [u8], at: usize)
     requires { at + 17 ≤ length dst.old }
     ensures { dst.new ≡ splice dst.old at (short (part at 17 dst.old)) }
 {
-    let to = at + 17;
-    if is_short(&dst[at..to]) {
+    let v = value_at(dst, at);
+    if is_short(v) {
         return;
     }
-    let n = digit_count(&dst[at..to]);
+    let n = digit_count(v);
     let digits = strip_at(dst, at, n);
     pad_at(dst, at, digits);
 }
@@ -276,9 +237,7 @@ pub fn shorten_key(entry: &[u8], dst: &mut [u8])
     ensures { dst.new ≡ splice dst.old 0 (short_key entry.now) }
 {
     buffers::copy(&entry[0..rules::KEY], dst);
-    let mut i: usize = 4;
-    while 0 < i {
-        i -= 1;
+    for i in (0..4).rev() {
         shorten_slot(dst, 35 * i + 8);
     }
 }
@@ -289,9 +248,7 @@ pub fn shorten_action(entry: &[u8], dst: &mut [u8])
     ensures { dst.new ≡ splice dst.old 0 (drop key_size (short_entry entry.now)) }
 {
     buffers::copy(&entry[rules::KEY..rules::ENTRY], dst);
-    let mut i: usize = 4;
-    while 0 < i {
-        i -= 1;
+    for i in (0..4).rev() {
         shorten_at(dst, 17 * i + 4);
     }
 }

@@ -1,27 +1,27 @@
 -- Right because what refuses the command is the rules' own, and what it leaves otherwise is stored. Assumes nothing.
+use mathlib.Core.Path.{◌≡◌, refl, ap, ◌∙◌}
+use Prim.Native.Nat.{ℕ}
+use Rattle.std.proofs.lemmas.Result.{err_from_is_err_and}
+use Rattle.rules.specs.Named.{number_of, reason_of}
 use Rattle.frames.specs.Meaning.{pipeline_read}
 use Rattle.answers.proofs.AnswerBytes.{head-alone}
+use Rattle.rules.proofs.Named.{number_set}
 use Rattle.agent.proofs.Ways.{pipeline-refused-handled, pipeline-handled}
 use Rattle.agent.proofs.on_pipeline.Goals as goal
 
-pub refusal-reason-requires : goal.refusal-reason-requires
-refusal-reason-requires c = c.requires.0
-
-pub write_head-requires : goal.write_head-requires
-write_head-requires c = c.requires.1
-
-pub returns-then-reason-ne0 : goal.returns-then-reason-ne0
-returns-then-reason-ne0 c =
+pub returns-in_err-refusal : goal.returns-in_err-refusal
+returns-in_err-refusal c store =
     let a = c.args in
-    λ store. pipeline-refused-handled a.agent store a.answer.now c.write_head.new.answer (pipeline_read a.command a.frame.now)
-    c.refusal-reason.result c.refusal-reason.ensures (head-alone _ a.answer.now _ c.write_head.ensures) c.if-reason-ne0.true
-
-pub carry_out-left-requires : goal.carry_out-left-requires
-carry_out-left-requires c = c.requires.0
+    let p = err_from_is_err_and c.from_residual.result c.from_residual.ensures.1 in
+    let r = c.in_err-refusal.field-0.0 in
+    let n : c.number.result ≡ number_of r = c.number.ensures ∙ ap reason_of c.in_err-refusal.was in
+    rw (p.1, p.2)
+    (pipeline-refused-handled a.agent.now store a.answer.now c.write_head.new.answer (pipeline_read a.command a.frame.now) (number_of r)
+    c.in_err-refusal.ensures (head-alone _ a.answer.now _ (rw n at c.write_head.ensures)) (number_set r))
 
 pub returns : goal.returns
-returns c =
-    let o = c.carry_out-left in
+returns c store =
     let a = c.args in
-    λ store. pipeline-handled a.agent store a.answer.now c.write_head.new.answer (pipeline_read a.command a.frame.now)
-    c.refusal-reason.result c.refusal-reason.ensures (head-alone _ a.answer.now _ c.write_head.ensures) c.if-reason-ne0.false o.result o.ensures
+    let n : c.number.result ≡ 0 = c.number.ensures ∙ ap reason_of c.in_ok-refusal.was in
+    pipeline-handled a.agent.now store a.answer.now c.write_head.new.answer (pipeline_read a.command a.frame.now) 0
+    c.in_ok-refusal.ensures (head-alone _ a.answer.now _ (rw n at c.write_head.ensures)) refl c.carry_out-left.result c.carry_out-left.ensures

@@ -10,5 +10,5 @@ pub returns : goal.returns
 returns c =
     let r = c.respond in
     let a = c.args in
-    λ store. event-handled a.agent store a.answer.now r.new.answer (event_read a.event) c.carry_out-left.result c.carry_out-left.ensures
+    λ store. event-handled a.agent.now store a.answer.now r.new.answer (event_read a.event) c.carry_out-left.result c.carry_out-left.ensures
     r.ensures

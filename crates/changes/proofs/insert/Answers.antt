@@ -32,7 +32,7 @@ pub write_action-requires : goal.write_action-requires
 write_action-requires c =
     let a = c.args in
     let p = c.requires in
-    (p.0, omega (arith, keyed-long a.store.now c.shorten_key.new.dst (220 * a.tables.count) c.shorten_key.auto.dst, p.1), p.2)
+    (p.0, omega (arith, keyed-long a.store.now c.shorten_key.new.dst (220 * a.tables.count) c.shorten_key.auto.dst, p.1))
 
 pub shape_of-store : goal.shape_of-store
 shape_of-store c =
@@ -45,12 +45,12 @@ returns c =
     let e : List ℕ = a.entry.now in
     let s : List ℕ = a.store.now in
     let at : ℕ = 220 * a.tables.count in
-    let n : length (short_key e) ≡ 148 = key-length e (omega (arith, c.requires.2)) in
-    let l : length (short_entry e) ≡ 220 = entry_length e c.requires.2 in
+    let n : length (short_key e) ≡ 148 = key-length e (omega (arith, c.told-entry)) in
+    let l : length (short_entry e) ≡ 220 = entry_length e c.told-entry in
     let room : at + 220 ≤ length s = omega (arith, c.requires.0, c.requires.1) in
     let keyed : put_mid at (length s - at) s c.shorten_key.new.dst ≡ splice s at (short_key e) =
     rest_back s c.shorten_key.new.dst (short_key e) at c.shorten_key.ensures (omega (arith, c.requires.0, c.requires.1)) in
-    rw (whole e s _ c.write_action.new.store at c.requires.2 room keyed c.write_action.ensures) (record {
+    rw (whole e s _ c.write_action.new.store at c.told-entry room keyed c.write_action.ensures) (record {
       holds = parts-append a.tables.count 220 s (short_entry e) (omega (arith, room)) l;
       few = omega (arith, c.requires.0);
       room = length-splice s at (short_entry e) (omega (arith, l, room));

@@ -1,24 +1,13 @@
 -- Right because the type, the place and the action are written one after the other. Assumes nothing.
 use Prim.Native.Nat.{ℕ, ◌+◌, ◌*◌, ◌-◌}
 use native.Mathlib.Omega.{arith}
-use mathlib.Core.Path.{◌≡◌, refl, ◌∙◌}
+use mathlib.Core.Path.{◌≡◌, ◌∙◌}
 use mathlib.Core.List.{List}
 use lib.ListN.{length, set, length-set}
-use borrow.Rule.Slice.PartMut.{same_len_mid}
 use Rattle.rules.specs.Bytes.{part}
 use Rattle.buffers.proofs.Splice.{part-copied, splice-end, length-window}
 use Rattle.changes.proofs.Undoing.{note-written}
-use borrow.Author.Rules.{rules}
 use Rattle.changes.proofs.note_entry.Goals as goal
-
-pub slice_bounds-copy-end-2 : goal.slice_bounds-copy-end-2
-slice_bounds-copy-end-2 c = simp length-set (omega arith)
-
-pub shape_of-note : goal.shape_of-note
-shape_of-note c =
-    let a = c.args in
-    let w = c.copy in
-    same_len_mid 2 72 (set (set a.note.now 0 a.kind) 1 a.i) w.new.dst w.auto.dst ∙ simp length-set refl
 
 pub returns : goal.returns
 returns c =
@@ -29,7 +18,7 @@ returns c =
     let head : List ℕ = set (set note 0 a.kind) 1 i in
     let from : ℕ = 220 * i + 148 in
     let action : List ℕ = part from 72 a.store.now in
-    let n : length note ≡ 74 = search rules in
+    let n : length note ≡ 74 = c.told-note in
     let l : length head ≡ 74 = simp length-set n in
     let e : length action ≡ 72 = length-window from 72 a.store.now (omega arith) in
     let k : from + 72 - from ≡ 72 = omega arith in

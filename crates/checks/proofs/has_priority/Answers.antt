@@ -1,29 +1,18 @@
--- Right because what is left of the fields begins with the one at the index. Assumes nothing.
-use Prim.Native.Nat.{ℕ, ◌+◌, ◌*◌, ◌<◌, min}
-use native.Mathlib.Omega.{arith}
-use mathlib.Core.Path.{◌≡◌, sym, ap, ◌∙◌}
-use mathlib.Core.Bool.{Bool, ◌||◌}
-use mathlib.Core.List.{List}
-use lib.ListN.{drop}
-use Rattle.rules.specs.Bytes.{between, some_of, byte}
-use Rattle.rows.specs.Meaning.{row_of}
-use Rattle.checks.proofs.Walk.{fields-next, fields-none, field-kind}
-use Rattle.checks.proofs.has_priority.Invariants.{prior}
+-- Right because the library's search is the rules'. Assumes nothing.
+use Rattle.std.proofs.Common.{rules, tests, ◌∙◌, ap}
+use Rattle.std.proofs.lemmas.Iterator.{YieldsList-from_slice}
+use Rattle.std.proofs.lemmas.Iterator.Search.{any_from_yields_List}
+use Rattle.rules.specs.Bytes.{between, some_of}
+use Rattle.rules.specs.Row as rows
+use Rattle.rows.specs.declared.Field.{Field}
+use Rattle.rows.specs.Meaning.{field_of}
+use Rattle.checks.proofs.Walk.{some-map}
 use Rattle.checks.proofs.has_priority.Goals as goal
 
--- the field at the index is the first of those left, and it came out as b whether its kind asks a priority
-next : (row : List ℕ) (i : ℕ) {r b : Bool} → i < min (byte 7 row) 4
-    → some_of prior (row_of row).fields ≡ some_of prior (drop i (row_of row).fields)
-    → r ≡ between 3 5 (byte (8 + 2 * i) row) → r ≡ b
-    → some_of prior (row_of row).fields ≡ (b || some_of prior (drop (i + 1) (row_of row).fields))
-next row i h e p q = rw (e, fields-next row i h, field-kind (8 + 2 * i) row, ← p, q)
-
-pub returns-then-needs_priority : goal.returns-then-needs_priority
-returns-then-needs_priority c =
-    sym (next c.args.row.now c.loop-i.i (omega arith) c.loop-i.invariant c.needs_priority.ensures c.if-needs_priority.true)
-
-pub loop-i-preserved : goal.loop-i-preserved
-loop-i-preserved c = next c.args.row.now c.loop-i.i (omega arith) c.loop-i.invariant c.needs_priority.ensures c.if-needs_priority.false
-
 pub returns : goal.returns
-returns c = sym (c.loop-i.invariant ∙ ap (some_of prior) (fields-none c.args.row.now c.loop-i.i (omega arith)))
+returns c =
+    let fields = c.fields.result.now in
+    any_from_yields_List (λ (f : Field). between 3 5 f.kind) c.any.new.self _ c.any.result c.any.ensures.ran (YieldsList-from_slice fields (cc))
+    (λ x b q k. search (rules, tests))
+    ∙ some-map (λ (f : rows.Field). between 3 5 f.kind) field_of fields
+    ∙ ap (some_of (λ (f : rows.Field). between 3 5 f.kind)) c.fields.ensures.fields

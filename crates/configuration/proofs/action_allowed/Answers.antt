@@ -1,55 +1,35 @@
--- Right because each turn passes one width: whether all are allowed is whether those left are. Assumes nothing.
-use Prim.Native.Nat.{ℕ}
-use native.Mathlib.Omega.{arith}
-use mathlib.Core.Path.{refl, sym, ◌∙◌}
-use mathlib.Core.List.{List}
-use lib.ListN.{get_or}
-use borrow.Author.Rules.{rules}
-use borrow.Author.Tests.{eq-eqb, ne_eqb, le-leb, lt-leb}
-use Rattle.configuration.proofs.OneRow.{left-refused, left_passed, left-none, width_passes, width-at, action-asked}
+-- Right because widths that are held are tested one by one, and the top byte of four is the first. Assumes nothing.
+use Rattle.std.proofs.Common.{◌≡◌, ◌&&◌, eqb, arith, sym, ◌∙◌, rules, tests}
+use Rattle.std.proofs.lemmas.Iterator.{YieldsList-from_slice}
+use Rattle.std.proofs.lemmas.Iterator.Search.{all_from_yields_List}
+use Rattle.rules.specs.Bytes.{byte, parts}
+use Rattle.rules.specs.Row as rule
+use Rattle.configuration.specs.Passing.{action_passes}
+use Rattle.configuration.proofs.Counted.{few, every-all, was-some, was-none}
+use Rattle.configuration.proofs.OneRow.{action-asked, width_passes}
 use Rattle.configuration.proofs.action_allowed.Goals as goal
+use Rattle.configuration.proofs.action_allowed.Goals.{After-all}
 
-pub returns-then-a-ne1 : goal.returns-then-a-ne1
-returns-then-a-ne1 c =
-    let a : List ℕ = c.args.a.now in
-    let e = action-asked a (omega arith) (record { at = λ i. (c.type_inv.a i).fits }) in
-    sym (e ∙ (rw (ne_eqb (get_or a 0 0) 1 c.if-a-ne1.true)))
+pub returns-in_default : goal.returns-in_default
+returns-in_default c =
+    let a = c.args.a.now in
+    let n = rule.parameter_count a in
+    let e = action-asked a (omega arith) (record { at = c.fits-a }) in
+    sym (e ∙ (rw (was-none (few 1 n (rule.width_bytes a)) (parts n 1 (rule.width_bytes a)) c.in_default.ensures)))
 
-pub overflow_cast-count : goal.overflow_cast-count
-overflow_cast-count c = omega (arith, c.type_inv.a 4)
+-- of widths that are held: each, and the id's top byte
+asked : (c : After-all) → action_passes c.args.a.now ≡ (c.all.result && eqb (byte 0 c.args.a.now) 1)
+asked c =
+    let a = c.args.a.now in
+    let ws = c.in-Some.widths.now in
+    let e = action-asked a (omega arith) (record { at = c.fits-a }) in
+    let some = was-some (few 1 (rule.parameter_count a) (rule.width_bytes a)) c.in-Some.ensures in
+    let each =
+    all_from_yields_List width_passes _ _ c.all.result c.all.ensures.ran (YieldsList-from_slice ws cc) (λ x r q k. search (rules, tests)) in
+    rw (e, some.0, ← some.1, ← every-all width_passes ws, ← each)
 
-pub returns-then-count-gt4 : goal.returns-then-count-gt4
-returns-then-count-gt4 c =
-    let a : List ℕ = c.args.a.now in
-    let e = action-asked a (omega arith) (record { at = λ i. (c.type_inv.a i).fits }) in
-    sym (e ∙ (rw (eq-eqb (get_or a 0 0) 1 c.if-a-ne1.false, lt-leb (get_or a 4 0) 4 c.if-count-gt4.true)))
+pub returns-then-all : goal.returns-then-all
+returns-then-all c = rw (asked (goal.at.returns-then-all c).After-all) (search (rules, tests))
 
-pub loop-i-init : goal.loop-i-init
-loop-i-init c =
-    let a : List ℕ = c.args.a.now in
-    let e = action-asked a (omega arith) (record { at = λ i. (c.type_inv.a i).fits }) in
-    (search rules, e ∙ (rw (eq-eqb (get_or a 0 0) 1 c.if-a-ne1.false, le-leb (get_or a 4 0) 4 c.if-count-gt4.false)))
-
-pub returns-then-not-width_allowed : goal.returns-then-not-width_allowed
-returns-then-not-width_allowed c =
-    let a : List ℕ = c.args.a.now in
-    let n : ℕ = get_or a 4 0 in
-    let r = c.width_allowed in
-    let e = r.ensures ∙ width-at c.loop-i.i a in
-    let q = c.if-not-width_allowed.true in
-    sym (c.loop-i.invariant.1 ∙ left-refused width_passes 1 5 4 n n a c.loop-i.i (omega arith) (omega arith) e q)
-
-pub loop-i-preserved : goal.loop-i-preserved
-loop-i-preserved c =
-    let a : List ℕ = c.args.a.now in
-    let n : ℕ = get_or a 4 0 in
-    let r = c.width_allowed in
-    let e = r.ensures ∙ width-at c.loop-i.i a in
-    let q = c.if-not-width_allowed.false in
-    (omega arith, c.loop-i.invariant.1 ∙ left_passed width_passes 1 5 4 n n a c.loop-i.i (omega arith) (omega arith) e q)
-
-pub returns : goal.returns
-returns c =
-    let a : List ℕ = c.args.a.now in
-    let n : ℕ = get_or a 4 0 in
-    c.all_zero.ensures ∙ sym (c.loop-i.invariant.1 ∙ left-none width_passes 1 5 4 n n a c.loop-i.i 9 (omega arith) refl)
+pub returns-else-all : goal.returns-else-all
+returns-else-all c = rw (asked (goal.at.returns-else-all c).After-all) (search (rules, tests))

@@ -1,53 +1,36 @@
--- Right because each turn passes one field: whether all are allowed is whether those left are. Assumes nothing.
-use Prim.Native.Nat.{ℕ, ◌*◌}
-use native.Mathlib.Omega.{arith}
-use mathlib.Core.Path.{refl, sym, ap, ◌∙◌}
-use mathlib.Core.List.{List}
-use lib.ListN.{get_or}
-use borrow.Author.Rules.{rules}
-use Rattle.rules.specs.Row as rules
-use Rattle.configuration.proofs.OneRow.{left-refused, left_passed, left-none, count_none, count-over, count_fits, field_passes}
-use Rattle.configuration.proofs.OneRow.{fields-refused, fields-asked}
+-- Right because fields that are held are tested one by one. Assumes nothing.
+use Rattle.std.proofs.Common.{◌≡◌, ◌&&◌, eqb, not, length, sym, ap, ◌∙◌, rules, tests}
+use Rattle.std.proofs.lemmas.Iterator.{YieldsList-from_slice}
+use Rattle.std.proofs.lemmas.Iterator.Search.{all_from_yields_List}
+use Rattle.rules.specs.Bytes.{parts}
+use Rattle.rules.specs.Row as rule
+use Rattle.rules.proofs.Formed.{parts-count}
+use Rattle.configuration.specs.Passing.{fields_pass}
+use Rattle.configuration.proofs.Counted.{few, every-all, any-asked, was-some, was-none}
+use Rattle.configuration.proofs.OneRow.{fields-asked, field_passes}
 use Rattle.configuration.proofs.fields_allowed.Goals as goal
+use Rattle.configuration.proofs.fields_allowed.Goals.{After-all}
 
-pub overflow_cast-n : goal.overflow_cast-n
-overflow_cast-n c = omega (arith, c.type_inv.b 7)
+pub returns-in_default : goal.returns-in_default
+returns-in_default c =
+    let b = c.args.b.now in
+    let n = rule.field_count b in
+    sym (fields-asked b ∙ (rw (was-none (few 2 n (rule.field_bytes b)) (parts n 2 (rule.field_bytes b)) c.in_default.ensures)))
 
-pub returns-then-n-eq0 : goal.returns-then-n-eq0
-returns-then-n-eq0 c =
-    let b : List ℕ = c.args.b.now in
-    sym (fields-refused b (count_none (get_or b 7 0) c.if-n-eq0.true))
+-- of fields that are held: each, and whether there are any
+asked : (c : After-all) → fields_pass c.args.b.now ≡ (c.all.result && not (eqb (length c.in-Some.fields.now) 0))
+asked c =
+    let b = c.args.b.now in
+    let n = rule.field_count b in
+    let fs = c.in-Some.fields.now in
+    let some = was-some (few 2 n (rule.field_bytes b)) c.in-Some.ensures in
+    let many = any-asked fs n (ap length some.1 ∙ parts-count n 2 (rule.field_bytes b)) in
+    let each =
+    all_from_yields_List field_passes _ _ c.all.result c.all.ensures.ran (YieldsList-from_slice fs cc) (λ x r q k. search (rules, tests)) in
+    rw (fields-asked b, some.0, many, ← some.1, ← every-all field_passes fs, ← each)
 
-pub returns-then-n-gt4 : goal.returns-then-n-gt4
-returns-then-n-gt4 c =
-    let b : List ℕ = c.args.b.now in
-    sym (fields-refused b (count-over (get_or b 7 0) c.if-n-gt4.true))
+pub returns-then-all : goal.returns-then-all
+returns-then-all c = rw (asked (goal.at.returns-then-all c).After-all) (search (rules, tests))
 
-pub loop-i-init : goal.loop-i-init
-loop-i-init c =
-    let b : List ℕ = c.args.b.now in
-    (search rules, fields-asked b (count_fits (get_or b 7 0) c.if-n-eq0.false c.if-n-gt4.false))
-
-pub returns-then-not-allowed : goal.returns-then-not-allowed
-returns-then-not-allowed c =
-    let b : List ℕ = c.args.b.now in
-    let n : ℕ = get_or b 7 0 in
-    let r = c.allowed in
-    let e = r.ensures ∙ ap rules.field_allowed c.at-f.ensures in
-    let q = c.if-not-allowed.true in
-    sym (c.loop-i.invariant.1 ∙ left-refused field_passes 2 8 8 n (2 * n) b c.loop-i.i (omega arith) (omega arith) e q)
-
-pub loop-i-preserved : goal.loop-i-preserved
-loop-i-preserved c =
-    let b : List ℕ = c.args.b.now in
-    let n : ℕ = get_or b 7 0 in
-    let r = c.allowed in
-    let e = r.ensures ∙ ap rules.field_allowed c.at-f.ensures in
-    let q = c.if-not-allowed.false in
-    (omega arith, c.loop-i.invariant.1 ∙ left_passed field_passes 2 8 8 n (2 * n) b c.loop-i.i (omega arith) (omega arith) e q)
-
-pub returns : goal.returns
-returns c =
-    let b : List ℕ = c.args.b.now in
-    let n : ℕ = get_or b 7 0 in
-    c.all_zero.ensures ∙ sym (c.loop-i.invariant.1 ∙ left-none field_passes 2 8 8 n (2 * n) b c.loop-i.i 16 (omega arith) refl)
+pub returns-else-all : goal.returns-else-all
+returns-else-all c = rw (asked (goal.at.returns-else-all c).After-all) (search (rules, tests))

@@ -1,31 +1,23 @@
--- Right because what is left to be compared after the slots passed, which are the same, decides for all. Assumes nothing.
-use Prim.Native.Nat.{ℕ, ◌*◌, ◌+◌, ◌-◌}
-use native.Mathlib.Omega.{arith}
-use mathlib.Core.Path.{◌≡◌, refl, sym, ◌∙◌}
-use mathlib.Core.Bool.{true, false}
-use Rattle.keys.proofs.Rest.{left-slot, left-none}
+-- Right because each slot is compared with the one in its place. Assumes nothing.
+use Prim.Native.Nat.{ℕ}
+use mathlib.Core.Path.{◌≡◌, refl, ap₂, ◌∙◌}
+use mathlib.Core.List.{List}
+use Rattle.std.specs.List.{list_all, zip}
+use Rattle.std.specs.Iterator.Adapters.{zip_first, zip_second}
+use Rattle.std.specs.Slice.Iter.{iter_rest}
+use Rattle.std.proofs.Common.{rules, tests}
+use Rattle.std.proofs.lemmas.Iterator.{YieldsList-from_slice, YieldsList-from_zip}
+use Rattle.std.proofs.lemmas.Iterator.Search.{all_from_yields_List}
+use Rattle.rules.specs.Key.{same_slot}
+use Rattle.keys.proofs.Rest.{pairs-compared}
 use Rattle.keys.proofs.same_slots.Goals as goal
-
-pub loop-i-init : goal.loop-i-init
-loop-i-init c = (omega arith, refl)
-
-pub returns-then-not-same_slot : goal.returns-then-not-same_slot
-returns-then-not-same_slot c =
-    let a = c.args in
-    let i : ℕ = c.loop-i.i in
-    let w : 35 * i + 4 + 35 - (35 * i + 4) ≡ 35 = omega arith in
-    let e = sym c.same_slot.ensures ∙ c.if-not-same_slot.true in
-    sym (c.loop-i.invariant.1 ∙ left-slot a.stored.now a.key.now (omega arith) (omega arith) i _ false (omega arith) w e)
-
-pub loop-i-preserved : goal.loop-i-preserved
-loop-i-preserved c =
-    let a = c.args in
-    let i : ℕ = c.loop-i.i in
-    let w : 35 * i + 4 + 35 - (35 * i + 4) ≡ 35 = omega arith in
-    let e = sym c.same_slot.ensures ∙ c.if-not-same_slot.false in
-    (omega arith, c.loop-i.invariant.1 ∙ left-slot a.stored.now a.key.now (omega arith) (omega arith) i _ true (omega arith) w e)
 
 pub returns : goal.returns
 returns c =
-    let a = c.args in
-    sym (c.loop-i.invariant.1 ∙ left-none a.stored.now a.key.now (omega arith) (omega arith) c.loop-i.i (omega arith))
+    let one : iter_rest (zip_first c.zip.result) ≡ c.slots.result.now = cc in
+    let two : iter_rest (zip_second c.zip.result) ≡ c.slots-2.result.now = cc in
+    all_from_yields_List (λ (p : List ℕ × List ℕ). same_slot p.0 p.1) c.all.new.self _ c.all.result c.all.ensures.ran
+    (YieldsList-from_zip (YieldsList-from_slice c.slots.result.now one) (YieldsList-from_slice c.slots-2.result.now two))
+    (λ x b q k. search (rules, tests))
+    ∙ ap₂ (λ (xs ys : List (List ℕ)). list_all (λ (p : List ℕ × List ℕ). same_slot p.0 p.1) (zip xs ys)) c.slots.ensures c.slots-2.ensures
+    ∙ pairs-compared c.args.stored.now c.args.rest.now 4 0 c.told-stored c.told-rest refl

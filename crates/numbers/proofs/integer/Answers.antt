@@ -1,33 +1,26 @@
 -- Right because each turn puts one byte more below what was read. Assumes nothing.
-use Prim.Native.Nat.{ℕ}
 use native.Mathlib.Omega.{arith}
-use mathlib.Core.Path.{◌≡◌, sym, ap, ◌∙◌}
-use borrow.Author.Rules.{rules}
-use Rattle.rules.specs.Bytes.{int}
+use Prim.Native.Nat.{ℕ, ◌+◌, ◌<◌}
+use mathlib.Core.Path.{◌≡◌, sym, ◌∙◌}
+use lib.ListN.{drop, get_or, length-take, length-drop}
+use lib.Seq.{get_or-take, get_or-drop}
 use Rattle.buffers.proofs.Words.{pow-seven}
 use Rattle.numbers.proofs.Bytes.{int-none, int-next, below_next}
 use Rattle.numbers.proofs.integer.Goals as goal
 
-pub loop-k-init : goal.loop-k-init
-loop-k-init c = (search rules, omega arith, sym (int-none c.args.at c.args.b.now))
+pub loop-digit-init : goal.loop-digit-init
+loop-digit-init c = (omega arith, sym (int-none c.args.at c.args.b.now))
 
 pub overflow_mul-x : goal.overflow_mul-x
-overflow_mul-x c = record { fits = omega (arith, pow-seven c.loop-k.k (omega arith)) }
+overflow_mul-x c = record { fits = omega (arith, pow-seven c.loop-digit.digit-index (omega arith)) }
 
-pub overflow_add-x : goal.overflow_add-x
-overflow_add-x c = record { fits = omega (arith, pow-seven c.loop-k.k (omega arith)) }
-
-pub loop-k-preserved : goal.loop-k-preserved
-loop-k-preserved c =
+pub loop-digit-preserved : goal.loop-digit-preserved
+loop-digit-preserved c =
     let a = c.args in
-    let k : ℕ = c.loop-k.k in (
-      omega arith,
-      below_next c.loop-k.x c.wide.result k c.loop-k.invariant.1 c.wide.ensures.1,
+    let k : ℕ = c.loop-digit.digit-index in
+    let h : k < a.n = let g = simp (length-take, length-drop) at c.loop-digit-test.true in omega (arith, g) in
+    let e : c.from.result ≡ get_or a.b.now (a.at + k) 0 =
+    c.from.ensures ∙ get_or-take _ (drop a.at a.b.now) k 0 (omega arith) ∙ get_or-drop a.at a.b.now k 0 in (
+      below_next c.loop-digit.x c.from.result k c.loop-digit.invariant.0 (omega arith),
       omega (arith, int-next a.at k a.b.now (omega arith)),
     )
-
-pub returns : goal.returns
-returns c =
-    let a = c.args in
-    let e : c.loop-k.k ≡ a.n = omega arith in
-    c.loop-k.invariant.2 ∙ ap (λ (m : ℕ). int a.at m a.b.now) e

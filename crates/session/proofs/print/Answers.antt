@@ -12,7 +12,8 @@ use Rattle.transcript.proofs.Fitting.{line_in-length}
 use Rattle.session.specs.Session.{line_of_call}
 use Rattle.session.proofs.print.Goals as goal
 
-module _ (ordinal : ℕ) (frame answer out : List ℕ) (end size count : ℕ) (part' : List ℕ) (room : end + 112_980 ≤ length out) (is : size ≡ record_size frame) where
+module _ (ordinal : ℕ) (frame answer out : List ℕ) (end size count : ℕ) (part' : List ℕ)
+    (room : end + 112_980 ≤ length out) (is : size ≡ record_size frame) where
   -- the part that is lent for the line
   abbrev lent : ℕ
   lent = end + 112_980 - end

@@ -2,7 +2,7 @@
 use Prim.Native.Nat.{◌-◌}
 use mathlib.Core.Path.{◌≡◌}
 use mathlib.Core.List.{◌++◌}
-use Rattle.rules.specs.Bytes.{parts}
+use lib.ListN.{length}
 use Rattle.rules.specs.Key.{short_key}
 use Rattle.keys.specs.Rest.{ProbeOf}
 use Rattle.store.specs.Store.{place}
@@ -11,8 +11,8 @@ use Rattle.store.proofs.find.Given as goal
 
 abbrev pub invariant-loop-i : goal.invariant-loop-i
 invariant-loop-i l =
-    ProbeOf l.key l.place l.word
-    × (place (short_key (l.table ++ l.key)) (parts l.count 220 l.store) ≡ searched (record { count = l.count }) l.store (short_key (l.table ++ l.key)) l.i)
+    ProbeOf l.rest l.probe.at l.probe.word
+    × (place (short_key (l.table ++ l.rest)) l.entries ≡ searched l.entries (short_key (l.table ++ l.rest)) l.i)
 
 abbrev pub decreases-loop-i : goal.decreases-loop-i
-decreases-loop-i l = l.count - l.i
+decreases-loop-i l = length l.entries - l.i

@@ -1,33 +1,29 @@
 -- Right because the count so far and the entries of the table that are left make up all of them. Assumes nothing.
-use Prim.Native.Nat.{ℕ, ◌<◌}
+use Prim.Native.Nat.{ℕ}
 use native.Mathlib.Omega.{arith}
 use mathlib.Core.Path.{sym, ap, ◌∙◌}
 use mathlib.Core.List.{List}
 use lib.ListN.{length}
 use Rattle.store.proofs.Scan.{left-hit, left-miss, left-none, held-left}
 use Rattle.store.proofs.held.Goals as goal
-use Rattle.store.proofs.held.Goals.{then-integer-table, else-integer-table}
+use Rattle.store.proofs.held.Goals.{then-is_in, else-is_in}
 
-pub loop-i-init : goal.loop-i-init
-loop-i-init c = let a = c.args in (omega arith, omega arith, held-left a.table a.tables a.store.now)
+pub loop-e-init : goal.loop-e-init
+loop-e-init c = (omega arith, held-left c.args.table c.args.entries.now)
 
-pub loop-i-preserved : goal.loop-i-preserved
-loop-i-preserved c =
-    let a = c.args in
-    let s : List ℕ = a.store.now in
-    let i : ℕ = c.loop-i.i in
-    let h : i < a.tables.count = omega arith in
-    let e = c.integer.ensures in
-    elim c.if-integer-table.branch [
-      | then-integer-table w ↦
-          let p = ap length (left-hit a.table a.tables s i h (sym e ∙ w.if-integer-table.true)) in
-          (omega arith, omega arith, omega (arith, p, w.n-is, c.loop-i.invariant.2))
-      | else-integer-table w ↦
-          let p = ap length (left-miss a.table a.tables s i h (λ q. w.if-integer-table.false (e ∙ q))) in
-          (omega arith, omega arith, omega (arith, p, w.n-is, c.loop-i.invariant.2))
+pub loop-e-preserved : goal.loop-e-preserved
+loop-e-preserved c =
+    let es : List (List ℕ) = c.args.entries.now in
+    let i : ℕ = c.loop-e.e-index in
+    elim c.if-is_in.branch [
+      | then-is_in w ↦
+          let p = ap length (left-hit c.args.table es i (omega arith) (sym c.is_in.ensures ∙ w.if-is_in.true)) in
+          (omega (arith, w.n-is), omega (arith, p, w.n-is, c.loop-e.invariant.1))
+      | else-is_in w ↦
+          let p = ap length (left-miss c.args.table es i (omega arith) (sym c.is_in.ensures ∙ w.if-is_in.false)) in
+          (omega (arith, w.n-is), omega (arith, p, w.n-is, c.loop-e.invariant.1))
     ]
 
 pub returns : goal.returns
 returns c =
-    let a = c.args in
-    omega (arith, c.loop-i.invariant.2, ap length (left-none a.table a.tables a.store.now c.loop-i.i (omega arith)))
+    omega (arith, c.loop-e.invariant.1, ap length (left-none c.args.table c.args.entries.now c.loop-e.e-index (omega arith)))

@@ -22,9 +22,9 @@ returns c =
     let l : length moved ≡ k = length-window at k s (omega arith) in
     let n : length (splice s (at + 220) moved) ≡ length s = length-splice s (at + 220) moved (omega arith) in
     let both : length (e ++ moved) ≡ length e + length moved = length-append e moved in
-    let q : length c.move_up.new.s ≡ length s = ap length c.move_up.ensures ∙ n in
-    let back = part-copied c.move_up.new.s w.new.dst e at (at + 220 - at) w.ensures (omega arith) (omega arith)
-    ∙ ap (λ (x : List ℕ). splice x at e) c.move_up.ensures
+    let q : length c.shift.new.s ≡ length s = ap length c.shift.ensures ∙ n in
+    let back = part-copied c.shift.new.s w.new.dst e at (at + 220 - at) w.ensures (omega arith) (omega arith)
+    ∙ ap (λ (x : List ℕ). splice x at e) c.shift.ensures
     ∙ splice-before s at (at + 220) moved e (omega arith) (omega arith) in
     rw (back, add-one) (record {
       holds = parts-open a.i a.tables.count 220 s e k (omega arith) (omega arith) (omega arith) (omega arith);

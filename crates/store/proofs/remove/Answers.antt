@@ -17,7 +17,7 @@ returns c =
     let moved : List ℕ = take k (drop (to + 220) s) in
     let l : length moved ≡ k = length-window (to + 220) k s (omega arith) in
     let n : suc (a.tables.count - 1) ≡ a.tables.count = omega arith in
-    rw c.move_down.ensures (record {
+    rw c.shift.ensures (record {
       holds = rw n at (parts-close a.i (a.tables.count - 1) 220 k s (omega arith) (omega arith) (omega arith));
       few = omega arith;
       room = length-splice s to moved (omega arith);

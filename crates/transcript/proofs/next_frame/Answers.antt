@@ -1,21 +1,13 @@
--- Right because the two tests are those of the definition. Assumes nothing.
-use native.Mathlib.Omega.{arith}
-use Rattle.transcript.proofs.Input.{int-two, no_length, breaks-off, whole}
+-- Right because a frame is found where its length and its bytes are in the input. Assumes nothing.
+use Rattle.std.proofs.Common.{◌∙◌}
+use Rattle.transcript.proofs.Input.{no_length, read_two, frame_read}
 use Rattle.transcript.proofs.next_frame.Goals as goal
 
-pub returns-then-input-lt2 : goal.returns-then-input-lt2
-returns-then-input-lt2 c = record { found = no_length c.args.input.now c.if-input-lt2.true; within = tt }
-
-pub overflow_add-end : goal.overflow_add-end
-overflow_add-end c =
-    let few = int-two 0 c.args.input.now (λ i. (c.type_inv.input i).fits) (omega arith) in
-    record { fits = omega (arith, c.integer.ensures, few) }
-
-pub returns-then-input-end : goal.returns-then-input-end
-returns-then-input-end c =
-    record { found = breaks-off c.args.input.now c.integer.result c.integer.ensures (omega arith) c.if-input-end.true; within = tt }
+pub returns-in_default : goal.returns-in_default
+returns-in_default c = no_length c.args.input.now c.in_default.len_below
 
 pub returns : goal.returns
 returns c =
-    let frame = whole c.args.input.now c.integer.result c.integer.ensures (omega arith) c.if-input-end.false in
-    record { found = frame; within = (omega arith, c.if-input-end.false) }
+    let input = c.args.input.now in
+    let n = read_two 0 c.from-length.result input c.in-len2-up.len_at_least (c.from-length.ensures ∙ c.from_be_bytes.ensures) in
+    frame_read input c.from-length.result c.get.result c.in-len2-up.len_at_least n c.get.ensures.lookup

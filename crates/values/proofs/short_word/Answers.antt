@@ -20,14 +20,14 @@ returns-then-n-eq0 c =
     c.word.ensures ∙ ap (λ (l : List ℕ). little_endian (part a.at 8 l)) (sym (short-unused a.v.now z))
 
 pub loop-k-init : goal.loop-k-init
-loop-k-init c = (omega arith, search rules, refl)
+loop-k-init c = (search rules, refl)
 
 pub overflow_mul-x : goal.overflow_mul-x
-overflow_mul-x c = record { fits = omega (arith, pow-seven (8 - c.loop-k.k) (omega arith), c.loop-k.invariant.1) }
+overflow_mul-x c = record { fits = omega (arith, pow-seven (8 - c.loop-k.k) (omega arith), c.loop-k.invariant.0) }
 
 pub overflow_add-x : goal.overflow_add-x
 overflow_add-x c =
-    record { fits = omega (arith, pow-seven (8 - c.loop-k.k) (omega arith), c.loop-k.invariant.1, c.wide.ensures.1) }
+    record { fits = omega (arith, pow-seven (8 - c.loop-k.k) (omega arith), c.loop-k.invariant.0) }
 
 pub loop-k-preserved : goal.loop-k-preserved
 loop-k-preserved c =
@@ -40,11 +40,11 @@ loop-k-preserved c =
     let l : length form ≡ 17 = padded-length (part first (n + 1 - first) a.v.now) few in
     let j : ℕ = c.loop-k.k - 1 in
     let s : c.loop-k.k ≡ j + 1 = omega arith in
-    let w = word_more form a.at j c.loop-k.x c.wide.result (omega arith) (omega arith)
-    c.wide.ensures.1 (c.wide.ensures.0 ∙ c.short_digit.ensures)
-    (subst (λ (z : ℕ). c.loop-k.x < 256 ^ (8 - z)) s c.loop-k.invariant.1)
-    (subst (λ (z : ℕ). c.loop-k.x ≡ little_endian (take (8 - z) (drop (a.at + z) form))) s c.loop-k.invariant.2) in
-    (omega arith, w.0, w.1)
+    let w = word_more form a.at j c.loop-k.x c.from.result (omega arith) (omega arith)
+    (omega arith) (c.from.ensures ∙ c.short_digit.ensures)
+    (subst (λ (z : ℕ). c.loop-k.x < 256 ^ (8 - z)) s c.loop-k.invariant.0)
+    (subst (λ (z : ℕ). c.loop-k.x ≡ little_endian (take (8 - z) (drop (a.at + z) form))) s c.loop-k.invariant.1) in
+    w
 
 pub returns : goal.returns
 returns c =
@@ -54,7 +54,7 @@ returns c =
     let form : List ℕ = Form a.v.now n first in
     let e : c.loop-k.k ≡ 0 = omega arith in
     let f : a.at + 0 ≡ a.at = omega arith in
-    c.loop-k.invariant.2 ∙ ap (λ (z : ℕ). little_endian (take (8 - z) (drop (a.at + z) form))) e
+    c.loop-k.invariant.1 ∙ ap (λ (z : ℕ). little_endian (take (8 - z) (drop (a.at + z) form))) e
     ∙ ap (λ (z : ℕ). little_endian (take 8 (drop z form))) f
     ∙ ap (λ (l : List ℕ). little_endian (part a.at 8 l))
     (sym (short-from a.v.now n first (omega arith) c.digit_count-n.ensures (omega arith) c.significant-first.ensures.digits))

@@ -1,5 +1,5 @@
 -- Right because each turn puts one byte of the shortest form more below what was read, from the last of the eight down. Assumes nothing.
-use Prim.Native.Nat.{ℕ, ◌+◌, ◌-◌, ◌^◌, ◌≤◌, ◌<◌}
+use Prim.Native.Nat.{ℕ, ◌+◌, ◌-◌, ◌^◌, ◌<◌}
 use mathlib.Core.Path.{◌≡◌}
 use mathlib.Core.List.{List}
 use lib.ListN.{take, drop}
@@ -13,7 +13,4 @@ abbrev pub Form : List ℕ → ℕ → ℕ → List ℕ
 Form v n first = padded (part first (n + 1 - first) v)
 
 abbrev pub invariant-loop-k : goal.invariant-loop-k
-invariant-loop-k l = (l.k ≤ 8) × (l.x < 256 ^ (8 - l.k)) × (l.x ≡ little_endian (take (8 - l.k) (drop (l.at + l.k) (Form l.v l.n l.first))))
-
-abbrev pub decreases-loop-k : goal.decreases-loop-k
-decreases-loop-k l = l.k
+invariant-loop-k l = (l.x < 256 ^ (8 - l.k)) × (l.x ≡ little_endian (take (8 - l.k) (drop (l.at + l.k) (Form l.v l.n l.first))))

@@ -2,7 +2,7 @@
 -- Assumes nothing.
 use Prim.Native.Nat.{ℕ, ◌+◌, ◌*◌, ◌-◌}
 use native.Mathlib.Omega.{arith}
-use mathlib.Core.Path.{◌≡◌, refl, ap, ◌∙◌}
+use mathlib.Core.Path.{◌≡◌, ap, ◌∙◌}
 use mathlib.Core.List.{List, ◌++◌, map}
 use lib.ListN.{length, take, drop}
 use Rattle.rules.specs.Bytes.{concat, part, parts}
@@ -13,7 +13,7 @@ use Rattle.values.proofs.InPlace.{replaced-none, replaced-next, replaced-all, ac
 use Rattle.values.proofs.shorten_action.Goals as goal
 
 pub loop-i-init : goal.loop-i-init
-loop-i-init c = (omega arith, refl, replaced-none short 17 _ _ 72)
+loop-i-init c = replaced-none short 17 _ _ 72
 
 pub loop-i-preserved : goal.loop-i-preserved
 loop-i-preserved c =
@@ -22,12 +22,9 @@ loop-i-preserved c =
     let lk : length k ≡ 72 = part_length 148 72 a.entry.now (omega arith) in
     let m = c.copy in
     let s = c.shorten_at in
-    let i : ℕ = c.loop-i.i in (
-      omega arith,
-      s.auto.dst ∙ c.loop-i.invariant.1,
-      replaced-next short 17 k a.dst.now m.new.dst m.ensures short-length (17 * i + 4) (17 * (i - 1) + 4) (4 - i) (4 - (i - 1))
-          c.loop-i.dst s.new.dst (omega arith) (omega arith) (omega arith) c.loop-i.invariant.2 s.ensures,
-    )
+    let i : ℕ = c.loop-i.i in
+    replaced-next short 17 k a.dst.now m.new.dst m.ensures short-length (17 * i + 4) (17 * (i - 1) + 4) (4 - i) (4 - (i - 1))
+    c.loop-i.dst s.new.dst (omega arith) (omega arith) (omega arith) c.loop-i.invariant s.ensures
 
 pub returns : goal.returns
 returns c =
@@ -37,6 +34,6 @@ returns c =
     let m = c.copy in
     let e : c.loop-i.i ≡ 0 = omega arith in
     replaced-all short 17 k a.dst.now m.new.dst m.ensures (17 * c.loop-i.i + 4) (4 - c.loop-i.i) c.loop-i.dst (omega arith)
-    c.loop-i.invariant.2
+    c.loop-i.invariant
     ∙ ap (λ (i : ℕ). splice a.dst.now 0 (take (17 * i + 4) k ++ concat (map short (parts (4 - i) 17 (drop (17 * i + 4) k))))) e
     ∙ ap (splice a.dst.now 0) (action-parts a.entry.now (omega arith))

@@ -1,16 +1,10 @@
 -- Right because all bytes are copied, and each turn brings one more of the slots into shortest form in place, the last first.
 -- Assumes nothing.
-use Prim.Native.Nat.{◌+◌, ◌*◌, ◌-◌, ◌≤◌}
-use mathlib.Core.Path.{◌≡◌}
-use lib.ListN.{length}
+use Prim.Native.Nat.{◌+◌, ◌*◌, ◌-◌}
 use Rattle.rules.specs.Bytes.{part}
 use Rattle.rules.specs.Key.{short_slot}
 use Rattle.values.proofs.InPlace.{Replaced}
 use Rattle.values.proofs.shorten_key.Given as goal
 
 abbrev pub invariant-loop-i : goal.invariant-loop-i
-invariant-loop-i l =
-    (l.i ≤ 4) × (length l.dst ≡ length l.initial.dst) × Replaced short_slot 35 (part 0 148 l.entry) l.initial.dst (35 * l.i + 8) (4 - l.i) l.dst
-
-abbrev pub decreases-loop-i : goal.decreases-loop-i
-decreases-loop-i l = l.i
+invariant-loop-i l = Replaced short_slot 35 (part 0 148 l.entry) l.initial.dst (35 * l.i + 8) (4 - l.i) l.dst

@@ -27,5 +27,5 @@ returns c =
     let d : List ℕ = a.dst.now in
     let first : ℕ = c.significant-first.result in
     let e : stripped (part (a.at + 1) a.n d) ≡ part (a.at + first) (a.n + 1 - first) d = c.significant-first.ensures.digits in
-    let moved : c.move_down.new.s ≡ splice d (a.at + 1) (part (a.at + first) (a.n + 1 - first) d) =
-    c.move_down.ensures in record { bound = omega arith; count = sym (ap length e ∙ part_length (a.at + first) (a.n + 1 - first) d (omega arith)); bytes = moved ∙ ap (splice d (a.at + 1)) (sym e) }
+    let moved : c.shift.new.s ≡ splice d (a.at + 1) (part (a.at + first) (a.n + 1 - first) d) =
+    c.shift.ensures in record { bound = omega arith; count = sym (ap length e ∙ part_length (a.at + first) (a.n + 1 - first) d (omega arith)); bytes = moved ∙ ap (splice d (a.at + 1)) (sym e) }

@@ -22,23 +22,23 @@ nonzero_rem-result c = omega (arith, c.power.ensures, some c.args.k)
 
 pub returns-then-k-lt8 : goal.returns-then-k-lt8
 returns-then-k-lt8 c =
-    let bytes : Bytes c.args.v.now = record { at = λ i. (c.type_inv.v i).fits } in
-    ap₂ (λ (x p : ℕ). eqb (x % p) 0) c.word-word.ensures c.power.ensures ∙ before-eight c.args.v.now c.args.k bytes (omega arith)
+    let bytes : Bytes c.args.v.now = record { at = c.fits-v } in
+    ap₂ (λ (x p : ℕ). eqb (x % p) 0) c.word-first.ensures c.power.ensures ∙ before-eight c.args.v.now c.args.k bytes (omega arith)
 
-pub returns-then-word-ne0 : goal.returns-then-word-ne0
-returns-then-word-ne0 c =
+pub nonzero_rem-result-then-first-eq0 : goal.nonzero_rem-result-then-first-eq0
+nonzero_rem-result-then-first-eq0 c = omega (arith, c.power-then-first-eq0.ensures, some (c.args.k - 8))
+
+pub returns-then-first-eq0 : goal.returns-then-first-eq0
+returns-then-first-eq0 c =
     let v : List ℕ = c.args.v.now in
-    let bytes : Bytes v = record { at = λ i. (c.type_inv.v i).fits } in
-    let z : eqb (little_endian (part 1 8 v)) 0 ≡ false = ne_eqb _ _ (λ e. c.if-word-ne0.true (c.word-word.ensures ∙ e)) in
-    sym (before_more v c.args.k bytes false (omega arith) (omega arith) z)
-
-pub nonzero_rem-result-2 : goal.nonzero_rem-result-2
-nonzero_rem-result-2 c = omega (arith, c.power-2.ensures, some (c.args.k - 8))
-
-pub returns : goal.returns
-returns c =
-    let v : List ℕ = c.args.v.now in
-    let bytes : Bytes v = record { at = λ i. (c.type_inv.v i).fits } in
-    let z : eqb (little_endian (part 1 8 v)) 0 ≡ true = eq-eqb _ _ (sym c.word-word.ensures ∙ c.if-word-ne0.false) in
-    ap₂ (λ (x p : ℕ). eqb (x % p) 0) c.word.ensures c.power-2.ensures
+    let bytes : Bytes v = record { at = c.fits-v } in
+    let z : eqb (little_endian (part 1 8 v)) 0 ≡ true = eq-eqb _ _ (sym c.word-first.ensures ∙ c.if-first-eq0.true) in
+    ap₂ (λ (x p : ℕ). eqb (x % p) 0) c.word.ensures c.power-then-first-eq0.ensures
     ∙ sym (before_more v c.args.k bytes true (omega arith) (omega arith) z)
+
+pub returns-else-first-eq0 : goal.returns-else-first-eq0
+returns-else-first-eq0 c =
+    let v : List ℕ = c.args.v.now in
+    let bytes : Bytes v = record { at = c.fits-v } in
+    let z : eqb (little_endian (part 1 8 v)) 0 ≡ false = ne_eqb _ _ (λ e. c.if-first-eq0.false (c.word-first.ensures ∙ e)) in
+    ne_eqb _ _ c.if-first-eq0.false ∙ sym (before_more v c.args.k bytes false (omega arith) (omega arith) z)

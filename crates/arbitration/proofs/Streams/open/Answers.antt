@@ -1,15 +1,19 @@
--- Right because what is stored in the stream's place is what an OPEN with its reason leaves there. Assumes nothing.
-use mathlib.Core.Path.{◌≡◌}
-use lib.ListN.{length}
-use borrow.Author.Rules.{rules}
-use Rattle.arbitration.specs.Meaning.{records_of}
-use Rattle.rules.proofs.Lists.{length-mapped}
-use Rattle.arbitration.proofs.EventStores.{opens-stream}
+-- Right because the stream becomes open where nothing refuses it. Assumes nothing.
+use mathlib.Core.Path.{sym, ◌∙◌}
+use Rattle.arbitration.specs.Meaning.{streams_of, records_of}
+use Rattle.arbitration.proofs.Events.{opens}
 use Rattle.arbitration.proofs.Streams.open.Goals as goal
 
-pub returns : goal.returns
+pub returns-then-is_ok : goal.returns-then-is_ok
 unfolding records_of
-returns c =
+returns-then-is_ok c =
     let a = c.args in
-    let n : length a.self.streams ≡ 32 = search (rules, length-mapped) in
-    opens-stream a.self n a.stream c.after_open.result c.binding-b.ensures c.open_reason-reason.ensures c.after_open.ensures
+    let r = c.open_reason-result in
+    opens (streams_of a.self) a.stream c.binding.ensures r.result r.ensures (rw (sym c.is_ok.ensures.value ∙ c.if-is_ok.true) c.put.ensures)
+
+pub returns-else-is_ok : goal.returns-else-is_ok
+unfolding records_of
+returns-else-is_ok c =
+    let a = c.args in
+    let r = c.open_reason-result in
+    opens (streams_of a.self) a.stream c.binding.ensures r.result r.ensures (rw (sym c.is_ok.ensures.value ∙ c.if-is_ok.false))

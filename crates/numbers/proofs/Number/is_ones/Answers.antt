@@ -3,27 +3,19 @@ use Prim.Native.Nat.{ℕ, ◌+◌, ◌^◌, ◌<◌}
 use native.Mathlib.Omega.{arith}
 use mathlib.Core.Path.{◌≡◌, sym, ◌∙◌}
 use lib.Dec.{lit≤}
-use lib.Pow.{pow_pos, pow-lt}
+use lib.Pow.{pow-lt}
 use borrow.Author.Tests.{ne_eqb}
 use Rattle.numbers.specs.Whole.{whole_of}
-use Rattle.numbers.proofs.EquivalentTests.{eqb-iff}
 use Rattle.numbers.proofs.Halves.{whole_below}
 use Rattle.numbers.proofs.Number.is_ones.Goals as goal
 
-pub returns-then-width-gt128 : goal.returns-then-width-gt128
-returns-then-width-gt128 c =
+pub returns-else-width-eq128 : goal.returns-else-width-eq128
+returns-else-width-eq128 c =
     let a = c.args in
-    let p : 2 ^ 128 < 2 ^ a.width = pow-lt c.if-width-gt128.true in
+    let w : 128 < a.width = omega arith in
+    let p : 2 ^ 128 < 2 ^ a.width = pow-lt w in
     let h : whole_of a.self < 2 ^ 128 = whole_below a.self 128 (omega arith) (omega arith) (lit≤ tt) in
-    sym (ne_eqb (whole_of a.self + 1) (2 ^ a.width) (past (whole_of a.self) (2 ^ 128) (2 ^ a.width) h p))
+    ne_eqb a.width 128 c.if-width-eq128.false ∙ sym (ne_eqb (whole_of a.self + 1) (2 ^ a.width) (past (whole_of a.self) (2 ^ 128) (2 ^ a.width) h p))
   where
     past : (x p q : ℕ) → x < p → p < q → x + 1 ≡ q → ⊥
     past x p q g k e = omega arith
-
-pub returns : goal.returns
-returns c =
-    let a = c.args in
-    let e = c.ones.ensures in
-    c.equals.ensures
-    ∙ eqb-iff (whole_of a.self) (whole_of c.ones.result) (whole_of a.self + 1) (2 ^ a.width)
-    (λ h. omega (arith, pow_pos a.width)) (λ h. omega arith)

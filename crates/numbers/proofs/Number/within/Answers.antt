@@ -1,18 +1,9 @@
--- Right because a mask is applied to each half by itself. Assumes nothing.
-use native.Mathlib.Omega.{arith}
-use Rattle.numbers.proofs.Bits.{high-outside, high-within}
+-- Right because the recursion over the bits is the machine's conjunction. Assumes nothing.
+use mathlib.Core.Path.{sym}
+use Rattle.numbers.specs.Whole.{whole_of}
+use Rattle.numbers.proofs.Bits.{within-and}
 use Rattle.numbers.proofs.Number.within.Goals as goal
-
-pub returns-then-self-mask : goal.returns-then-self-mask
-returns-then-self-mask c =
-    let a = c.args in
-    let x = a.self in
-    let m = a.mask in
-    high-outside x.high x.low m.high m.low (omega arith) (omega arith) (omega arith) c.if-self-mask.true
 
 pub returns : goal.returns
 returns c =
-    let a = c.args in
-    let x = a.self in
-    let m = a.mask in
-    high-within x.high x.low m.high m.low (omega arith) (omega arith) (omega arith) c.if-self-mask.false
+    rw (c.from.ensures, c.from-2.ensures, c.from-3.ensures) (sym (within-and 128 (whole_of c.args.self) (whole_of c.args.mask) (rw c.from.ensures at c.from.type_inv)))

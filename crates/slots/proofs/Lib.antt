@@ -1,2 +1,0 @@
--- Laws of one slot.
-pub mod Slots
