@@ -28,7 +28,12 @@ fn on_streams(agent: &mut Agent, event: StreamEvent, answer: &mut [u8]) -> Resul
 {
     let left = stream_events::carry_out(agent.device, agent.streams, event);
     agent.streams = left.streams;
-    stream_events::respond(&agent.streams, left.result, left.notify, answer);
+    stream_events::respond(
+        &agent.streams,
+        rules::number(left.result),
+        left.notify,
+        answer,
+    );
     left.result
 }
 

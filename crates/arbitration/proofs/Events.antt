@@ -1,14 +1,14 @@
 -- What an event leaves, by what its stream is and by what it came to. Assumes nothing.
 use Rattle.std.specs.Prelude.{Result, Ok, Err, is_ok, if◌then◌else◌}
-use Prim.Native.Nat.{ℕ}
+use Prim.Native.Nat.{ℕ, ◌≤◌}
 use native.Mathlib.Omega.{arith}
 use mathlib.Core.Path.{◌≡◌, refl, sym, ap, ◌∙◌}
-use mathlib.Core.Bool.{Bool, true, false}
+use mathlib.Core.Bool.{Bool, true, false, ◌&&◌}
 use mathlib.Core.List.{[]}
-use lib.Dec.{eqb}
-use lib.ListN.{set}
+use lib.Dec.{eqb, ltb}
+use lib.ListN.{length, set, get_or-eq_default}
 use lib.Seq.{set-get_or}
-use borrow.Author.Tests.{eq-eqb, ne_eqb}
+use borrow.Author.Tests.{eq-eqb, ne_eqb, ltb-false}
 use Rattle.rules.specs.declared.Reason.{Reason}
 use Rattle.rules.specs.Named.{reason_of}
 use Rattle.rules.specs.Reason.{first}
@@ -70,11 +70,28 @@ module _ (e : Streams) (s : ℕ) where
 
   -- ---- OPEN
 
+  -- a stream past the last is not open
+  open-within : length e.streams ≡ 32 → {x : Stream} → x ≡ stream_at e s → ltb s 32 && is_open x ≡ is_open x
+  open-within n {x} h = go (ltb s 32) (ltb-false s 32)
+    where
+      go : (b : Bool) → (b ≡ false → 32 ≤ s) → b && is_open x ≡ is_open x
+      go true g = refl
+      go false g =
+          let past : length e.streams ≤ s = omega (arith, g refl) in
+          sym (ap is_open (h ∙ get_or-eq_default e.streams closed past))
+
   pub opens : {x : Stream} → x ≡ stream_at e s → (o : Result (Unit {0}) Reason) → reason_of o ≡ (if is_open x then 3 else 0)
       → {e' : Streams} → e' ≡ (if is_ok o then become e s unbound else e)
       → record { after = e'; reason = reason_of o; records = [] } ≡ open_stream e s
   unfolding open_stream first
   opens h o q d = rw (d, ← h, ← q, accepted o)
+
+  -- the same of the reason by the stream's number
+  pub opens-within : length e.streams ≡ 32 → {x : Stream} → x ≡ stream_at e s
+      → (o : Result (Unit {0}) Reason) → reason_of o ≡ (if ltb s 32 && is_open x then 3 else 0)
+      → {e' : Streams} → e' ≡ (if is_ok o then become e s unbound else e)
+      → record { after = e'; reason = reason_of o; records = [] } ≡ open_stream e s
+  opens-within n h o q d = opens h o (rw (open-within n h) at q) d
 
   -- ---- CLOSE
 

@@ -189,7 +189,7 @@ impl Streams {
     pub fn open(mut self, stream: u8) -> Outcome
         ensures { outcome_of result ≡ rules.open_stream (streams_of self) stream }
     {
-        let result = election::open_reason(self.binding(stream));
+        let result = election::open_reason(stream, self.binding(stream));
         if result.is_ok() {
             self.put(stream, Binding::Open);
         }
@@ -231,7 +231,7 @@ impl Streams {
         ensures { ScanOf result (streams_of self.now) stream role (id_of id) }
     {
         let own = self.binding(stream);
-        let role = own.role().unwrap_or(role);
+        let role = own.role_or(role);
         Scan {
             own,
             members: self.members(role),

@@ -22,9 +22,7 @@ use Rattle.rules.proofs.Shortest.{key-of-short}
 use Rattle.rules.proofs.Tables.{revised, distinct-map, distinct-keep, distinct_snoc}
 use Rattle.store.specs.Store.{place, without, changed_at}
 use Rattle.store.proofs.KeyPlace.{modify-place, delete-place, place-stored}
-use Rattle.rules.specs.declared.Reason.{Reason}
-use Rattle.rules.specs.Named.{number_of, reason_of}
-use Rattle.judging.specs.Verdict.{judge_in, Justified}
+use Rattle.judging.specs.Verdict.{judge_in, numbered, Justified}
 use Rattle.judging.specs.declared.Change.{Change}
 use Rattle.judging.specs.declared.Change.TheVariants.{Insert, Modify, Delete}
 use Rattle.changes.specs.Effect.{effect}
@@ -64,13 +62,13 @@ module _ (es : List (List ℕ)) (u : List ℕ) (long : length u ≡ 221) (d : Di
   whole : length (drop 1 u) ≡ 220
   whole = omega (arith, length-drop 1 u)
 
-  pub effect-ruled : (v : Result Change Reason) → Justified v (byte 0 u) (drop 1 u) es
-      → effect v (drop 1 u) es ≡ (apply (reason_of v) (update_of u) t).entries
+  pub effect-ruled : {R : Type 0} (number : R → ℕ) (v : Result Change R) → Justified number v (byte 0 u) (drop 1 u) es
+      → effect v (drop 1 u) es ≡ (apply (numbered number v) (update_of u) t).entries
   unfolding apply perform
-  effect-ruled (Err r) j = rw (ne_eqb (number_of r) 0 (λ z. omega arith))
-  effect-ruled (Ok Insert) j = rw j
-  effect-ruled (Ok (Modify i)) j = rw (j.0, j.1) (modified (drop 1 u) es i whole d j.2)
-  effect-ruled (Ok (Delete i)) j = rw (j.0, j.1) (deleted (drop 1 u) es i d j.2)
+  effect-ruled number (Err r) j = rw (ne_eqb (number r) 0 (λ z. omega arith))
+  effect-ruled number (Ok Insert) j = rw j
+  effect-ruled number (Ok (Modify i)) j = rw (j.0, j.1) (modified (drop 1 u) es i whole d j.2)
+  effect-ruled number (Ok (Delete i)) j = rw (j.0, j.1) (deleted (drop 1 u) es i d j.2)
 
 -- ---- an update keeps keys distinct
 

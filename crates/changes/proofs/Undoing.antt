@@ -3,7 +3,7 @@ use Prim.Native.Nat.{ℕ, suc, ◌+◌, ◌*◌, ◌-◌, ◌≤◌, ◌<◌}
 use native.Mathlib.Omega.{arith}
 use mathlib.Core.Path.{◌≡◌, refl, sym, ap, ◌∙◌}
 use mathlib.Core.List.{List, [], ◌∷◌, ◌++◌}
-use Rattle.std.specs.Prelude.{Some, Ok, Err}
+use Rattle.std.specs.Prelude.{Some, Result, Ok, Err}
 use lib.ListN.{length, take, drop, get_or, set, length-append, length-drop, length-set, take-append-drop}
 use lib.Seq.{take_all, take_at, drop_at, drop-drop, split_at, set-set, set-get_or, get_or-set_same, length-take-le}
 use borrow.Author.Tests.{ne_eqb, eqb-false}
@@ -17,6 +17,7 @@ use Rattle.store.specs.declared.Tables.{Tables}
 use Rattle.store.specs.Store.{entries_in, place, without, inserted_at, changed_at, Holds}
 use Rattle.store.proofs.Writes.{parts_at}
 use Rattle.store.proofs.KeyPlace.{place-stored}
+use Rattle.judging.specs.declared.Change.{Change}
 use Rattle.judging.specs.declared.Change.TheVariants.{Insert, Modify, Delete}
 use Rattle.changes.specs.Effect.{effect}
 use Rattle.changes.specs.Undo.{Added, Changed, Removed, note_of, noted, undone, Undone, Undoing, UndoAfterApply}
@@ -86,17 +87,21 @@ entry_found : (k : List ℕ) (es : List (List ℕ)) (i : ℕ) → place k es ≡
 entry_found k es i p =
     ap (λ (x : List ℕ). x ++ drop 148 (get_or es i [])) (sym (key-found k es i p)) ∙ take-append-drop 148 (get_or es i [])
 
-module _ (u : List ℕ) (es : List (List ℕ)) (note : List ℕ) (few : length es ≤ 256) (long : length u ≡ 221) where
+module _ (R : Type 0) (u : List ℕ) (es : List (List ℕ)) (note : List ℕ) (few : length es ≤ 256) (long : length u ≡ 221) where
   abbrev key : List ℕ
   key = short_key (drop 1 u)
 
-  insert-undone : Undoing (note_of (noted (Ok Insert) es note) u) (effect (Ok Insert) (drop 1 u) es) es
+  -- undoing what is noted of what was judged brings back the entries before it
+  abbrev Back : Result Change R → Type 0
+  Back v = Undoing (note_of (noted v es note) u) (effect v (drop 1 u) es) es
+
+  insert-undone : Back (Ok Insert)
   insert-undone = rw (note-one (1 ∷ drop 1 note) u refl) (record {
     possible = omega (arith, length-append es (short_entry (drop 1 u) ∷ []));
     back = undo-added es _;
   })
 
-  modify-undone : (i : ℕ) → place key es ≡ Some i → Undoing (note_of (noted (Ok (Modify i)) es note) u) (effect (Ok (Modify i)) (drop 1 u) es) es
+  modify-undone : (i : ℕ) → place key es ≡ Some i → Back (Ok (Modify i))
   modify-undone i f =
       let h : i < length es = ((place-stored key es).1 i f).0 in
       let l : length (key_of (get_or es i [])) ≡ 148 = ap length (key-found key es i f) ∙ key-length (drop 1 u) (omega (arith, length-drop 1 u)) in
@@ -105,7 +110,7 @@ module _ (u : List ℕ) (es : List (List ℕ)) (note : List ℕ) (few : length e
         back = undo-changed es i _ h l;
       })
 
-  delete-undone : (i : ℕ) → place key es ≡ Some i → Undoing (note_of (noted (Ok (Delete i)) es note) u) (effect (Ok (Delete i)) (drop 1 u) es) es
+  delete-undone : (i : ℕ) → place key es ≡ Some i → Back (Ok (Delete i))
   delete-undone i f =
       let h : i < length es = ((place-stored key es).1 i f).0 in
       let b : List ℕ = 3 ∷ i ∷ drop 148 (get_or es i []) in
@@ -117,11 +122,11 @@ module _ (u : List ℕ) (es : List (List ℕ)) (note : List ℕ) (few : length e
         back = undo-removed es i h;
       })
 
-pub undo-after-apply : UndoAfterApply
-undo-after-apply (Err r) type u es note few long z j = absurd (omega arith)
-undo-after-apply (Ok Insert) type u es note few long z j = insert-undone u es note few long
-undo-after-apply (Ok (Modify i)) type u es note few long z j = modify-undone u es note few long i j.2
-undo-after-apply (Ok (Delete i)) type u es note few long z j = delete-undone u es note few long i j.2
+pub undo-after-apply : {R : Type 0} (number : R → ℕ) → UndoAfterApply number
+undo-after-apply number (Err r) type u es note few long z j = absurd (omega arith)
+undo-after-apply {R} number (Ok Insert) type u es note few long z j = insert-undone R u es note few long
+undo-after-apply {R} number (Ok (Modify i)) type u es note few long z j = modify-undone R u es note few long i j.2
+undo-after-apply {R} number (Ok (Delete i)) type u es note few long z j = delete-undone R u es note few long i j.2
 
 -- ---- undoing a note, by its type
 

@@ -6,9 +6,7 @@ use Rattle.rules.specs.Bytes.{byte}
 use Rattle.rules.specs.Key.{short_key}
 use Rattle.store.specs.declared.Tables.{Tables}
 use Rattle.store.specs.Store.{entries_in, inserted_at, changed_at, Holds}
-use Rattle.rules.specs.declared.Reason.{Reason}
-use Rattle.rules.specs.Named.{reason_of}
-use Rattle.judging.specs.Verdict.{Justified}
+use Rattle.judging.specs.Verdict.{numbered, Justified}
 use Rattle.judging.specs.declared.Change.{Change}
 use Rattle.judging.specs.declared.Change.TheVariants.{Insert, Modify, Delete}
 use Rattle.changes.specs.Effect.{effect}
@@ -31,7 +29,7 @@ note_of b u =
     Removed (byte 1 b) (short_key (drop 1 u) ++ drop 2 b)
 
 -- The bytes of a note after what was judged was noted over it, where es are stored. Of a refusal nothing is noted; of an INSERT its type.
-abbrev pub noted : Result Change Reason → List (List ℕ) → List ℕ → List ℕ
+abbrev pub noted : {R : Type 0} → Result Change R → List (List ℕ) → List ℕ → List ℕ
 noted (Err r) es note = note
 noted (Ok Insert) es note = 1 ∷ drop 1 note
 noted (Ok (Modify i)) es note = 2 ∷ i ∷ drop key_size (get_or es i [])
@@ -71,9 +69,10 @@ pub record Undoing (note : Note) (after es : List (List ℕ)) : Type 0 where
   pub back : undone note after ≡ es
 
 -- Undo after apply is the identity on entries: of every right judgement of an update of 221 bytes that takes effect, undoing what was
--- noted of it brings back the entries before it, each in its place.
-abbrev pub UndoAfterApply : Type 0
-UndoAfterApply =
-    (v : Result Change Reason) (type : ℕ) (u : List ℕ) (es : List (List ℕ)) (note : List ℕ)
-    → length es ≤ 256 → length u ≡ update_size → reason_of v ≡ 0 → Justified v type (drop 1 u) es
+-- noted of it brings back the entries before it, each in its place. A refusal may be of any type, and has the number that is
+-- given for it.
+abbrev pub UndoAfterApply : {R : Type 0} → (R → ℕ) → Type 0
+UndoAfterApply {R} number =
+    (v : Result Change R) (type : ℕ) (u : List ℕ) (es : List (List ℕ)) (note : List ℕ)
+    → length es ≤ 256 → length u ≡ update_size → numbered number v ≡ 0 → Justified number v type (drop 1 u) es
     → Undoing (note_of (noted v es note) u) (effect v (drop 1 u) es) es

@@ -2,19 +2,17 @@
 // (document 02, request Two).
 #![tactic(auto)]
 
-ghost use Rattle.std.specs.Prelude.{◌≡◌, Ok, ◌∷◌, ◌+◌, ◌*◌, ◌≤◌, ◌<◌, length, drop};
+ghost use Rattle.std.specs.Prelude.{◌≡◌, ℕ, [], ◌∷◌, ◌++◌, ◌+◌, ◌*◌, ◌≤◌, ◌<◌, length, drop};
 ghost use Rattle.rules.specs.Frame.{entry_size, key_size};
 ghost use Rattle.rules.specs.Bytes.{part};
 ghost use Rattle.rules.specs.Entry.{short_entry};
 ghost use Rattle.buffers.specs.Splice.{splice};
-ghost use Rattle.store.specs.Store.{entries_in};
+ghost use Rattle.store.specs.Store.{entries_in, Holds};
 ghost use Rattle.judging.specs.Verdict.{Possible};
-ghost use Rattle.judging.specs.declared.Change.TheVariants.{Insert};
 ghost use Rattle.changes.specs.Effect.{Done, Ruled};
 ghost use Rattle.changes.specs.Undo.{noted, Undone, deleted_entry, PutBack};
 
 use judging::{Change, Update, entry_of};
-use rules::Reason;
 use store::{Entry, Tables};
 
 // The bytes of a note: what was done, at which place, and the action and parameters that were there.
@@ -42,7 +40,7 @@ fn write_action(store: &mut [u8], i: usize, entry: &Entry)
 // Writes an entry after the last one, in shortest form: its key goes from the frame to its place.
 fn insert(store: &mut [u8], tables: Tables, entry: &Entry) -> Tables
     requires { (tables.count < 256) × (56320 ≤ length store.old) }
-    ensures { Done (Ok Insert) entry.now tables store.old store.new result }
+    ensures { Holds store.old store.new result (entries_in tables store.old ++ (short_entry entry.now ∷ [])) }
 {
     let count = tables.count;
     let at = rules::ENTRY * count;
@@ -52,8 +50,8 @@ fn insert(store: &mut [u8], tables: Tables, entry: &Entry) -> Tables
 }
 
 // Does what was judged of an update with an entry; a refusal changes nothing.
-fn perform(
-    judged: Result<Change, Reason>,
+fn perform<R: Copy>(
+    judged: Result<Change, R>,
     store: &mut [u8],
     tables: Tables,
     entry: &Entry,
@@ -72,16 +70,17 @@ fn perform(
     }
 }
 
-// Does what was judged of an update.
-pub fn apply(
-    judged: Result<Change, Reason>,
+// Does what was judged of an update. A refusal may be of any type, and changes nothing. Whatever numbers are given to the refusals, what is
+// done is what the rules do by them.
+pub fn apply<R: Copy>(
+    judged: Result<Change, R>,
     store: &mut [u8],
     tables: Tables,
     update: &Update,
 ) -> Tables
     requires { Possible judged tables.count × (tables.count ≤ 256) × (56320 ≤ length store.old) }
     ensures done { Done judged (drop 1 update.now) tables store.old store.new result }
-    ensures left { Ruled judged update.now tables store.old store.new result }
+    ensures left { (number : R → ℕ) → Ruled number judged update.now tables store.old store.new result }
 {
     perform(judged, store, tables, entry_of(update))
 }
@@ -99,8 +98,8 @@ fn note_entry(kind: u8, store: &[u8], i: usize, note: &mut Note)
     buffers::copy(&store[from..from + 72], &mut note[2..74]);
 }
 
-// Notes what doing what was judged will do, so that it can be undone.
-pub fn note(judged: Result<Change, Reason>, store: &[u8], tables: Tables, note: &mut Note)
+// Notes what doing what was judged will do, so that it can be undone. Of a refusal, which may be of any type, nothing is noted.
+pub fn note<R: Copy>(judged: Result<Change, R>, store: &[u8], tables: Tables, note: &mut Note)
     requires { Possible judged tables.count × (tables.count ≤ 256) × (56320 ≤ length store.now) }
     ensures { note.new ≡ noted judged (entries_in tables store.now) note.old }
 {

@@ -1,6 +1,5 @@
 -- What a frame reads as, in the rules' terms. Rows, updates and keys stay in the frame. Assumes nothing.
-use Rattle.std.specs.Prelude.{◌≡◌, true, List, ◌++◌, map, ℕ, ◌+◌, ◌*◌, ◌<◌, ◌≤◌, length, drop, Option, None, Some, Result, Ok, Err}
-use Rattle.std.specs.Int.{from_bool}
+use Rattle.std.specs.Prelude.{◌≡◌, List, ◌++◌, map, ℕ, ◌+◌, ◌*◌, ◌<◌, ◌≤◌, length, drop, Option, None, Some, Result, Ok, Err}
 use Rattle.rules.specs.Bytes.{part, parts, int}
 use Rattle.rules.specs.Frame as rules
 use Rattle.rules.specs.declared.Reason.{Reason}
@@ -42,11 +41,11 @@ pipeline_read c f = rules.CONFIGURE (head_of c.head) (parts c.count rules.row_si
 -- what a READ asks for; its key is in the frame
 abbrev pub query_read : Query → List ℕ → rules.Query
 query_read q f =
-    record { device = q.device; role = q.role; table = q.table; only = from_bool q.only; key = part 10 4 f ++ part 15 rules.rest_size f }
+    record { device = q.device; role = q.role; table = q.table; only = q.only; key = part 10 4 f ++ part 15 rules.rest_size f }
 
 abbrev pub table_read : TableCommand → List ℕ → rules.TableCommand
 table_read (Write b) f =
-    rules.WRITE (head_of b.head) (atomicity_of b.atomicity) (map rules.update_of (parts b.count rules.update_size (drop 29 f)))
+    rules.WRITE (head_of b.head) b.atomicity (map rules.update_of (parts b.count rules.update_size (drop 29 f)))
 table_read (Read q) f = rules.READ (query_read q f)
 
 abbrev pub command_read : Command → List ℕ → rules.Command
@@ -67,7 +66,7 @@ RowsThere c f = (c.count ≤ 8) × (length f ≡ 28 + rules.row_size * c.count)
 -- the updates of a WRITE, the key of a READ: it is of the table that the READ names, and with only 1 it names one
 abbrev pub OperandsThere : TableCommand → List ℕ → Type 0
 OperandsThere (Write b) f = (b.count ≤ 64) × (length f ≡ 29 + rules.update_size * b.count)
-OperandsThere (Read q) f = (length f ≡ 159) × (int 10 4 f ≡ q.table) × (q.only ≡ true → q.table ≡ 0 → ⊥)
+OperandsThere (Read q) f = (length f ≡ 159) × (int 10 4 f ≡ q.table) × (q.only ≡ 1 → q.table ≡ 0 → ⊥)
 
 abbrev pub CommandThere : Command → List ℕ → Type 0
 CommandThere (Stream x) f = Unit {0}

@@ -42,22 +42,23 @@ impl TryFrom<u8> for Atomicity {
     }
 }
 
-// What a WRITE asks for: it has `count` updates, which are in the frame from byte 29 on.
+// What a WRITE asks for: it has `count` updates, which are in the frame from byte 29 on. The atomicity is a number, as in the rules, which
+// say what is done with each; the reader makes 0 to 2.
 #[derive(Clone, Copy)]
 pub struct Batch {
     pub head: Head,
-    pub atomicity: Atomicity,
+    pub atomicity: u8,
     pub count: usize,
 }
 
-// What a READ asks for: the entries of a table, of every table the role may write where that is 0, or with `only` the entry of a key.
-// Its key is in the frame: the table at 10, the rest from byte 15 on.
+// What a READ asks for: the entries of a table, of every table the role may write where that is 0, or with `only` 1 the entry of a key.
+// Its key is in the frame: the table at 10, the rest from byte 15 on. `only` is a number, as in the rules; the reader makes 0 and 1.
 #[derive(Clone, Copy)]
 pub struct Query {
     pub device: u64,
     pub role: u8,
     pub table: u64,
-    pub only: bool,
+    pub only: u8,
 }
 
 // Commands in three groups, by what they may change, with their operands.
@@ -181,7 +182,7 @@ fn read_write(frame: &[u8]) -> Option<TableCommand>
         return None;
     }
     let head = head_at(frame, 1)?;
-    let atomicity = Atomicity::try_from(frame[27]).ok()?;
+    let atomicity = Atomicity::try_from(frame[27]).ok()?.number();
     Some(TableCommand::Write(Batch {
         head,
         atomicity,
@@ -201,8 +202,8 @@ fn read_read(frame: &[u8]) -> Option<TableCommand>
     }
     let table = integer(frame, 10, 4);
     let only = match frame[14] {
-        0 if buffers::all_zero(&frame[15..]) => false,
-        1 if table != 0 => true,
+        0 if buffers::all_zero(&frame[15..]) => 0,
+        1 if table != 0 => 1,
         _ => return None,
     };
     Some(TableCommand::Read(Query {

@@ -1,15 +1,12 @@
 -- The order of an update's reasons is that of its type, its table, its entry and its place, one after the other. Assumes nothing.
-use Prim.Native.Nat.{ℕ, ◌<◌}
-use native.Mathlib.Omega.{arith}
+use Prim.Native.Nat.{ℕ}
 use mathlib.Core.Path.{◌≡◌, refl, sym, ◌∙◌}
 use mathlib.Core.Bool.{Bool, true, false, not}
 use mathlib.Core.List.{List, ◌∷◌, ◌++◌}
 use lib.ListN.{drop}
 use Rattle.rules.specs.Bytes.{between, byte}
 use Rattle.rules.specs.Reason.{first}
-use Rattle.rules.specs.declared.Reason.{Reason}
-use Rattle.rules.specs.Named.{number_of}
-use Rattle.rules.specs.Frame.{update_of}
+use Rattle.rules.specs.Frame.{Update, update_of}
 use Rattle.rules.specs.Row.{Row, known, row_for, table_order}
 use Rattle.rules.specs.Key.{table_of}
 use Rattle.rules.specs.Update.{Tables, entry_order}
@@ -60,3 +57,16 @@ module _ (rows : List Row) (role : ℕ) (t : Tables) (u : List ℕ) {is_known : 
       place-judged z k p =
           first-passed by_table (by_entry ++ by_place) refl clear refl
           (first-passed by_entry by_place refl (rw (same, whole) at z) refl (rw (same, k) at p)) ∙ sym of-type
+
+-- by the rows in force: whether the table is known there, and its row where it is; one that is not known is refused, whatever row is lent
+pub judged-by-rows : (rows : List Row) (role : ℕ) (t : Tables) (u : Update) {r : ℕ} {is_known : Bool} {row : Row}
+    → r ≡ judge_full_by 2 is_known row role t u → is_known ≡ known (table_of u.entry) rows → (is_known ≡ true → row ≡ row_for (table_of u.entry) rows)
+    → r ≡ judge_in rows role t u
+unfolding judge_full judge_full_by first
+judged-by-rows rows role t u {r} {is_known} {row} j e its = go is_known e its j
+  where
+    go : (k : Bool) → k ≡ known (table_of u.entry) rows → (k ≡ true → row ≡ row_for (table_of u.entry) rows)
+        → r ≡ judge_full_by 2 k row role t u
+        → r ≡ judge_full_by 2 (known (table_of u.entry) rows) (row_for (table_of u.entry) rows) role t u
+    go true e its j = rw (← e, ← its refl) j
+    go false e its j = rw (← e) j

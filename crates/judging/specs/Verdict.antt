@@ -24,16 +24,22 @@ judge_in rows role = judge_full 2 rows role
 abbrev pub judged : List Row → ℕ → Tables → List ℕ → List ℕ → ℕ
 judged rows role tables store u = judge_in rows role (tables_in tables store) (update_of u)
 
--- What an update of a type with entry e, where es are stored, was judged to be is right: a refusal has a reason, any change is for the
--- update's type and names the place of its key.
-abbrev pub Justified : Result Change Reason → ℕ → List ℕ → List (List ℕ) → Type 0
-Justified (Err r) type e es = 0 < number_of r
-Justified (Ok Insert) type e es = is_insert type ≡ true
-Justified (Ok (Modify i)) type e es = (is_insert type ≡ false) × (is_modify type ≡ true) × (place (short_key e) es ≡ Some i)
-Justified (Ok (Delete i)) type e es = (is_insert type ≡ false) × (is_modify type ≡ false) × (place (short_key e) es ≡ Some i)
+-- The number of what an update was judged to be: 0 of a change, and of a refusal, of any type R, the number that is given for it. With
+-- `number_of` it is `reason_of`.
+abbrev pub numbered : {R : Type 0} → (R → ℕ) → Result Change R → ℕ
+numbered number (Ok change) = 0
+numbered number (Err r) = number r
 
--- it can be carried out where so many entries are stored: there is room for one more, or the place is that of an entry
-abbrev pub Possible : Result Change Reason → ℕ → Type 0
+-- What an update of a type with entry e, where es are stored, was judged to be is right: a refusal has a number other than 0, any change is
+-- for the update's type and names the place of its key.
+abbrev pub Justified : {R : Type 0} → (R → ℕ) → Result Change R → ℕ → List ℕ → List (List ℕ) → Type 0
+Justified number (Err r) type e es = 0 < number r
+Justified number (Ok Insert) type e es = is_insert type ≡ true
+Justified number (Ok (Modify i)) type e es = (is_insert type ≡ false) × (is_modify type ≡ true) × (place (short_key e) es ≡ Some i)
+Justified number (Ok (Delete i)) type e es = (is_insert type ≡ false) × (is_modify type ≡ false) × (place (short_key e) es ≡ Some i)
+
+-- it can be carried out where so many entries are stored: there is room for one more, or the place is that of an entry; every refusal can be
+abbrev pub Possible : {R : Type 0} → Result Change R → ℕ → Type 0
 Possible (Err r) n = Unit {0}
 Possible (Ok Insert) n = n < 256
 Possible (Ok (Modify i)) n = i < n
@@ -47,4 +53,4 @@ places_in row type e t = place_order row type e t ++ full_order 2 type t
 abbrev pub PlaceJudged : Result Change Reason → Option ℕ → Row → ℕ → List (List ℕ) → Type 0
 PlaceJudged v found row type es =
     (e : List ℕ) → found ≡ place (short_key e) es
-    → (reason_of v ≡ first (places_in row type e (record { entries = es }))) × Justified v type e es
+    → (reason_of v ≡ first (places_in row type e (record { entries = es }))) × Justified number_of v type e es

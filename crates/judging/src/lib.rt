@@ -4,7 +4,7 @@
 ghost use Rattle.std.specs.Prelude.{◌≡◌, false, List, ℕ, Option, IfSome, ◌<◌, length, drop};
 ghost use Rattle.rules.specs.Bytes.{between, byte};
 ghost use Rattle.rules.specs.Frame.{update_of};
-ghost use Rattle.rules.specs.Named.{reason_of};
+ghost use Rattle.rules.specs.Named.{number_of, reason_of};
 ghost use Rattle.rules.specs.Row as rules;
 ghost use Rattle.rules.specs.Update.{is_insert};
 ghost use Rattle.rows.specs.Meaning.{row_of, rows_of};
@@ -84,7 +84,7 @@ fn judge_change(place: Option<usize>, kind: u8) -> Result<Change, Reason>
 // its key is. The row is looked up once, and the key is searched for as it is in the frame.
 pub fn judge(rows: &Rows, role: u8, entries: &[Entry], update: &Update) -> Result<Change, Reason>
     ensures reason { reason_of result ≡ judge_in (rows_of rows.now) role (record { entries = entries.now }) (update_of update.now) }
-    ensures justified { Justified result (byte 0 update.now) (drop 1 update.now) entries.now }
+    ensures justified { Justified number_of result (byte 0 update.now) (drop 1 update.now) entries.now }
     ensures possible { Possible result (length entries.now) }
 {
     let kind = update[0];

@@ -135,6 +135,20 @@ fn word_at(rest: &Rest, at: usize, from: usize) -> u64
     values::short_word(value_at(rest, at), from)
 }
 
+// Where to look at first: the first digits of the first slot, in which the keys of a table mostly differ. A key that is known to be in
+// shortest form has its words where they are.
+pub fn first_probe(rest: &Rest, short: bool) -> Probe
+    requires { ShortIf short rest.now }
+    ensures { ProbeOf rest.now result.at result.word }
+{
+    let word = if short {
+        buffers::word(rest, 6)
+    } else {
+        word_at(rest, 5, 1)
+    };
+    Probe { at: 6, word }
+}
+
 // Where to look next for a key that is not in shortest form: a word of a value in which this stored key is another, the last digits before
 // the first.
 fn padded_probe(stored: &Rest, rest: &Rest) -> Probe
@@ -156,6 +170,21 @@ fn padded_probe(stored: &Rest, rest: &Rest) -> Probe
     }
 }
 
+// Where to look at the stored keys after this one, which is not the key that is looked for: keys of one table mostly differ in one place.
+pub fn next_probe(stored: &Rest, rest: &Rest, short: bool) -> Probe
+    requires { ShortIf short rest.now }
+    ensures { ProbeOf rest.now result.at result.word }
+{
+    if !short {
+        return padded_probe(stored, rest);
+    }
+    let at = differing_word(stored, rest).map_or(0, |k| 8 * k);
+    Probe {
+        at,
+        word: buffers::word(rest, at),
+    }
+}
+
 // ---- a key that is looked for
 
 // A key as it came: its table, and what follows it. Where that is known to be in shortest form, its bytes are compared as they are, by words.
@@ -169,11 +198,12 @@ pub struct Sought<'a> {
 }
 
 impl<'a> Sought<'a> {
-    // The key of a table and what follows it.
+    // The key of a table and what follows it, with whether that is in shortest form.
     pub fn new(table: &'a [u8], rest: &'a [u8]) -> Sought<'a>
         requires { (length table.now ≡ 4) × (length rest.now ≡ rest_size) }
         ensures table { result.table.now ≡ table.now }
         ensures rest { result.rest.now ≡ rest.now }
+        ensures short { result.short ≡ same rest.now (short_rest rest.now) }
     {
         let rest = array_at(rest, 0);
         Sought {
@@ -198,31 +228,17 @@ impl<'a> Sought<'a> {
         buffers::equal(&stored[..4], &rest[..4]) && same_slots(stored, rest)
     }
 
-    // Where to look at first: the first digits of the first slot, in which the keys of a table mostly differ.
+    // Where to look at first.
     pub fn first_probe(self) -> Probe
         ensures { ProbeOf self.entry.rest.now result.at result.word }
     {
-        let rest = self.rest;
-        let word = if self.short {
-            buffers::word(rest, 6)
-        } else {
-            word_at(rest, 5, 1)
-        };
-        Probe { at: 6, word }
+        first_probe(self.rest, self.short)
     }
 
-    // Where to look at the stored keys after this one, which is not the key that is looked for: keys of one table mostly differ in one place.
+    // Where to look at the stored keys after this one, which is not this key.
     pub fn next_probe(self, stored: &Rest) -> Probe
         ensures { ProbeOf self.entry.rest.now result.at result.word }
     {
-        let rest = self.rest;
-        if !self.short {
-            return padded_probe(stored, rest);
-        }
-        let at = differing_word(stored, rest).map_or(0, |k| 8 * k);
-        Probe {
-            at,
-            word: buffers::word(rest, at),
-        }
+        next_probe(stored, self.rest, self.short)
     }
 }

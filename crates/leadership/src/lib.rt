@@ -2,11 +2,14 @@
 // stream record decides of an ARBITRATE (document 01, "Streams and primaries").
 #![tactic(auto)]
 
-ghost use Rattle.std.specs.Prelude.{◌≡◌, ◌≤◌, length};
+ghost use Rattle.std.specs.Prelude.{◌≡◌, map, ◌*◌, ◌≤◌, length, take, eqb, if◌then◌else◌};
+ghost use Rattle.std.proofs.Math.Option.{none};
+ghost use Rattle.rules.specs.Bytes.{concat};
 ghost use Rattle.rules.specs.Named.{reason_of};
 ghost use Rattle.rules.specs.Streams as rules;
 ghost use Rattle.buffers.specs.Splice.{splice};
-ghost use Rattle.leadership.specs.Meaning.{primary_of, notice_by};
+ghost use Rattle.election.specs.Meaning.{id_of};
+ghost use Rattle.leadership.specs.Meaning.{primary_of, numbered, notice_by};
 ghost use Rattle.leadership.specs.Scanning.{ReasonOf, LeadsOf, KeepsOf};
 
 use election::{Binding, ElectionId, Head};
@@ -43,6 +46,26 @@ impl Leadership {
         out[3] = u8::from(self.mark.is_set());
         self.mark.write(&mut out[4..]);
     }
+}
+
+// Writes the records of the first streams of a list, one after another.
+pub fn write_members(leadership: Leadership, count: usize, members: &[u8], out: &mut [u8])
+    requires { (count ≤ length members.now) × (20 * count ≤ length out.old) }
+    ensures { out.new ≡ splice out.old 0 (concat (map (notice_by leadership) (take count members.now))) }
+{
+    for (i, stream) in members[..count].iter().enumerate() {
+        leadership.write_notification(*stream, &mut out[20 * i..]);
+    }
+}
+
+// The primary, where the mark's first holder is this one (32: none).
+pub fn primary_of(mark: ElectionId, holder: usize) -> Option<u8>
+    ensures { primary_of result ≡ (if eqb (id_of mark) 0 then none else numbered holder) }
+{
+    if mark.is_set() && holder < 32 {
+        return Some(holder as u8);
+    }
+    None
 }
 
 // What the stream record shows an ARBITRATE: what its sender is, and of one role, that of a bound sender or else the one asked for, how many

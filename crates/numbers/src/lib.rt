@@ -1,7 +1,7 @@
 // Numbers of up to 128 bits in two halves: election ids, and the values of match fields and parameters.
 #![tactic(auto)]
 
-ghost use Rattle.std.specs.Prelude.{◌≡◌, ◌+◌, ◌^◌, ◌≤◌, ◌%◌, length, ltb, eqb};
+ghost use Rattle.std.specs.Prelude.{◌≡◌, ◌+◌, ◌^◌, ◌≤◌, ◌%◌, length, leb, ltb, eqb};
 ghost use Rattle.rules.specs.Bytes.{number, int, bytes_of};
 ghost use Rattle.rules.specs.Value.{value};
 ghost use Rattle.rules.specs.Key.{bits_within};
@@ -75,6 +75,30 @@ impl Number {
         let n = u32::from(v[0]).min(16);
         let all = u128::from(Number::from_bytes(&v[1..17]));
         Number::from(all.checked_shr(128 - 8 * n).unwrap_or(0))
+    }
+
+    // Whether both are the same number.
+    #[tactic(auto, using(crate::proofs::Order::equal_whole))]
+    pub fn equals(self, other: Number) -> bool
+        ensures { result ≡ eqb (whole_of self) (whole_of other) }
+    {
+        self == other
+    }
+
+    // Whether the number is the smaller of both.
+    #[tactic(auto, using(crate::proofs::Order::below_whole))]
+    pub fn below(self, other: Number) -> bool
+        ensures { result ≡ ltb (whole_of self) (whole_of other) }
+    {
+        self < other
+    }
+
+    // Whether the number is the smaller of both, or the same.
+    #[tactic(auto, using(crate::proofs::Order::upto_whole))]
+    pub fn at_most(self, other: Number) -> bool
+        ensures { result ≡ leb (whole_of self) (whole_of other) }
+    {
+        self <= other
     }
 
     // Whether the number is 0.

@@ -31,20 +31,20 @@ fn refill(rt: &HostRuntime, input: &mut [u8], at: usize, filled: usize) -> usize
     rest + read(rt, &mut input[rest..])
 }
 
-// Makes the calls of the whole input: those at hand, then more of it, until it ends. Lines are written out before a read, so that
-// who drives the program gets each answer.
+// Makes the calls of the whole input, the first with ordinal 1: those at hand, then more of it, until it ends. Lines are written out
+// before a read, so that who drives the program gets each answer.
 fn run(
     rt: &HostRuntime,
-    start: Player,
+    agent: Agent,
     input: &mut [u8],
     store: &mut [u8],
     answer: &mut [u8],
     out: &mut [u8],
 ) -> Player
     requires { (65_537 ≤ length input.old) × (longest_line ≤ length out.old) }
-    ensures { Session start.agent start.ordinal store.old answer.old result.agent result.ordinal store.new answer.new }
+    ensures { Session agent 1 store.old answer.old result.agent result.ordinal store.new answer.new }
 {
-    let mut player = start;
+    let mut player = Player { agent, ordinal: 1 };
     let mut at = 0;
     let mut filled = 0;
     // each turn makes a call or reads a byte: the limit, which says that the loop ends, is past any input
@@ -75,9 +75,12 @@ fn main(rt: HostRuntime) {
     let mut store = [0u8; 56320];
     let mut answer = [0u8; 57344];
     let mut out = [0u8; 262144];
-    let start = Player {
-        agent: Agent::new(1),
-        ordinal: 1,
-    };
-    run(&rt, start, &mut input, &mut store, &mut answer, &mut out);
+    run(
+        &rt,
+        Agent::new(1),
+        &mut input,
+        &mut store,
+        &mut answer,
+        &mut out,
+    );
 }

@@ -1,6 +1,5 @@
 -- The order of a READ's reasons is that of its table and then that of its key, which stands behind `only`. Assumes nothing.
 use Rattle.std.specs.Prelude.{if◌then◌else◌}
-use Rattle.std.specs.Int.{from_bool}
 use Prim.Native.Nat.{ℕ, ◌+◌}
 use native.Mathlib.Omega.{arith}
 use mathlib.Core.Path.{◌≡◌, refl, sym, ap, ◌∙◌}
@@ -35,11 +34,6 @@ key-behind b l =
     ∙ part-part 5 144 0 144 b (omega arith)
 
 -- ---- the order
-
--- the byte is 1 exactly where one entry only is asked for
-pub only_set : (b : Bool) → from_bool b ≡ 1 → b ≡ true
-only_set true e = refl
-only_set false e = absurd (omega arith)
 
 -- of a table by its row: the table's reasons and then the key's
 module _ (is_known : Bool) (row : Row) (role only : ℕ) (k : List ℕ) {r : ℕ} (barred : r ≡ first (table_order is_known row role)) where

@@ -1,8 +1,7 @@
 // What a READ shows, and why its query is refused (document 01, "Configuration and entries").
 #![tactic(auto)]
 
-ghost use Rattle.std.specs.Prelude.{◌≡◌, true, ◌++◌, ◌≤◌, length};
-ghost use Rattle.std.specs.Int.{from_bool};
+ghost use Rattle.std.specs.Prelude.{◌≡◌, ◌++◌, ◌≤◌, length};
 ghost use Rattle.rules.specs.Frame.{entry_size, rest_size};
 ghost use Rattle.rules.specs.Named.{reason_of};
 ghost use Rattle.rules.specs.Reason.{first};
@@ -19,21 +18,15 @@ use store::Entry;
 
 // Why a READ is refused by the rows: 15 and 16 of a named table and, with only 1, 17 to 19 of its key. The query is in 149
 // bytes from its table on. With only 1 it names a table; table 0 names none.
-pub fn query_reason(
-    rows: &Rows,
-    role: u8,
-    table: u64,
-    only: bool,
-    query: &[u8],
-) -> Result<(), Reason>
-    requires { (length query.now ≡ 149) × (only ≡ true → table ≡ 0 → ⊥) }
-    ensures { reason_of result ≡ first (query_order (rows_of rows.now) role table (from_bool only) (key_in query.now)) }
+pub fn query_reason(rows: &Rows, role: u8, table: u64, only: u8, query: &[u8]) -> Result<(), Reason>
+    requires { (length query.now ≡ 149) × (only ≡ 1 → table ≡ 0 → ⊥) }
+    ensures { reason_of result ≡ first (query_order (rows_of rows.now) role table only (key_in query.now)) }
 {
     if table == 0 {
         return Ok(());
     }
     let row = checks::table_reason(rows.find(table), role)?;
-    if only {
+    if only == 1 {
         checks::key_reason(row, query[5..].first_chunk().unwrap())?;
     }
     Ok(())
@@ -83,15 +76,15 @@ pub fn read(
     rows: &Rows,
     role: u8,
     table: u64,
-    only: bool,
+    only: u8,
     query: &[u8],
     entries: &[Entry],
     answer: &mut [u8],
 ) -> usize
     requires { (length query.now ≡ 149) × (56320 ≤ length answer.old) }
-    ensures { ReadsQuery (rows_of rows.now) role table (from_bool only) (key_in query.now) entries.now answer.old answer.new result }
+    ensures { ReadsQuery (rows_of rows.now) role table only (key_in query.now) entries.now answer.old answer.new result }
 {
-    if only {
+    if only == 1 {
         return read_one(entries, &query[0..4], &query[5..149], answer);
     }
     read_all(rows, role, table, entries, answer)

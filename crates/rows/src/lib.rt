@@ -1,8 +1,9 @@
 // Configuration rows: tables with their owners, sizes, fields and actions, as CONFIGURE sets them (document 01, "Frames").
 #![tactic(auto)]
 
-ghost use Rattle.std.specs.Prelude.{◌≡◌, ◌≤◌, [], map, eqb, find, is_some, length, take};
+ghost use Rattle.std.specs.Prelude.{◌≡◌, ◌+◌, ◌≤◌, [], map, eqb, find, is_some, length, take};
 ghost use Rattle.std.specs.Option.{option_copied};
+ghost use Rattle.rules.specs.Bytes.{part};
 ghost use Rattle.rules.specs.Call.{unconfigured};
 ghost use Rattle.rules.specs.Row as rules;
 ghost use Rattle.rows.specs.Meaning.{field_of, action_of, row_of, rows_of, row_found, action_read, row_read};
@@ -66,6 +67,14 @@ impl Field {
             kind: b[0],
             width: b[1],
         }
+    }
+
+    // Of the two bytes at a place.
+    pub fn at(b: &[u8], at: usize) -> Field
+        requires { at + 2 ≤ length b.now }
+        ensures { field_of result ≡ rules.field_of (part at 2 b.now) }
+    {
+        Field::read(b[at..at + 2].first_chunk().unwrap())
     }
 
     // 14: kind not 1 to 5, width not 1 to 128. An arm for each kind, as document 01 writes it.

@@ -162,7 +162,9 @@ pub fn gather(entries: &[Entry], table: u64, answer: &mut [u8]) -> usize
 
 // ---- changes: what is known of the store goes in and comes out by value, as the record of the host holds it
 
-// Removes entry i and closes the gap: the later entries move down.
+// Removes entry i and closes the gap: the later entries move down. Not inlined: inside a batch's loop the compiler takes the move for rare and
+// does not align its loop, which then takes twice the time wherever the linker puts it across what the processor fetches at once (docs/SPEED.md).
+#[inline(never)]
 pub fn remove(store: &mut [u8], tables: Tables, i: usize) -> Tables
     requires { (i < tables.count) × (tables.count ≤ 256) × (56320 ≤ length store.old) }
     ensures { Holds store.old store.new result (without i (entries_in tables store.old)) }

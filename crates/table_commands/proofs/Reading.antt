@@ -20,7 +20,6 @@ use Rattle.rules.specs.Call.{query_order, unconfigured, read_reason, refusal, ne
 use Rattle.rules.specs.Sound.{Sound}
 use Rattle.rules.proofs.Formed.{Formed}
 use Rattle.rules.proofs.Lists.{part-part}
-use Rattle.reads.proofs.QueryOrder.{only_set}
 use Rattle.rules.proofs.OneKey.{one_key}
 use Rattle.rules.proofs.Sizes.{shown-sized}
 use Rattle.buffers.specs.Splice.{splice}
@@ -57,7 +56,7 @@ query-formed : (q : Query) (f : List ℕ) → OperandsThere (Read q) f → Forme
 query-formed q f h =
     let n : length f ≡ 159 = h.0 in
     let l : length (part 10 4 f) ≡ 4 = simp (length-take, length-drop) (omega arith) in
-    (simp (length-append, length-take, length-drop) (omega arith), ap number (take_at (part 10 4 f) (part 15 144 f) 4 l) ∙ h.1, λ o. h.2 (only_set q.only o))
+    (simp (length-append, length-take, length-drop) (omega arith), ap number (take_at (part 10 4 f) (part 15 144 f) 4 l) ∙ h.1, h.2)
 
 module _ (a : Agent) (q : rules.Query) where
   -- ---- the entries

@@ -8,12 +8,12 @@ ghost use Rattle.rules.specs.Named.{reason_of};
 ghost use Rattle.rules.specs.Frame.{update_size, on_tables};
 ghost use Rattle.rules.specs.Call.{write_reason, read_reason};
 ghost use Rattle.election.specs.Meaning.{head_of};
-ghost use Rattle.frames.specs.Meaning.{atomicity_of, query_read, table_read, OperandsThere};
+ghost use Rattle.frames.specs.Meaning.{query_read, table_read, OperandsThere};
 ghost use Rattle.memory.specs.Layout.{control_of, memory, outcome};
 ghost use Rattle.memory.specs.Handles.{Handles, with_tables};
 
 use election::Head;
-use frames::{Atomicity, Batch, Query, TableCommand};
+use frames::{Batch, Query, TableCommand};
 use memory::Agent;
 use rules::Reason;
 use store::Tables;
@@ -29,8 +29,8 @@ pub struct TableOutcome {
 
 // Why a WRITE is refused: 5, 6, 10, 12 and 13.
 #[tactic(auto, unfolding(rules::specs::Reason::first, rules::specs::Call::write_reason))]
-fn write_reason(agent: &Agent, head: Head, atomicity: Atomicity) -> Result<(), Reason>
-    ensures { reason_of result ≡ write_reason (control_of agent.now) (head_of head) (atomicity_of atomicity) }
+fn write_reason(agent: &Agent, head: Head, atomicity: u8) -> Result<(), Reason>
+    ensures { reason_of result ≡ write_reason (control_of agent.now) (head_of head) atomicity }
 {
     election::address_reason(head.device == agent.device.id, head.role)?;
     if !agent.streams.by_primary(head.role, head.id) {
@@ -39,7 +39,7 @@ fn write_reason(agent: &Agent, head: Head, atomicity: Atomicity) -> Result<(), R
     if agent.configuration.rows.is_empty() {
         return Err(Reason::NotConfigured);
     }
-    if atomicity == Atomicity::DataplaneAtomic {
+    if 1 < atomicity {
         return Err(Reason::Atomicity);
     }
     Ok(())
@@ -88,7 +88,7 @@ fn write(
     let done = batches::batch(
         &agent.configuration.rows,
         asked.head.role,
-        asked.atomicity.number(),
+        asked.atomicity,
         store,
         tables,
         updates_in(asked, frame),

@@ -1,9 +1,7 @@
 -- What a line is made of, piece by piece: digits, bytes in hex, records, and the lengths of all of them. Assumes nothing.
 use Rattle.std.specs.Prelude.{if◌then◌else◌}
-use Rattle.std.specs.Fmt as library
-use Rattle.std.proofs.Common.{◌≡◌, ℕ, zero, suc, ◌+◌, ◌*◌, ◌-◌, ◌/◌, ◌%◌, ◌^◌, ◌≤◌, ◌<◌, Bool, true, false, ltb, List, [], ◌∷◌, ◌++◌}
+use Rattle.std.proofs.Common.{◌≡◌, ℕ, zero, suc, ◌+◌, ◌*◌, ◌-◌, ◌/◌, ◌%◌, ◌≤◌, ◌<◌, Bool, true, false, ltb, List, [], ◌∷◌, ◌++◌}
 use Rattle.std.proofs.Common.{length, take, drop, get_or, refl, sym, ap, ◌∙◌, arith, append_assoc, length-append}
-use Rattle.std.proofs.lemmas.Fmt.{AppendsLastDigit, decimal_from_appends, length-decimal-le}
 use Rattle.std.proofs.lemmas.List.{take_more}
 use native.Mathlib.Nat.{mul-suc}
 use mathlib.Core.List.{append-nil}
@@ -12,20 +10,24 @@ use lib.Seq.{drop-drop, take_all}
 use borrow.Author.Tests.{lt-ltb, le-ltb}
 use Rattle.rules.specs.Bytes.{part, parts}
 use Rattle.rules.proofs.Formed.{EveryLength}
-use Rattle.transcript.specs.Line.{digit, digits, decimal, hex, blank, field, records_hex}
+use Rattle.transcript.specs.Line.{digit, digits, hex, blank, field, records_hex}
 
 -- ---- digits
 
--- a number of 64 bits is written as the library writes it
-digits-appended : AppendsLastDigit digits
+pub digits-none : (n x : ℕ) → n ≡ 0 → digits n x ≡ []
 unfolding digits
-digits-appended = record {
-  one = λ n x l. rw (lt-ltb x 10 l);
-  more = λ n x l. let m : x % 10 < 10 = omega arith in rw (le-ltb x 10 l, lt-ltb (x % 10) 10 m);
-}
+digits-none zero x e = refl
+digits-none (suc n) x e = absurd (omega arith)
 
-pub decimal_is : (x : ℕ) → x < 2 ^ 64 → decimal x ≡ library.decimal x
-decimal_is x h = decimal_from_appends digits digits-appended 20 x h (length-decimal-le 20 x (omega arith) (omega arith) h)
+pub digits-one : (n x : ℕ) → (n ≡ 0 → ⊥) → x < 10 → digits n x ≡ digit x ∷ []
+unfolding digits
+digits-one zero x h l = absurd (h refl)
+digits-one (suc n) x h l = rw (lt-ltb x 10 l)
+
+pub digits_more : (n x : ℕ) → (n ≡ 0 → ⊥) → 10 ≤ x → digits n x ≡ digits (n - 1) (x / 10) ++ (digit (x % 10) ∷ [])
+unfolding digits
+digits_more zero x h l = absurd (h refl)
+digits_more (suc n) x h l = let e : suc n - 1 ≡ n = omega arith in rw (e, le-ltb x 10 l)
 
 pub digits-few : (n x : ℕ) → length (digits n x) ≤ n
 unfolding digits

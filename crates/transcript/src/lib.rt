@@ -6,10 +6,8 @@ ghost use Rattle.rules.specs.Bytes.{parts};
 ghost use Rattle.rules.specs.Frame.{entry_size};
 ghost use Rattle.buffers.specs.Splice.{splice};
 ghost use Rattle.transcript.specs.Input.{first_frame};
-ghost use Rattle.transcript.specs.Line.{digit, decimal, hex, field, records_hex, record_size, line_in};
+ghost use Rattle.transcript.specs.Line.{digit, digits, decimal, hex, field, records_hex, record_size, line_in};
 ghost use Rattle.transcript.specs.Written.{HasRoom, Adds};
-
-use itoa::Buffer;
 
 // The length of the longest line: that of 256 entries, with 84 characters at most beside the records.
 pub const LONGEST_LINE: usize = 112980;
@@ -60,7 +58,23 @@ impl Line<'_> {
         requires { HasRoom self.old (decimal x) }
         ensures { Adds self.old (decimal x) self.new }
     {
-        self.push(Buffer::new().format(x).as_bytes());
+        self.digits(x, 20);
+    }
+
+    // The last decimal digits of a number, at most `most`.
+    fn digits(&mut self, x: u64, most: usize)
+        requires { HasRoom self.old (digits most x) }
+        ensures { Adds self.old (digits most x) self.new }
+    {
+        if most == 0 {
+            return;
+        }
+        if x < 10 {
+            self.push(&[glyph(x as u8)]);
+            return;
+        }
+        self.digits(x / 10, most - 1);
+        self.push(&[glyph((x % 10) as u8)]);
     }
 
     // Bytes in lowercase hex.

@@ -11,4 +11,4 @@ returns c =
     let r = c.respond in
     let a = c.args in
     λ store. event-handled a.agent.now store a.answer.now r.new.answer (event_read a.event) c.carry_out-left.result c.carry_out-left.ensures
-    r.ensures
+    (rw c.number.ensures at r.ensures)

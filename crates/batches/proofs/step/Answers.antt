@@ -72,11 +72,11 @@ returns c =
       pair = paired a.answer.now c.write_pair.new.out 0 a.i c.requires.2
           (ap reason_of c.and.ensures ∙ numbered v tt ∙ zero) c.write_pair.ensures;
       few = did.done.few;
-      left = λ d. rw zero at (did.left d justified);
+      left = λ d. rw zero at (did.left number_of d justified);
       noted = λ one z. record {
         note = noted v es (get_or a.log.now a.i []);
         bytes = c.note_update.ensures one;
-        undoing = rw did.done.holds (undo-after-apply v (byte 0 u) u es (get_or a.log.now a.i []) few c.told-update zero justified);
+        undoing = rw did.done.holds (undo-after-apply number_of v (byte 0 u) u es (get_or a.log.now a.i []) few c.told-update zero justified);
       };
       refused = λ n. absurd (n refl);
     }

@@ -1,7 +1,7 @@
 -- Right because the pairs written and those left are all of them. Assumes nothing.
 use Prim.Native.Nat.{ℕ, ◌+◌, ◌*◌, ◌-◌, ◌≤◌, ◌<◌}
 use native.Mathlib.Omega.{arith}
-use mathlib.Core.Path.{◌≡◌, refl, ap, ◌∙◌}
+use mathlib.Core.Path.{◌≡◌, refl, ap}
 use mathlib.Core.List.{List, [], map}
 use lib.ListN.{length, drop, drop_of_length-le}
 use Rattle.rules.specs.Call.{pair_of}

@@ -15,6 +15,7 @@ use borrow.Author.Tests.{ne_eqb}
 use Rattle.rules.specs.Bytes.{byte, between}
 use Rattle.rules.specs.Key.{short_key, table_of}
 use Rattle.rules.specs.declared.Reason.{Reason}
+use Rattle.rules.specs.Named.{number_of}
 use Rattle.rules.specs.Row.{known, row_for, no_row}
 use Rattle.rules.proofs.Shortest.{key-of-key}
 use Rattle.rows.specs.declared.Row as held
@@ -37,7 +38,8 @@ found u es {entry} e w =
     e ∙ ap (λ (k : List ℕ). place k es) (ap short_key (sym (take-add 4 144 entry)) ∙ key-of-key entry ∙ ap short_key w)
 
 -- what is right of the type as it was read is right of the update's
-of-type : {type kind : ℕ} (e : List ℕ) (es : List (List ℕ)) (v : Result Change Reason) → type ≡ kind → Justified v type e es → Justified v kind e es
+of-type : {type kind : ℕ} (e : List ℕ) (es : List (List ℕ)) (v : Result Change Reason) → type ≡ kind → Justified number_of v type e es
+    → Justified number_of v kind e es
 of-type e es v k j = rw k at j
 
 -- the row that is lent is the one that was found

@@ -6,7 +6,7 @@ use Rattle.play.proofs.run.Given as goal
 
 abbrev pub invariant-loop : goal.invariant-loop
 invariant-loop l = record {
-  session : Session l.fn.start.agent l.fn.start.ordinal l.initial.store l.initial.answer l.player.agent l.player.ordinal l.store l.answer;
+  session : Session l.fn.agent 1 l.initial.store l.initial.answer l.player.agent l.player.ordinal l.store l.answer;
   before : l.at ≤ l.filled;
   as_long : length l.input ≡ length l.initial.input;
   within : l.filled ≤ length l.input;

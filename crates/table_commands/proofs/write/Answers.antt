@@ -10,7 +10,7 @@ use Rattle.rules.proofs.Formed.{parts-count, parts-lengths}
 use Rattle.rules.proofs.Refused.{table-refused}
 use Rattle.election.specs.Meaning.{head_of}
 use Rattle.frames.specs.declared.TableCommand.TheVariants.{Write}
-use Rattle.frames.specs.Meaning.{atomicity_of, table_read}
+use Rattle.frames.specs.Meaning.{table_read}
 use Rattle.memory.specs.Handles.{at_tables}
 use Rattle.memory.proofs.Handled.{refused}
 use Rattle.answers.proofs.AnswerBytes.{head-alone}
@@ -41,8 +41,8 @@ returns c =
     let b = c.batch-done in
     let g = c.head_reason-result in
     let h = c.write_head-2 in
-    batch-written a.agent.now (head_of a.asked.head) (atomicity_of a.asked.atomicity) (parts n 221 f) a.store.now b.new.store a.answer.now b.new.answer
+    batch-written a.agent.now (head_of a.asked.head) a.asked.atomicity (parts n 221 f) a.store.now b.new.store a.answer.now b.new.answer
     h.new.answer n (reason_of g.result) b.result (omega (arith, c.requires.3))
     (parts-lengths n 221 f (omega (arith, length-drop 29 a.frame.now, c.requires.0.1))) (sym (parts-count n 221 f)) (sym c.in_default.ensures)
-    (rw (c.updates_in.ensures, c.number-2.ensures) at b.ensures.left) (rw (c.updates_in.ensures, c.number-2.ensures) at b.ensures.pairs) b.auto.answer g.ensures
-    (rw c.number-3.ensures at h.ensures)
+    (rw c.updates_in.ensures at b.ensures.left) (rw c.updates_in.ensures at b.ensures.pairs) b.auto.answer g.ensures
+    (rw c.number-2.ensures at h.ensures)
