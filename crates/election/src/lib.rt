@@ -239,7 +239,7 @@ pub fn is_mark(id: ElectionId, role: u8, read: ElectionId) -> bool
     id.is_mark(mark_of(role, read))
 }
 
-// What is at that place after an ARBITRATE: the old mark raised by the id where it was accepted, and otherwise the old one.
+// What is at that place after an ARBITRATE: where it was accepted the mark rises to a higher id, and it never falls.
 pub fn mark_after(reason: u8, role: u8, old: ElectionId, id: ElectionId) -> ElectionId
     ensures { id_of result ≡ (if eqb reason 0 && ltb role 8 && ltb (id_of old) (id_of id) then id_of id else id_of old) }
 {

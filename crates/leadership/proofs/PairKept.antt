@@ -109,7 +109,7 @@ module _ (e : Streams) (s : ℕ) (h : Head) (size : length e.marks ≡ 8) where
       marks-differ e after role (ne_eqb _ _ d)
 
   -- without a mark there is no primary
-  pair-unset : mark ≡ 0 → not (ltb role 8 && not (eqb h.id 0)) ≡ same_pair e after role
+  pub pair-unset : mark ≡ 0 → not (ltb role 8 && not (eqb h.id 0)) ≡ same_pair e after role
   pair-unset z = go (ltb role 8) (ltb-true _ _) (ltb-false _ _) (eqb h.id 0) (eqb-true _ _) (eqb-false _ _)
     where
       stays : mark_of after role ≡ 0 → true ≡ same_pair e after role
@@ -122,7 +122,7 @@ module _ (e : Streams) (s : ℕ) (h : Head) (size : length e.marks ≡ 8) where
       go true l g false p q = let i = q refl in rises (l refl) (omega (arith, i))
 
   module _ (t : eqb mark 0 ≡ false) where
-    pair-raised : mark < h.id → false ≡ same_pair e after role
+    pub pair-raised : mark < h.id → false ≡ same_pair e after role
     pair-raised m = go (ltb role 8) (ltb-true _ _) (ltb-false _ _)
       where
         go : (a : Bool) → (a ≡ true → role < 8) → (a ≡ false → 8 ≤ role) → false ≡ same_pair e after role
@@ -138,7 +138,7 @@ module _ (e : Streams) (s : ℕ) (h : Head) (size : length e.marks ≡ 8) where
           marks-agree e after role (set-primary e role refl t) (set-primary after role (mark-kept l) t) (eq-eqb _ _ (sym (mark-kept l)))
 
       -- the stream becomes the mark's only holder
-      pair-holder : h.id ≡ mark → s < length e.streams → held_elsewhere e s role h.id ≡ false → is s holder ≡ same_pair e after role
+      pub pair-holder : h.id ≡ mark → s < length e.streams → held_elsewhere e s role h.id ≡ false → is s holder ≡ same_pair e after role
       unfolding held_elsewhere
       pair-holder q n f =
           let i : eqb h.id 0 ≡ false = rw q t in
@@ -148,7 +148,7 @@ module _ (e : Streams) (s : ℕ) (h : Head) (size : length e.marks ≡ 8) where
           sym (passes-alone (holds role mark) (bound role h.id) x e.streams 0 s s (omega arith) n g') ∙ primaries
 
       -- the stream does not hold the mark
-      pair-other : eqb h.id mark ≡ false → not (is s holder) ≡ same_pair e after role
+      pub pair-other : eqb h.id mark ≡ false → not (is s holder) ≡ same_pair e after role
       pair-other q =
           let x : holds role mark (bound role h.id) ≡ false = rw (eq-eqb role role refl, q) in
           sym (passes-no-more (holds role mark) (bound role h.id) x e.streams 0 s s (omega arith)) ∙ primaries

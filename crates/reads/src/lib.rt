@@ -84,8 +84,8 @@ pub fn read(
     requires { (length query.now ≡ 149) × (56320 ≤ length answer.old) }
     ensures { ReadsQuery (rows_of rows.now) role table only (key_in query.now) entries.now answer.old answer.new result }
 {
-    if only == 1 {
-        return read_one(entries, &query[0..4], &query[5..149], answer);
+    match only {
+        1 => read_one(entries, &query[0..4], &query[5..149], answer),
+        _ => read_all(rows, role, table, entries, answer),
     }
-    read_all(rows, role, table, entries, answer)
 }

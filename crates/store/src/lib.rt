@@ -162,8 +162,8 @@ pub fn gather(entries: &[Entry], table: u64, answer: &mut [u8]) -> usize
 
 // ---- changes: what is known of the store goes in and comes out by value, as the record of the host holds it
 
-// Removes entry i and closes the gap: the later entries move down. Not inlined: inside a batch's loop the compiler takes the move for rare and
-// does not align its loop, which then takes twice the time wherever the linker puts it across what the processor fetches at once (docs/SPEED.md).
+// Removes entry i and closes the gap: the later entries move down. Not inlined: inside the loop of a batch the compiler takes the move to be rare and
+// does not align its loop, which then takes twice the time where the linker puts it across a border of 32 bytes (docs/SPEED.md).
 #[inline(never)]
 pub fn remove(store: &mut [u8], tables: Tables, i: usize) -> Tables
     requires { (i < tables.count) × (tables.count ≤ 256) × (56320 ≤ length store.old) }

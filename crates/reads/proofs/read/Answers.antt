@@ -1,12 +1,16 @@
 -- Right because with only 1 the entry of the key is written, and otherwise the entries of the rows asked for. Assumes nothing.
+use native.Mathlib.Omega.{arith}
+use mathlib.Core.Path.{◌≡◌}
 use borrow.Author.Tests.{ne_eqb}
 use Rattle.reads.specs.Read.{read_in}
 use Rattle.reads.proofs.read.Goals as goal
 
-pub returns-then-only-eq1 : goal.returns-then-only-eq1
+pub returns-in-1 : goal.returns-in-1
 unfolding read_in
-returns-then-only-eq1 c = rw c.if-only-eq1.true c.read_one.ensures
+returns-in-1 c = rw c.in-1.is c.read_one.ensures
 
-pub returns : goal.returns
+pub returns-in_default : goal.returns-in_default
 unfolding read_in
-returns c = rw (ne_eqb c.args.only 1 c.if-only-eq1.false) (λ d. c.read_all.ensures)
+returns-in_default c =
+    let e : (c.args.only ≡ 1 → ⊥) = omega arith in
+    rw (ne_eqb c.args.only 1 e) (λ d. c.read_all.ensures)
