@@ -43,7 +43,7 @@ impl TryFrom<u8> for Atomicity {
 }
 
 // What a WRITE asks for: it has `count` updates, which are in the frame from byte 29 on. The atomicity is a number, as in the rules, which
-// say what is done with each; the reader makes 0 to 2.
+// say what is done with each; the reader makes 0 to 2 (proofs/Readings: atomicity-read).
 #[derive(Clone, Copy)]
 pub struct Batch {
     pub head: Head,
@@ -52,7 +52,7 @@ pub struct Batch {
 }
 
 // What a READ asks for: the entries of a table, of every table the role may write where that is 0, or with `only` 1 the entry of a key.
-// Its key is in the frame: the table at 10, the rest from byte 15 on. `only` is a number, as in the rules; the reader makes 0 and 1.
+// Its key is in the frame: the table at 10, the rest from byte 15 on. `only` is a number, as in the rules; the reader makes 0 and 1 (only-read).
 #[derive(Clone, Copy)]
 pub struct Query {
     pub device: u64,

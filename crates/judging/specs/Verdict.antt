@@ -25,7 +25,7 @@ abbrev pub judged : List Row → ℕ → Tables → List ℕ → List ℕ → �
 judged rows role tables store u = judge_in rows role (tables_in tables store) (update_of u)
 
 -- The number of what an update was judged to be: 0 of a change, and of a refusal, of any type R, the number that is given for it. With
--- `number_of` it is `reason_of`.
+-- `number_of` it is `reason_of` (proofs/Numbered).
 abbrev pub numbered : {R : Type 0} → (R → ℕ) → Result Change R → ℕ
 numbered number (Ok change) = 0
 numbered number (Err r) = number r

@@ -1,7 +1,9 @@
 -- What a line is made of, piece by piece: digits, bytes in hex, records, and the lengths of all of them. Assumes nothing.
 use Rattle.std.specs.Prelude.{if◌then◌else◌}
-use Rattle.std.proofs.Common.{◌≡◌, ℕ, zero, suc, ◌+◌, ◌*◌, ◌-◌, ◌/◌, ◌%◌, ◌≤◌, ◌<◌, Bool, true, false, ltb, List, [], ◌∷◌, ◌++◌}
+use Rattle.std.specs.Fmt as library
+use Rattle.std.proofs.Common.{◌≡◌, ℕ, zero, suc, ◌+◌, ◌*◌, ◌-◌, ◌/◌, ◌%◌, ◌^◌, ◌≤◌, ◌<◌, Bool, true, false, ltb, List, [], ◌∷◌, ◌++◌}
 use Rattle.std.proofs.Common.{length, take, drop, get_or, refl, sym, ap, ◌∙◌, arith, append_assoc, length-append}
+use Rattle.std.proofs.lemmas.Fmt.{AppendsLastDigit, decimal_from_appends, length-decimal-le}
 use Rattle.std.proofs.lemmas.List.{take_more}
 use native.Mathlib.Nat.{mul-suc}
 use mathlib.Core.List.{append-nil}
@@ -10,7 +12,7 @@ use lib.Seq.{drop-drop, take_all}
 use borrow.Author.Tests.{lt-ltb, le-ltb}
 use Rattle.rules.specs.Bytes.{part, parts}
 use Rattle.rules.proofs.Formed.{EveryLength}
-use Rattle.transcript.specs.Line.{digit, digits, hex, blank, field, records_hex}
+use Rattle.transcript.specs.Line.{digit, digits, decimal, hex, blank, field, records_hex}
 
 -- ---- digits
 
@@ -28,6 +30,17 @@ pub digits_more : (n x : ℕ) → (n ≡ 0 → ⊥) → 10 ≤ x → digits n x 
 unfolding digits
 digits_more zero x h l = absurd (h refl)
 digits_more (suc n) x h l = let e : suc n - 1 ≡ n = omega arith in rw (e, le-ltb x 10 l)
+
+-- a number of 64 bits is written as the library writes it
+digits-appended : AppendsLastDigit digits
+unfolding digits
+digits-appended = record {
+  one = λ n x l. rw (lt-ltb x 10 l);
+  more = λ n x l. let m : x % 10 < 10 = omega arith in rw (le-ltb x 10 l, lt-ltb (x % 10) 10 m);
+}
+
+pub decimal_is : (x : ℕ) → x < 2 ^ 64 → decimal x ≡ library.decimal x
+decimal_is x h = decimal_from_appends digits digits-appended 20 x h (length-decimal-le 20 x (omega arith) (omega arith) h)
 
 pub digits-few : (n x : ℕ) → length (digits n x) ≤ n
 unfolding digits
